@@ -1,0 +1,2 @@
+-- The laws of binary64, for this crate's functions and for every crate above.
+pub mod Signs

@@ -1,0 +1,52 @@
+-- The small borrowed functions of 01 section 2, and the constants that several crates share.
+-- A constant is its bit pattern, as the compiler has it.
+use Prim.Native.Nat.{ℕ, _+_, _*_, _^_}
+use mathlib.Core.Bool.{Bool, true, false, cond}
+use lib.Ieee.{Float, nan, inf, fin, binary64, lt, ofBits}
+use Rattle.ieee.specs.Operators.{_⊗_}
+
+-- +0
+abbrev pub zero-f : Float
+zero-f = ofBits binary64 0
+
+-- 1
+abbrev pub one : Float
+one = ofBits binary64 0x3FF0_0000_0000_0000
+
+-- 2
+abbrev pub two : Float
+two = ofBits binary64 0x4000_0000_0000_0000
+
+-- 0.5
+abbrev pub half : Float
+half = ofBits binary64 0x3FE0_0000_0000_0000
+
+-- -1
+abbrev pub minus-one : Float
+minus-one = ofBits binary64 0xBFF0_0000_0000_0000
+
+-- 01 section 2: abs clears the sign bit
+unfoldable pub abs : Float → Float
+abs nan = nan
+abs (inf s) = inf false
+abs (fin s m e) = fin false m e
+
+-- 01 section 2: max(a, b) is a if a > b, else b
+unfoldable pub max : Float → Float → Float
+max a b = cond (lt b a) a b
+
+-- 01 section 2: clamp(x, lo, hi) is lo if x < lo, hi if x > hi, else x; a NaN stays
+unfoldable pub clamp : Float → Float → Float → Float
+clamp x lo hi = cond (lt x lo) lo (cond (lt hi x) hi x)
+
+-- 01 section 2: powi(2) is x·x
+abbrev pub powi2 : Float → Float
+powi2 x = x ⊗ x
+
+-- 01 section 2: powi(5) is x·((x·x)·(x·x))
+abbrev pub powi5 : Float → Float
+powi5 x = x ⊗ ((x ⊗ x) ⊗ (x ⊗ x))
+
+-- 01 section 1: raw words, two to an f64 (bits, high word first)
+abbrev pub ofWords : ℕ → ℕ → Float
+ofWords high low = ofBits binary64 (high * 2 ^ 32 + low)

@@ -1,0 +1,112 @@
+-- Which values pass the tests of `sqrt`, and their roots where no root is computed. Assumes nothing.
+use mathlib.Core.Path.{_≡_, refl, sym, ap, _∙_, subst}
+use Prim.Native.Nat.{ℕ, zero, suc, _*_, _%_, _^_, _≤_, _<_}
+use native.Mathlib.Nat.{le-trans, lt-irrefl, mod-le, mul-one, zero-mul, mul-pos, zero-lt-suc, lt-of-le-of-lt}
+use native.Mathlib.Omega.{arith}
+use mathlib.Core.Bool.{Bool, true, false, not, _&&_, _||_, Bool·beq, true≢false, false≢true}
+use lib.IntN.{pos}
+use lib.Dec.{T, ltb, eqb, ltb→lt, lt→ltb, eqb→eq}
+use lib.Arith.{le→nltb}
+use lib.Ieee.{Float, nan, inf, fin, binary64, up, down, lt, eq, div, isNan, nanBits, ofBits, level}
+use lib.Ieee.Bits.{is-true, nanBits-above}
+use lib.Ieee.Fits.{up-pos}
+use lib.Ieee.Positive.{above, first-pos}
+use Rattle.sqrt.specs.Root.{squareRoot}
+
+-- the 0.0 of the source, and its 0.0 / 0.0
+zero-is : ofBits binary64 0 ≡ fin false 0 (pos 0)
+unfolding ofBits
+zero-is = refl
+
+pub nan-is : div binary64 (ofBits binary64 0) (ofBits binary64 0) ≡ nan
+unfolding ofBits div
+nan-is = refl
+
+of-true : (b : Bool) → b ≡ true → T b
+of-true true e = tt
+of-true false e = absurd (false≢true e)
+
+-- 0 < x
+lt-above : (x : Float) → lt (fin false 0 (pos 0)) x ≡ true → T (above x)
+unfolding lt
+lt-above nan e = absurd (false≢true e)
+lt-above (inf true) e = absurd (false≢true e)
+lt-above (inf false) e = tt
+lt-above (fin true n d) e = absurd (false≢true e)
+lt-above (fin false n d) e =
+    lt→ltb 0 n (first-pos n (up d) (first-pos (n * up d) 1 (lt-of-le-of-lt (none (0 * 1 * down d)) (ltb→lt (0 * 1 * down d) (n * up d * 1) (of-true (ltb (0 * 1 * down d) (n * up d * 1)) e)))))
+  where
+    none : (x : ℕ) → 0 ≤ x
+    none x = omega arith
+
+pub is-above : (x : Float) → lt (ofBits binary64 0) x ≡ true → T (above x)
+is-above x e = lt-above x (ap (λ (z : Float). lt z x) (sym zero-is) ∙ e)
+
+pub above-no-nan : (x : Float) → T (above x) → T (not (isNan x))
+unfolding isNan
+above-no-nan nan a = absurd a
+above-no-nan (inf s) a = tt
+above-no-nan (fin s m e) a = tt
+
+-- a pattern below the infinity's is no NaN's
+pub no-nan : (r : ℕ) → r < 0x7ff0_0000_0000_0000 → T (not (nanBits binary64 r))
+no-nan r h = subst (λ (b : Bool). T (not b)) (sym (nanBits-above binary64 r)) (le→nltb 0x7ff0_0000_0000_0000 (r % 2 ^ 63) (le-trans (mod-le r (2 ^ 63)) (less r h)))
+  where
+    less : (r : ℕ) → r < 0x7ff0_0000_0000_0000 → r ≤ 0x7ff0_0000_0000_0000
+    less r h = omega arith
+
+-- ---- the roots that are the argument itself
+
+pub root-inf : (x : Float) → x ≡ inf false → x ≡ squareRoot binary64 x
+unfolding squareRoot
+root-inf x e = e ∙ sym (ap (squareRoot binary64) e)
+
+and-true : (a b : Bool) → (a && b) ≡ true → T a
+and-true true b e = tt
+and-true false b e = absurd (false≢true e)
+
+not-zero : (m u v : ℕ) → 0 < u → suc m * u * 1 ≡ 0 * 1 * v → ⊥
+not-zero m u v U e = lt-irrefl 0 (subst (λ (x : ℕ). 0 < x) (sym (mul-one (suc m * u)) ∙ e ∙ ap (λ (x : ℕ). x * v) (zero-mul 1) ∙ zero-mul v) (mul-pos (zero-lt-suc m) U))
+
+zero-root : (x : Float) → eq x (fin false 0 (pos 0)) ≡ true → x ≡ squareRoot binary64 x
+unfolding eq squareRoot
+zero-root nan e = absurd (false≢true e)
+zero-root (inf s) e = absurd (false≢true e)
+zero-root (fin s zero d) e = refl
+zero-root (fin s (suc m) d) e =
+    absurd (not-zero m (up d) (down d) (up-pos d) (eqb→eq (suc m * up d * 1) (0 * 1 * down d) (and-true (eqb (suc m * up d * 1) (0 * 1 * down d)) (Bool·beq s false || eqb (suc m * up d * 1) 0) e)))
+
+pub root-zero : (x : Float) → eq x (ofBits binary64 0) ≡ true → x ≡ squareRoot binary64 x
+root-zero x e = zero-root x (ap (eq x) (sym zero-is) ∙ e)
+
+-- ---- what is neither above zero nor zero has no root
+
+nothing : (u : ℕ) → 0 * u * 1 ≡ 0
+nothing u = mul-one (0 * u) ∙ zero-mul u
+
+nothing′ : (v : ℕ) → 0 * 1 * v ≡ 0
+nothing′ v = ap (λ (x : ℕ). x * v) (zero-mul 1) ∙ zero-mul v
+
+level-zero : (s : Bool) → level s 0 false 0 ≡ true
+level-zero true = refl
+level-zero false = refl
+
+zero-level : (s : Bool) (u v : ℕ) → level s (0 * u * 1) false (0 * 1 * v) ≡ true
+zero-level s u v = ap (λ (x : ℕ). level s x false (0 * 1 * v)) (nothing u) ∙ ap (level s 0 false) (nothing′ v) ∙ level-zero s
+
+above-zero : (m u v : ℕ) → 0 < u → ltb (0 * 1 * v) (suc m * u * 1) ≡ true
+above-zero m u v U =
+    is-true (ltb (0 * 1 * v) (suc m * u * 1))
+    (lt→ltb (0 * 1 * v) (suc m * u * 1) (subst (λ (x : ℕ). x < suc m * u * 1) (sym (nothing′ v)) (mul-pos (mul-pos (zero-lt-suc m) U) (zero-lt-suc 0))))
+
+no-root : (x : Float) → lt (fin false 0 (pos 0)) x ≡ false → eq x (fin false 0 (pos 0)) ≡ false → squareRoot binary64 x ≡ nan
+unfolding lt eq squareRoot
+no-root nan e h = refl
+no-root (inf true) e h = refl
+no-root (inf false) e h = absurd (true≢false e)
+no-root (fin s zero d) e h = absurd (true≢false (sym (zero-level s (up d) (down d)) ∙ h))
+no-root (fin true (suc m) d) e h = refl
+no-root (fin false (suc m) d) e h = absurd (true≢false (sym (above-zero m (up d) (down d) (up-pos d)) ∙ e))
+
+pub root-none : (x : Float) → lt (ofBits binary64 0) x ≡ false → eq x (ofBits binary64 0) ≡ false → div binary64 (ofBits binary64 0) (ofBits binary64 0) ≡ squareRoot binary64 x
+root-none x e h = nan-is ∙ sym (no-root x (ap (λ (z : Float). lt z x) (sym zero-is) ∙ e) (ap (eq x) (sym zero-is) ∙ h))

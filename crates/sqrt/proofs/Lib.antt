@@ -1,0 +1,13 @@
+-- What the functions' proofs use, and the laws of the square root for callers.
+pub mod Floor
+pub mod Closest
+pub mod Grid
+pub mod Laws
+pub mod Square
+pub mod Examples
+mod Digits
+mod Halves
+mod Patterns
+mod Lift
+mod Finish
+mod Cases
