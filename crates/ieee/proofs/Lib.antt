@@ -1,2 +1,3 @@
 -- The laws of binary64, for this crate's functions and for every crate above.
 pub mod Signs
+pub mod Range

@@ -17,6 +17,10 @@ one = ofBits binary64 0x3FF0_0000_0000_0000
 abbrev pub two : Float
 two = ofBits binary64 0x4000_0000_0000_0000
 
+-- 0.875, the gate's slope (01 section 3)
+abbrev pub seven-eighths : Float
+seven-eighths = ofBits binary64 0x3FEC_0000_0000_0000
+
 -- 0.5
 abbrev pub half : Float
 half = ofBits binary64 0x3FE0_0000_0000_0000

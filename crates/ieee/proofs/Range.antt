@@ -1,0 +1,11 @@
+-- The laws of ranges, from rounding up.
+pub mod Round
+pub mod Relative
+pub mod Laws
+pub mod Sums
+pub mod Quotients
+pub mod Tests
+pub mod Powers
+pub mod Rem
+pub mod Zero
+pub mod Ratio
