@@ -44,7 +44,7 @@ unfolding odd
 odd-clear d zero k l = tt
 odd-clear d (suc q) k l = tt
 
-units-clear : (f : Format) (q k : ℕ) → T (clear (units f false q k))
+pub units-clear : (f : Format) (q k : ℕ) → T (clear (units f false q k))
 unfolding units
 units-clear f q k = go (ltb (q * 2 ^ k) (2 ^ (low f + suc (emax f))))
   where
@@ -140,7 +140,7 @@ round-least f N D p j D0 r h t =
     (le-cross y x (round-clear f p (2 ^ j)) (round-clear f N D) (value-finite y false p (2 ^ j) v) t
     (round-mono f p (2 ^ j) N D (pow-pos j) D0 h))
 
-to-plus : (x : Float) → T (clear x) → T (finite x) → T (plus x)
+pub to-plus : (x : Float) → T (clear x) → T (finite x) → T (plus x)
 to-plus nan a b = absurd a
 to-plus (inf s) a b = absurd b
 to-plus (fin s m e) a b = a
