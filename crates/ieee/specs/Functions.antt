@@ -2,6 +2,7 @@
 -- A constant is its bit pattern, as the compiler has it.
 use Prim.Native.Nat.{ℕ, _+_, _*_, _^_}
 use mathlib.Core.Bool.{Bool, true, false, cond}
+use lib.Dec.{eqb}
 use lib.Ieee.{Float, nan, inf, fin, binary64, lt, ofBits}
 use Rattle.ieee.specs.Operators.{_⊗_}
 
@@ -28,6 +29,18 @@ half = ofBits binary64 0x3FE0_0000_0000_0000
 -- -1
 abbrev pub minus-one : Float
 minus-one = ofBits binary64 0xBFF0_0000_0000_0000
+
+-- an infinity
+abbrev pub is-inf : Float → Bool
+is-inf nan = false
+is-inf (inf s) = true
+is-inf (fin s m e) = false
+
+-- a zero of either sign
+abbrev pub is-zero : Float → Bool
+is-zero nan = false
+is-zero (inf s) = false
+is-zero (fin s m e) = eqb m 0
 
 -- 01 section 2: abs clears the sign bit
 unfoldable pub abs : Float → Float

@@ -2,3 +2,4 @@
 pub mod Operators
 pub mod Functions
 pub mod Range
+pub mod Fmod

@@ -2,7 +2,7 @@
 -- A finite x has the size `num x / den x`, a fraction of whole numbers. A bound is a fraction p / 2 ^ j.
 use mathlib.Core.Path.{_≡_}
 use Prim.Native.Nat.{ℕ, suc, _*_, _^_, _≤_, _<_}
-use mathlib.Core.Bool.{Bool, true, false, not, _&&_}
+use mathlib.Core.Bool.{Bool, false, not, _&&_}
 use lib.Dec.{T, ltb, leb}
 use lib.Ieee.{Float, nan, inf, fin, Format, prec, emax, low}
 use lib.Ieee.Scale.{finite}

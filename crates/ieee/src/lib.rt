@@ -1,5 +1,6 @@
 // The small functions on f64 that document 01's section 2 gives a meaning to, each for every f64.
 ghost use mathlib.Core.Path.{_≡_};
+ghost use lib.Ieee.{binary64, rem};
 ghost use lib.Ieee.Scale.{finite};
 ghost use Rattle.ieee.specs.Functions.{abs, max, clamp, powi2, powi5, ofWords};
 
@@ -54,4 +55,23 @@ pub fn powi5(x: f64) -> f64
     ensures { λ r. ⌜ r ≡ powi5 x ⌝ }
 {
     x * ((x * x) * (x * x))
+}
+
+// The remainder with the dividend's sign, C's fmod.
+pub fn rem(x: f64, y: f64) -> f64
+    ensures { λ r. ⌜ r ≡ rem binary64 x y ⌝ }
+{
+    x % y
+}
+
+// The number with these bits, the high word first. A NaN's pattern gives the one NaN, whatever its payload.
+pub fn from_words(high: u32, low: u32) -> f64
+    ensures { λ r. ⌜ r ≡ ofWords high low ⌝ }
+{
+    let bits = (high as u64) * 0x1_0000_0000 + (low as u64);
+    if bits % 0x8000_0000_0000_0000 > 0x7ff0_0000_0000_0000 {
+        0.0 / 0.0
+    } else {
+        f64::from_bits(bits)
+    }
 }

@@ -14,7 +14,7 @@ use lib.Ieee.Exact.{HasValue, units-val, round-exact}
 use lib.Ieee.Order.{drop, kept, transfer, round-mono}
 use lib.Ieee.Scale.{grid, overflow, finite, round-under}
 use lib.Ieee.Positive.{num, den, den-pos}
-use Rattle.ieee.specs.Range.{clear, plus, Rep}
+use Rattle.ieee.specs.Range.{sgn, clear, plus, Rep}
 
 join : (i l j : ℕ) → j ≤ l → i + (l - j) + j ≡ i + l
 join i l j h = omega arith
@@ -88,6 +88,11 @@ pub value-cross : (x : Float) (s : Bool) (a c : ℕ) → HasValue x s a c → nu
 value-cross nan s a c h = absurd h
 value-cross (inf t) s a c h = absurd h
 value-cross (fin t m e) s a c h = h .1
+
+pub value-sign : (x : Float) (s : Bool) (a c : ℕ) → HasValue x s a c → sgn x ≡ s
+value-sign nan s a c h = absurd h
+value-sign (inf t) s a c h = absurd h
+value-sign (fin t m e) s a c h = h .0
 
 pub value-finite : (x : Float) (s : Bool) (a c : ℕ) → HasValue x s a c → T (finite x)
 value-finite nan s a c h = absurd h
