@@ -1,0 +1,102 @@
+-- What the source's tests say of a float: whether it is a NaN, an infinity or a zero, and its sign bit. Assumes nothing.
+use mathlib.Core.Path.{_≡_, refl, sym, ap, _∙_, subst}
+use Prim.Native.Nat.{ℕ, zero, suc, _+_, _*_, _%_, _/_, _^_, _≤_, _<_}
+use native.Mathlib.Nat.{mul-one, zero-mul, mul-pos, zero-lt-suc, lt-irrefl}
+use mathlib.Core.Bool.{Bool, true, false, not, _&&_, _||_, Bool·beq, cond, true≢false, false≢true}
+use borrow.Author.Tests.{lt-leb, le-leb, ne-eqb}
+use lib.Dec.{T, eqb, leb, eqb·suc-zero}
+use lib.IntN.{pos}
+use lib.Ieee.{Float, nan, inf, fin, Format, binary64, up, down, odd, ones, hid, top, prec, low, neg, div, eq, ne, level, fits, isNan, ofFields, ofBits, toBits}
+use lib.Ieee.Bits.{is-true, is-false, ofBits-toBits}
+use lib.Ieee.Fits.{up-pos}
+use lib.Ieee.Compare.{differs-from-itself}
+use Rattle.ieee.proofs.Signs.{zero-is, of-true}
+use Rattle.elementary.proofs.Constants.{infinity, infinity-is}
+use Rattle.ieee.specs.Functions.{is-inf, is-zero}
+use Rattle.ieee.specs.Range.{sgn}
+
+-- ---- x != x
+pub is-nan : (x : Float) → ne x x ≡ true → x ≡ nan
+is-nan x e = differs-from-itself x (of-true (ne x x) e)
+
+pub not-nan : (x : Float) → ne x x ≡ false → isNan x ≡ false
+unfolding ne eq isNan
+not-nan nan e = absurd (true≢false e)
+not-nan (inf s) e = refl
+not-nan (fin s m d) e = refl
+
+-- ---- x == 1.0 / 0.0, x == -(1.0 / 0.0)
+at-infinity : (x : Float) → eq x (inf false) ≡ true → true ≡ is-inf x
+unfolding eq
+at-infinity nan e = absurd (false≢true e)
+at-infinity (inf s) e = refl
+at-infinity (fin s m d) e = absurd (false≢true e)
+
+else-infinity : (x : Float) → eq x (inf false) ≡ false → eq x (neg (inf false)) ≡ is-inf x
+unfolding eq neg
+else-infinity nan e = refl
+else-infinity (inf true) e = refl
+else-infinity (inf false) e = absurd (true≢false e)
+else-infinity (fin s m d) e = refl
+
+pub infinite : (x : Float) → eq x infinity ≡ true → true ≡ is-inf x
+infinite x e = at-infinity x (ap (eq x) (sym infinity-is) ∙ e)
+
+pub infinite-else : (x : Float) → eq x infinity ≡ false → eq x (neg infinity) ≡ is-inf x
+infinite-else x e = rw infinity-is (else-infinity x (ap (eq x) (sym infinity-is) ∙ e))
+
+-- ---- x == 0.0
+none : (n : ℕ) → 0 * n * 1 ≡ 0
+none n = mul-one (0 * n) ∙ zero-mul n
+
+is-level : (s : Bool) (a b : ℕ) → a ≡ 0 → b ≡ 0 → level s a false b ≡ true
+is-level s a b p q = ap (λ (n : ℕ). level s n false b) p ∙ ap (level s 0 false) q ∙ at s
+  where
+    at : (s : Bool) → level s 0 false 0 ≡ true
+    at true = refl
+    at false = refl
+
+not-level : (s : Bool) (a b : ℕ) → 0 < a → b ≡ 0 → level s a false b ≡ false
+not-level s a b h q = ap (λ (t : Bool). t && (Bool·beq s false || eqb a 0)) (ne-eqb a b (λ e. lt-irrefl 0 (subst (λ (n : ℕ). 0 < n) (e ∙ q) h)))
+
+zero-test-at : (x : Float) → eq x (fin false 0 (pos 0)) ≡ is-zero x
+unfolding eq
+zero-test-at nan = refl
+zero-test-at (inf s) = refl
+zero-test-at (fin s zero d) = is-level s (0 * up d * 1) (0 * down d) (none (up d)) (zero-mul (down d))
+zero-test-at (fin s (suc m) d) = not-level s (suc m * up d * 1) (0 * down d) (more (suc m * up d) (mul-pos (zero-lt-suc m) (up-pos d))) (zero-mul (down d)) ∙ sym (eqb·suc-zero m)
+  where
+    more : (a : ℕ) → 0 < a → 0 < a * 1
+    more a h = subst (λ (n : ℕ). 0 < n) (sym (mul-one a)) h
+
+pub zero-test : (x : Float) → eq x (ofBits binary64 0) ≡ is-zero x
+zero-test x = ap (eq x) zero-is ∙ zero-test-at x
+
+-- ---- the sign bit: the highest of the pattern
+odd-sign : (d : ℕ) (s : Bool) (q k l : ℕ) → sgn (odd d s q k l) ≡ s
+unfolding odd
+odd-sign d s zero k l = refl
+odd-sign d s (suc q) k l = refl
+
+fields-sign : (f : Format) (s : Bool) (x t : ℕ) → isNan (ofFields f s x t) ≡ false → sgn (ofFields f s x t) ≡ s
+unfolding ofFields isNan
+fields-sign f s zero t e = odd-sign (prec f) s t 0 (low f)
+fields-sign f s (suc x) t e = go (eqb (suc x) (ones f)) (eqb t 0) e
+  where
+    go : (a b : Bool) → isNan (cond a (cond b (inf s) nan) (odd (prec f) s (hid f + t) x (low f))) ≡ false → sgn (cond a (cond b (inf s) nan) (odd (prec f) s (hid f + t) x (low f))) ≡ s
+    go true true e = refl
+    go true false e = absurd (true≢false e)
+    go false b e = odd-sign (prec f) s (hid f + t) x (low f)
+
+bits-sign : (x : Float) → T (fits binary64 x) → isNan x ≡ false → sgn x ≡ leb (2 ^ 63) (toBits binary64 x)
+unfolding ofBits
+bits-sign x h e =
+    let b = toBits binary64 x in
+    let q = ofBits-toBits binary64 x h in
+    ap sgn (sym q) ∙ fields-sign binary64 (leb (top binary64) b) (b % top binary64 / hid binary64) (b % hid binary64) (ap isNan q ∙ e)
+
+pub sign-set : (x : Float) → T (fits binary64 x) → isNan x ≡ false → 2 ^ 63 ≤ toBits binary64 x → sgn x ≡ true
+sign-set x h e l = bits-sign x h e ∙ le-leb _ _ l
+
+pub sign-clear : (x : Float) → T (fits binary64 x) → isNan x ≡ false → toBits binary64 x < 2 ^ 63 → sgn x ≡ false
+sign-clear x h e l = bits-sign x h e ∙ lt-leb _ _ l
