@@ -1,0 +1,31 @@
+-- `complex::Complex::div` meets its contract. Assumes nothing.
+use mathlib.Core.Path.{_≡_, _∙_}
+use mathlib.Core.Bool.{true, false}
+use borrow.Author.Needs.{needs}
+use lib.Ieee.{lt}
+use Rattle.complex.specs.declared.Complex.{Complex}
+use Rattle.complex.specs.Complex.{norm-sq, zero, quotient, least-denom, div}
+use Rattle.complex.proofs.Complex.div.Statement.{statement}
+use Rattle.complex.proofs.Complex.div.Tie as tie
+
+small : (z w : Complex) → lt (norm-sq w) least-denom ≡ true → zero ≡ div z w
+unfolding div
+small z w e = simp e
+
+large : (z w : Complex) → lt (norm-sq w) least-denom ≡ false → quotient z w (norm-sq w) ≡ div z w
+unfolding div
+large z w e = simp e
+
+zero-requires : tie.Need-zero-requires
+zero-requires c κs = search needs
+
+returns : tie.Need-returns
+unfolding norm-sq
+returns c = c .zero .ensures ∙ small _ _ (c .before .if1 .taken)
+
+returns-2 : tie.Need-returns-2
+unfolding norm-sq quotient
+returns-2 c = large _ _ (c .before .before .before .before .before .before .before .before .if1 .left)
+
+pub div-spec : {M : Type 1} → statement M
+div-spec = tie.close (tie.spec zero-requires returns returns-2)

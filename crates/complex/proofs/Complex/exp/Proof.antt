@@ -1,0 +1,28 @@
+-- `complex::Complex::exp` meets its contract. Assumes nothing.
+use mathlib.Core.Path.{_≡_}
+use borrow.Author.Needs.{needs}
+use lib.Ieee.{Float}
+use Rattle.ieee.specs.Operators.{_⊗_}
+use Rattle.elementary.specs.declared.SinCos.{SinCos}
+use Rattle.elementary.specs.Trig.{sin-cos}
+use Rattle.elementary.specs.Exp as Exp
+use Rattle.complex.specs.declared.Complex.{Complex}
+use Rattle.complex.specs.Complex.{exp}
+use Rattle.complex.proofs.Complex.exp.Statement.{statement}
+use Rattle.complex.proofs.Complex.exp.Tie as tie
+
+parts : (z : Complex) (e : Float) (y : SinCos) → e ≡ Exp.exp (z .re) → y ≡ sin-cos (z .im) → _≡_ {A = Complex} (record { re = e ⊗ y .cos; im = e ⊗ y .sin }) (exp z)
+unfolding exp
+parts z e y p q = cc
+
+exp-requires : tie.Need-exp-requires
+exp-requires c κs = search needs
+
+sin-cos-requires : tie.Need-sin-cos-requires
+sin-cos-requires c κs = search needs
+
+returns : tie.Need-returns
+returns c = parts _ _ _ (c .before .before .before .exp .ensures) (c .before .before .sin-cos .ensures)
+
+pub exp-spec : {M : Type 1} → statement M
+exp-spec = tie.close (tie.spec exp-requires sin-cos-requires returns)

@@ -1,0 +1,18 @@
+-- `complex::Complex::norm` meets its contract. Assumes nothing.
+use Rattle.complex.specs.Complex.{norm}
+use borrow.Author.Needs.{needs}
+use Rattle.complex.proofs.Complex.norm.Statement.{statement}
+use Rattle.complex.proofs.Complex.norm.Tie as tie
+
+norm-sq-requires : tie.Need-norm-sq-requires
+norm-sq-requires c κs = search needs
+
+sqrt-requires : tie.Need-sqrt-requires
+sqrt-requires c κs = search needs
+
+returns : tie.Need-returns
+unfolding norm
+returns c = cc
+
+pub norm-spec : {M : Type 1} → statement M
+norm-spec = tie.close (tie.spec norm-sq-requires sqrt-requires returns)

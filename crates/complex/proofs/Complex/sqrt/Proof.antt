@@ -1,0 +1,38 @@
+-- `complex::Complex::sqrt` meets its contract. Assumes nothing.
+use mathlib.Core.Path.{_≡_}
+use mathlib.Core.Bool.{true, false}
+use borrow.Author.Needs.{needs}
+use lib.Ieee.{Float, neg, le}
+use Rattle.ieee.specs.Operators.{_⊕_, _⊖_}
+use Rattle.ieee.specs.Functions.{zero-f}
+use Rattle.complex.specs.declared.Complex.{Complex}
+use Rattle.complex.specs.Complex.{norm, half-root, sqrt}
+use Rattle.complex.proofs.Complex.sqrt.Statement.{statement}
+use Rattle.complex.proofs.Complex.sqrt.Tie as tie
+
+module _ (z : Complex) (r u v : Float) (r-is : r ≡ norm z) (u-is : u ≡ half-root (r ⊕ z .re)) (v-is : v ≡ half-root (r ⊖ z .re)) where
+  upper : le zero-f (z .im) ≡ true → _≡_ {A = Complex} (record { re = u; im = v }) (sqrt z)
+  unfolding sqrt
+  upper e = simp (e, u-is, v-is, r-is)
+
+  lower : le zero-f (z .im) ≡ false → _≡_ {A = Complex} (record { re = u; im = neg v }) (sqrt z)
+  unfolding sqrt
+  lower e = simp (e, u-is, v-is, r-is)
+
+norm-requires : tie.Need-norm-requires
+norm-requires c κs = search needs
+
+half-root-requires : tie.Need-half-root-requires
+half-root-requires c κs = search needs
+
+half-root-requires-2 : tie.Need-half-root-requires-2
+half-root-requires-2 c κs = search needs
+
+returns : tie.Need-returns
+returns c = upper _ _ _ _ (c .before .before .before .before .before .before .norm .ensures) (c .before .before .before .before .half-root .ensures) (c .before .before .half-root2 .ensures) (c .if1 .taken)
+
+returns-2 : tie.Need-returns-2
+returns-2 c = lower _ _ _ _ (c .before .before .before .before .before .before .norm .ensures) (c .before .before .before .before .half-root .ensures) (c .before .before .half-root2 .ensures) (c .if1 .left)
+
+pub sqrt-spec : {M : Type 1} → statement M
+sqrt-spec = tie.close (tie.spec norm-requires half-root-requires half-root-requires-2 returns returns-2)

@@ -1,0 +1,18 @@
+-- `complex::half_root` meets its contract. Assumes nothing.
+use Rattle.complex.specs.Complex.{half-root}
+use borrow.Author.Needs.{needs}
+use Rattle.complex.proofs.half_root.Statement.{statement}
+use Rattle.complex.proofs.half_root.Tie as tie
+
+max-requires : tie.Need-max-requires
+max-requires c κs = search needs
+
+sqrt-requires : tie.Need-sqrt-requires
+sqrt-requires c κs = search needs
+
+returns : tie.Need-returns
+unfolding half-root
+returns c = cc
+
+pub half-root-spec : {M : Type 1} → statement M
+half-root-spec = tie.close (tie.spec max-requires sqrt-requires returns)

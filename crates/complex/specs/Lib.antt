@@ -1,0 +1,2 @@
+-- Complex numbers.
+pub mod Complex

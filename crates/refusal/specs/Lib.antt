@@ -1,0 +1,2 @@
+-- What a call that can refuse gives.
+pub mod Outcome

@@ -1,0 +1,18 @@
+-- The outcome of any call that can refuse: an answer, or a refusal's number and place (01, 'Turned back'). One definition for all crates.
+use Prim.Native.Nat.{ℕ}
+use Rattle.refusal.specs.declared.Refusal.{Refusal}
+
+pub data Outcome (A : Type 0) : Type 0 where
+  answer : A → Outcome A
+  refusal : ℕ → ℕ → Outcome A
+
+abbrev pub refused : {A : Type 0} → Refusal → Outcome A
+refused r = refusal (r .number) (r .place)
+
+-- 1: the Rust's InvalidParameter
+abbrev pub invalid-parameter : {A : Type 0} → Outcome A
+invalid-parameter = refusal 1 0
+
+-- 3: more than 64 explicit layers, or more than 31 pairs
+abbrev pub too-many-layers : {A : Type 0} → Outcome A
+too-many-layers = refusal 3 0

@@ -1,0 +1,38 @@
+-- `transfer_matrix::begin` meets its contract. Assumes nothing.
+use mathlib.Core.Path.{_≡_}
+use lib.Ieee.{Float}
+use Rattle.ieee.specs.Operators.{_⊗_}
+use Rattle.ieee.specs.Functions as F
+use Rattle.elementary.specs.declared.SinCos.{SinCos}
+use Rattle.elementary.specs.Trig.{sin-cos}
+use Rattle.complex.specs.declared.Complex.{Complex}
+use Rattle.complex.specs.Complex.{real, zero}
+use Rattle.transfer_matrix.specs.declared.Stack.{Stack}
+use Rattle.transfer_matrix.specs.declared.Product.{Product}
+use Rattle.transfer_matrix.specs.Stack.{begin}
+use borrow.Author.Needs.{needs}
+use Rattle.transfer_matrix.proofs.begin.Statement.{statement}
+use Rattle.transfer_matrix.proofs.begin.Tie as tie
+
+abbrev diagonal : Complex → Complex → Product
+diagonal o z = record { m11 = o; m12 = z; m21 = z; m22 = o }
+
+parts : (n0 ns angle w : Float) (y : SinCos) (o z : Complex) → y ≡ sin-cos angle → o ≡ real F.one → z ≡ zero
+    → _≡_ {A = Stack} (record { «n_incident» = n0; «n_substrate» = ns; «cos_theta0» = y .cos; side = n0 ⊗ y .sin; «wavelength_nm» = w; s = diagonal o z; p = diagonal o z }) (begin n0 ns angle w)
+unfolding begin
+parts n0 ns angle w y o z e f g = simp (e, f, g)
+
+sin-cos-requires : tie.Need-sin-cos-requires
+sin-cos-requires c κs = search needs
+
+real-requires : tie.Need-real-requires
+real-requires c κs = search needs
+
+zero-requires : tie.Need-zero-requires
+zero-requires c κs = search needs
+
+returns : tie.Need-returns
+returns c = parts _ _ _ _ _ _ _ (c .before .before .before .sin-cos .ensures) (c .before .before .real .ensures) (c .before .zero .ensures)
+
+pub begin-spec : {M : Type 1} → statement M
+begin-spec = tie.close (tie.spec sin-cos-requires real-requires zero-requires returns)

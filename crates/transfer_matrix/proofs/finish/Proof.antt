@@ -1,0 +1,71 @@
+-- `transfer_matrix::finish` meets its contract. Assumes nothing.
+use mathlib.Core.Path.{_≡_, refl, sym, ap, _∙_}
+use lib.Ieee.{Float}
+use Rattle.ieee.specs.Operators.{_⊗_, _⊘_}
+use Rattle.ieee.specs.Functions.{max}
+use Rattle.complex.specs.declared.Complex.{Complex}
+use Rattle.complex.specs.Complex.{real, mul, div}
+use Rattle.transfer_matrix.specs.declared.Stack.{Stack}
+use Rattle.transfer_matrix.specs.declared.Solved.{Solved}
+use Rattle.transfer_matrix.specs.Solve.{cos-theta-sub, least-cos, eta0-s, eta0-p, eta-sub-s, eta-sub-p, solve, respond}
+use Rattle.transfer_matrix.specs.Stack.{nested, finish}
+use borrow.Author.Needs.{needs}
+use Rattle.transfer_matrix.proofs.finish.Statement.{statement}
+use Rattle.transfer_matrix.proofs.finish.Tie as tie
+
+parts : (k : Stack) (z n e f : Complex) (m : Float) → z ≡ cos-theta-sub (k .side ⊘ k .«n_substrate») → n ≡ real (k .«n_substrate») → e ≡ real (k .«n_incident» ⊗ k .«cos_theta0»)
+    → m ≡ max (k .«cos_theta0») least-cos → f ≡ real (k .«n_incident» ⊘ m) → (x y : Complex) (s p : Solved) → x ≡ mul n z → s ≡ solve (nested (k .s)) e x → y ≡ div n z → p ≡ solve (nested (k .p)) f y
+    → respond s p ≡ finish k
+unfolding finish eta0-s eta0-p eta-sub-s eta-sub-p
+parts k z n e f m h1 h2 h3 h4 h5 x y s p h6 h7 h8 h9 = simp (h9, h8, h7, h6, h5, h4, h3, h2, h1)
+
+named : (s p : Solved) → respond s p ≡ record { rs = s .r; rp = p .r; ts = s .t; tp = p .t; «reflectance_s» = s .reflectance; «reflectance_p» = p .reflectance; «transmittance_s» = s .transmittance; «transmittance_p» = p .transmittance; «phase_rs_rad» = s .phase; «phase_rp_rad» = p .phase }
+unfolding respond
+named s p = refl
+
+cos-theta-sub-requires : tie.Need-cos-theta-sub-requires
+cos-theta-sub-requires c κs = search needs
+
+real-requires : tie.Need-real-requires
+real-requires c κs = search needs
+
+real-requires-2 : tie.Need-real-requires-2
+real-requires-2 c κs = search needs
+
+max-requires : tie.Need-max-requires
+max-requires c κs = search needs
+
+real-requires-3 : tie.Need-real-requires-3
+real-requires-3 c κs = search needs
+
+mul-requires : tie.Need-mul-requires
+mul-requires c κs = search needs
+
+solve-requires : tie.Need-solve-requires
+solve-requires c κs = search needs
+
+div-requires : tie.Need-div-requires
+div-requires c κs = search needs
+
+solve-requires-2 : tie.Need-solve-requires-2
+solve-requires-2 c κs = search needs
+
+returns : tie.Need-returns
+returns c =
+    sym (named _ _)
+    ∙ parts _ _ _ _ _ _ (c .before .before .before .before .before .before .before .before .before .before .before .before .before .before .before .before .cos-theta-sub .ensures) (c .before .before .before .before .before .before .before .before .before .before .before .before .before .before .before .real .ensures) (c .before .before .before .before .before .before .before .before .before .before .before .before .before .real2 .ensures) (c .before .before .before .before .before .before .before .before .before .before .before .before .max .ensures) (c .before .before .before .before .before .before .before .before .before .before .real3 .ensures) _ _ _ _ (c .before .before .before .before .before .before .before .mul .ensures) (c .before .before .before .before .before .before .solve .ensures) (c .before .before .before .before .before .div .ensures) (c .before .before .before .before .solve2 .ensures)
+
+pub finish-spec : {M : Type 1} → statement M
+finish-spec =
+    tie.close
+    (tie.spec
+    cos-theta-sub-requires
+    real-requires
+    real-requires-2
+    max-requires
+    real-requires-3
+    mul-requires
+    solve-requires
+    div-requires
+    solve-requires-2
+    returns)

@@ -1,0 +1,5 @@
+-- The transfer-matrix method of thin_film.rs, one layer at a time.
+pub mod Matrix
+pub mod Layer
+pub mod Solve
+pub mod Stack

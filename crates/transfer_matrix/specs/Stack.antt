@@ -1,0 +1,55 @@
+-- The loop of evaluate_tmm_multilayer as a state that takes one layer at a time. Definitions only.
+use mathlib.Core.List.{List, [], _∷_}
+use lib.Ieee.{Float}
+use Rattle.ieee.specs.Operators.{_⊗_}
+use Rattle.elementary.specs.Trig.{sin, cos}
+use Rattle.transfer_matrix.specs.declared.ThinFilmLayer.{ThinFilmLayer}
+use Rattle.transfer_matrix.specs.declared.CoatingResponse.{CoatingResponse}
+use Rattle.transfer_matrix.specs.declared.Product.{Product}
+use Rattle.transfer_matrix.specs.declared.Stack.{Stack}
+use Rattle.transfer_matrix.specs.Matrix.{Matrix, at, matrix, mat-mul, identity}
+use Rattle.transfer_matrix.specs.Layer.{layer-s, layer-p}
+use Rattle.transfer_matrix.specs.Solve.{eta0-s, eta0-p, eta-sub-s, eta-sub-p, solve, respond}
+
+-- a product and its matrix
+abbrev pub nested : Product → Matrix
+nested m = matrix (m .m11) (m .m12) (m .m21) (m .m22)
+
+abbrev pub product : Matrix → Product
+product m = record { m11 = at m 0 0; m12 = at m 0 1; m21 = at m 1 0; m22 = at m 1 1 }
+
+-- before the first layer
+unfoldable pub begin : Float → Float → Float → Float → Stack
+begin n-incident n-substrate angle wavelength = record {
+  «n_incident» = n-incident;
+  «n_substrate» = n-substrate;
+  «cos_theta0» = cos angle;
+  side = n-incident ⊗ sin angle;
+  «wavelength_nm» = wavelength;
+  s = product identity;
+  p = product identity;
+}
+
+-- M = M * M_layer, for s and for p
+unfoldable pub step : Stack → ThinFilmLayer → Stack
+step k layer = record {
+  «n_incident» = k .«n_incident»;
+  «n_substrate» = k .«n_substrate»;
+  «cos_theta0» = k .«cos_theta0»;
+  side = k .side;
+  «wavelength_nm» = k .«wavelength_nm»;
+  s = product (mat-mul (nested (k .s)) (layer-s (k .side) (k .«wavelength_nm») layer));
+  p = product (mat-mul (nested (k .p)) (layer-p (k .side) (k .«wavelength_nm») layer));
+}
+
+-- the layers of a list, one after the other
+unfoldable pub steps : Stack → List ThinFilmLayer → Stack
+steps k [] = k
+steps k (layer ∷ layers) = steps (step k layer) layers
+
+-- after the last layer
+unfoldable pub finish : Stack → CoatingResponse
+finish k =
+    respond
+    (solve (nested (k .s)) (eta0-s (k .«n_incident») (k .«cos_theta0»)) (eta-sub-s (k .side) (k .«n_substrate»)))
+    (solve (nested (k .p)) (eta0-p (k .«n_incident») (k .«cos_theta0»)) (eta-sub-p (k .side) (k .«n_substrate»)))

@@ -1,0 +1,295 @@
+// The transfer-matrix method of thin_film.rs, one layer at a time and by value.
+//
+// A stack is begun at the incident medium, takes each layer in turn, and is finished at the
+// substrate. Whoever has layers, in a list, by index or in a sheet, calls these three.
+ghost use mathlib.Core.Path.{_≡_};
+ghost use Rattle.complex.specs.Complex.{mul, div};
+ghost use Rattle.transfer_matrix.specs.Matrix.{matrix, dot, mat-mul};
+ghost use Rattle.transfer_matrix.specs.Layer.{cos-theta, cos-delta, i-sin-delta};
+ghost use Rattle.transfer_matrix.specs.Solve.{cos-theta-sub, solve, unpolarized-reflectance, unpolarized-transmittance, dielectric};
+ghost use Rattle.transfer_matrix.specs.Stack.{product, nested, begin, step, finish};
+use complex::Complex;
+
+// ---- layers and responses
+
+// One isotropic layer: refractive index n, extinction coefficient k, thickness in nanometres.
+pub struct ThinFilmLayer {
+    pub n: f64,
+    pub k: f64,
+    pub thickness_nm: f64,
+}
+
+impl ThinFilmLayer {
+    // A lossless layer.
+    pub fn dielectric(n: f64, thickness_nm: f64) -> Self
+        ensures { λ r. ⌜ r ≡ dielectric n «thickness_nm» ⌝ }
+    {
+        Self {
+            n,
+            k: 0.0,
+            thickness_nm,
+        }
+    }
+
+    // An absorbing or metallic layer.
+    pub fn absorbing(n: f64, k: f64, thickness_nm: f64) -> Self
+        ensures { λ r. ⌜ r ≡ record { n = n; k = k; «thickness_nm» = «thickness_nm» } ⌝ }
+    {
+        Self { n, k, thickness_nm }
+    }
+}
+
+// Amplitudes, powers and phases of a coating at one wavelength and angle.
+pub struct CoatingResponse {
+    pub rs: Complex,
+    pub rp: Complex,
+    pub ts: Complex,
+    pub tp: Complex,
+    pub reflectance_s: f64,
+    pub reflectance_p: f64,
+    pub transmittance_s: f64,
+    pub transmittance_p: f64,
+    pub phase_rs_rad: f64,
+    pub phase_rp_rad: f64,
+}
+
+impl CoatingResponse {
+    pub fn unpolarized_reflectance(self) -> f64
+        ensures { λ r. ⌜ r ≡ unpolarized-reflectance self ⌝ }
+    {
+        (self.reflectance_s + self.reflectance_p) * 0.5
+    }
+
+    pub fn unpolarized_transmittance(self) -> f64
+        ensures { λ r. ⌜ r ≡ unpolarized-transmittance self ⌝ }
+    {
+        (self.transmittance_s + self.transmittance_p) * 0.5
+    }
+}
+
+// ---- matrices
+
+// a b + c d
+fn dot(a: Complex, b: Complex, c: Complex, d: Complex) -> Complex
+    ensures { λ r. ⌜ r ≡ dot a b c d ⌝ }
+{
+    a.mul(b).add(c.mul(d))
+}
+
+pub fn mat_mul_2x2(a: [[Complex; 2]; 2], b: [[Complex; 2]; 2]) -> [[Complex; 2]; 2]
+    ensures { λ r. ⌜ r ≡ mat-mul a b ⌝ }
+{
+    [
+        [
+            dot(a[0][0], b[0][0], a[0][1], b[1][0]),
+            dot(a[0][0], b[0][1], a[0][1], b[1][1]),
+        ],
+        [
+            dot(a[1][0], b[0][0], a[1][1], b[1][0]),
+            dot(a[1][0], b[0][1], a[1][1], b[1][1]),
+        ],
+    ]
+}
+
+// ---- one layer
+
+// cos(theta) in a layer of index n_c; side is n_incident * sin_theta0.
+fn cos_theta(side: f64, n_c: Complex) -> Complex
+    ensures { λ r. ⌜ r ≡ cos-theta side «n_c» ⌝ }
+{
+    let sin_theta = Complex::real(side).div(n_c);
+    Complex::real(1.0).sub(sin_theta.mul(sin_theta)).sqrt()
+}
+
+// cos(delta) and i sin(delta) of a phase thickness.
+struct Phase {
+    cos: Complex,
+    i_sin: Complex,
+}
+
+fn phase_of(delta: Complex) -> Phase
+    ensures { λ r. ⌜ r ≡ record { cos = cos-delta delta; «i_sin» = i-sin-delta delta } ⌝ }
+{
+    let exp_pos = Complex::new(-delta.im, delta.re).exp();
+    let exp_neg = Complex::new(delta.im, -delta.re).exp();
+    let cos_delta = exp_pos.add(exp_neg).scale(0.5);
+    let sin_delta = exp_pos.sub(exp_neg).mul(Complex::new(0.0, -0.5));
+    Phase {
+        cos: cos_delta,
+        i_sin: Complex::new(-sin_delta.im, sin_delta.re),
+    }
+}
+
+// The characteristic matrix of a layer of admittance eta.
+fn characteristic(phase: Phase, eta: Complex) -> [[Complex; 2]; 2]
+    ensures { λ r. ⌜ r ≡ matrix (phase .cos) (div (phase .«i_sin») eta) (mul (phase .«i_sin») eta) (phase .cos) ⌝ }
+{
+    let cos = phase.cos;
+    let i_sin = phase.i_sin;
+    [[cos, i_sin.div(eta)], [i_sin.mul(eta), cos]]
+}
+
+// ---- stacks
+
+// The product of the layers' characteristic matrices, by its entries.
+pub struct Product {
+    pub m11: Complex,
+    pub m12: Complex,
+    pub m21: Complex,
+    pub m22: Complex,
+}
+
+// What the incident medium fixes, and the products so far for s and for p. side is
+// n_incident * sin_theta0.
+pub struct Stack {
+    pub n_incident: f64,
+    pub n_substrate: f64,
+    pub cos_theta0: f64,
+    pub side: f64,
+    pub wavelength_nm: f64,
+    pub s: Product,
+    pub p: Product,
+}
+
+// M * M_layer
+fn times(m: Product, layer: [[Complex; 2]; 2]) -> Product
+    ensures { λ r. ⌜ r ≡ product (mat-mul (nested m) layer) ⌝ }
+{
+    let m11 = m.m11;
+    let m12 = m.m12;
+    let m21 = m.m21;
+    let m22 = m.m22;
+    let r = mat_mul_2x2([[m11, m12], [m21, m22]], layer);
+    Product {
+        m11: r[0][0],
+        m12: r[0][1],
+        m21: r[1][0],
+        m22: r[1][1],
+    }
+}
+
+// A stack with no layer yet.
+pub fn begin(
+    n_incident: f64,
+    n_substrate: f64,
+    angle_incident_rad: f64,
+    wavelength_nm: f64,
+) -> Stack
+    ensures { λ r. ⌜ r ≡ begin «n_incident» «n_substrate» «angle_incident_rad» «wavelength_nm» ⌝ }
+{
+    let theta0 = elementary::sin_cos(angle_incident_rad);
+    let one = Complex::real(1.0);
+    let zero = Complex::zero();
+    let identity = Product {
+        m11: one,
+        m12: zero,
+        m21: zero,
+        m22: one,
+    };
+    Stack {
+        n_incident,
+        n_substrate,
+        cos_theta0: theta0.cos,
+        side: n_incident * theta0.sin,
+        wavelength_nm,
+        s: identity,
+        p: identity,
+    }
+}
+
+// The stack with one layer more.
+pub fn step(stack: Stack, layer: ThinFilmLayer) -> Stack
+    ensures { λ r. ⌜ r ≡ step stack layer ⌝ }
+{
+    let n_c = Complex::new(layer.n, -layer.k);
+    let cos = cos_theta(stack.side, n_c);
+    let eta_s = n_c.mul(cos);
+    let eta_p = n_c.div(cos);
+    let factor = 2.0 * 3.141592653589793 * layer.thickness_nm / stack.wavelength_nm;
+    let phase = phase_of(eta_s.scale(factor));
+    let s = stack.s;
+    let p = stack.p;
+    let s_next = times(s, characteristic(phase, eta_s));
+    let p_next = times(p, characteristic(phase, eta_p));
+    Stack {
+        n_incident: stack.n_incident,
+        n_substrate: stack.n_substrate,
+        cos_theta0: stack.cos_theta0,
+        side: stack.side,
+        wavelength_nm: stack.wavelength_nm,
+        s: s_next,
+        p: p_next,
+    }
+}
+
+// ---- the answers
+
+// The answers for one polarization.
+struct Solved {
+    r: Complex,
+    t: Complex,
+    reflectance: f64,
+    transmittance: f64,
+    phase: f64,
+}
+
+// [B; C] = M * [1; eta], and what follows from them. eta0 is the incident admittance, eta the
+// substrate's.
+fn solve(m: Product, eta0: Complex, eta: Complex) -> Solved
+    ensures { λ r. ⌜ r ≡ solve (nested m) eta0 eta ⌝ }
+{
+    let b = m.m11.add(m.m12.mul(eta));
+    let c = m.m21.add(m.m22.mul(eta));
+    let num = eta0.mul(b).sub(c);
+    let den = eta0.mul(b).add(c);
+    let r = num.div(den);
+    let t = eta0.scale(2.0).div(den);
+    Solved {
+        r,
+        t,
+        reflectance: ieee::clamp(r.norm_sq(), 0.0, 1.0),
+        transmittance: ieee::clamp(eta.re / eta0.re * t.norm_sq(), 0.0, 1.0),
+        phase: r.arg(),
+    }
+}
+
+// cos(theta) in the substrate: beyond a sine of 1 there is total internal reflection.
+fn cos_theta_sub(sin_theta_sub: f64) -> Complex
+    ensures { λ r. ⌜ r ≡ cos-theta-sub «sin_theta_sub» ⌝ }
+{
+    if ieee::abs(sin_theta_sub) <= 1.0 {
+        Complex::real(sqrt::sqrt(ieee::max(1.0 - sin_theta_sub * sin_theta_sub, 0.0)))
+    } else {
+        Complex::new(0.0, -sqrt::sqrt(sin_theta_sub * sin_theta_sub - 1.0))
+    }
+}
+
+// The response of a stack with all its layers.
+pub fn finish(stack: Stack) -> CoatingResponse
+    ensures { λ r. ⌜ r ≡ finish stack ⌝ }
+{
+    let cos = cos_theta_sub(stack.side / stack.n_substrate);
+    let n_sub = Complex::real(stack.n_substrate);
+    let eta0_s = Complex::real(stack.n_incident * stack.cos_theta0);
+    let eta0_p = Complex::real(stack.n_incident / ieee::max(stack.cos_theta0, 1e-12));
+    let ms = stack.s;
+    let mp = stack.p;
+    let s = solve(ms, eta0_s, n_sub.mul(cos));
+    let p = solve(mp, eta0_p, n_sub.div(cos));
+    let rs = s.r;
+    let rp = p.r;
+    let ts = s.t;
+    let tp = p.t;
+    CoatingResponse {
+        rs,
+        rp,
+        ts,
+        tp,
+        reflectance_s: s.reflectance,
+        reflectance_p: p.reflectance,
+        transmittance_s: s.transmittance,
+        transmittance_p: p.transmittance,
+        phase_rs_rad: s.phase,
+        phase_rp_rad: p.phase,
+    }
+}
