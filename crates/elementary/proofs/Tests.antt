@@ -2,12 +2,12 @@
 use mathlib.Core.Path.{_≡_, refl, sym, ap, _∙_, subst}
 use Prim.Native.Nat.{ℕ, zero, suc, _+_, _*_, _%_, _/_, _^_, _≤_, _<_}
 use native.Mathlib.Nat.{mul-one, zero-mul, mul-pos, zero-lt-suc, lt-irrefl}
-use mathlib.Core.Bool.{Bool, true, false, not, _&&_, _||_, Bool·beq, cond, true≢false, false≢true}
+use mathlib.Core.Bool.{Bool, true, false, _&&_, _||_, Bool·beq, cond, true≢false, false≢true}
 use borrow.Author.Tests.{lt-leb, le-leb, ne-eqb}
 use lib.Dec.{T, eqb, leb, eqb·suc-zero}
 use lib.IntN.{pos}
-use lib.Ieee.{Float, nan, inf, fin, Format, binary64, up, down, odd, ones, hid, top, prec, low, neg, div, eq, ne, level, fits, isNan, ofFields, ofBits, toBits}
-use lib.Ieee.Bits.{is-true, is-false, ofBits-toBits}
+use lib.Ieee.{Float, nan, inf, fin, Format, binary64, up, down, odd, ones, hid, top, prec, low, neg, eq, ne, level, fits, isNan, ofFields, ofBits, toBits}
+use lib.Ieee.Bits.{ofBits-toBits}
 use lib.Ieee.Fits.{up-pos}
 use lib.Ieee.Compare.{differs-from-itself}
 use Rattle.ieee.proofs.Signs.{zero-is, of-true}

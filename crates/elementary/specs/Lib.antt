@@ -3,3 +3,4 @@ pub mod Angles
 pub mod Trig
 pub mod Exp
 pub mod Atan
+pub mod Opposite
