@@ -1,21 +1,19 @@
 -- The laws of `squareRoot`, for any format.
 -- `squareRoot-ge`, `squareRoot-le`: if the format holds lo and hi, and lo * lo ≤ x ≤ hi * hi as fractions, then lo ≤ squareRoot x ≤ hi.
--- `squareRoot-positive`: the root of a number that is finite and above zero is finite and above zero. `squareRoot-fits`: the format holds every root. `squareRoot-mono`: a larger number has a root that is no smaller.
--- `squareRoot-exact`: where x is the square of a value that the format holds, the root is that value. Assumes nothing.
+-- `squareRoot-positive`: the root of a number that is finite and above zero is finite and above zero. `squareRoot-fits`: the format holds every root. Assumes nothing.
 use mathlib.Core.Path.{_≡_, refl, sym, ap, _∙_, subst}
 use Prim.Native.Nat.{ℕ, zero, suc, _+_, _*_, _^_, _≤_, _<_}
-use native.Mathlib.Nat.{le-refl, le-antisymm, le-trans, le-of-eq, le-of-lt, lt-of-lt-of-le, lt-of-le-of-lt, zero-lt-suc, mul-one, one-mul, mul-assoc, mul-comm, mul-left-comm, mul-right-comm, mul-le-mul-left, mul-le-mul-right, mul-pos, mul-lt-mul-of-pos-right, lt-of-mul-lt-mul-right, mul-mul-mul-comm}
-use native.Mathlib.Omega.{arith}
-use mathlib.Core.Bool.{Bool, true, false, not, cond, true≢false}
+use native.Mathlib.Nat.{le-refl, le-trans, le-of-eq, le-of-lt, lt-of-lt-of-le, lt-of-le-of-lt, zero-lt-suc, mul-one, one-mul, mul-assoc, mul-comm, mul-left-comm, mul-right-comm, mul-le-mul-left, mul-le-mul-right, mul-pos, mul-lt-mul-of-pos-right, lt-of-mul-lt-mul-right, mul-mul-mul-comm}
+use mathlib.Core.Bool.{Bool, true, false, cond, true≢false}
 use lib.IntN.{pos, negsuc}
-use lib.Dec.{T, lt→ltb, ltb, ltb→lt, nltb→le, lit≤}
+use lib.Dec.{T, lt→ltb, ltb, ltb→lt, lit≤}
 use lib.Pow.{pow-add, pow-pos, pow-mono, pow-lt}
 use lib.Ieee.{Float, nan, inf, fin, Format, binary32, binary64, prec, emax, low, up, down, odd, units, le, fits}
 use lib.Ieee.Fits.{two, two-le-pos, down-pos, odd-fits}
 use lib.Ieee.Exact.{HasValue, odd-sign, units-val}
 use lib.Ieee.Order.{le-of-values}
 use lib.Ieee.Scale.{overflow}
-use lib.Ieee.Positive.{num, den, positive, positive-finite, den-pos, first-pos, value-pos, own-value, between, le→cross}
+use lib.Ieee.Positive.{num, den, positive, positive-finite, den-pos, first-pos, value-pos, own-value, between}
 use Rattle.ieee.proofs.Range.Values.{Whole, whole, unique}
 use Rattle.sqrt.specs.Root.{roundRoot, squareRoot}
 use Rattle.sqrt.proofs.Grid.{rootDrop, rootKept, rootGrid, roundRoot-is, rootGrid-mono, rootGrid-exact, kept-le}
@@ -179,38 +177,6 @@ squareRoot-fits f (fin false (suc m) e) h =
     let n = suc m * up e * 2 ^ low f * 2 ^ low f in
     subst (λ (x : Float). T (fits f x)) (sym (roundRoot-is f (suc m * up e) (down e))) (units-fits f false (rootKept (prec f) n (down e)) (rootDrop (prec f) n (down e)) (kept-le (prec f) n (down e) (down-pos e)))
 
--- ---- a larger number
-
-clash : (x y z : ℕ) → x ≤ y → y < z → z ≤ x → ⊥
-clash x y z a b c = omega arith
-
-units-mono : (f : Format) (q j r k : ℕ) → q * 2 ^ j ≤ r * 2 ^ k → T (le (units f false q j) (units f false r k))
-unfolding units
-units-mono f q j r k h = go (ltb (q * 2 ^ j) (overflow f)) (ltb (r * 2 ^ k) (overflow f)) (nltb→le (q * 2 ^ j) (overflow f)) (ltb→lt (r * 2 ^ k) (overflow f))
-  where
-    go : (x y : Bool) → (T (not x) → overflow f ≤ q * 2 ^ j) → (T y → r * 2 ^ k < overflow f)
-        → T (le (cond x (odd (suc (prec f)) false q j (low f)) (inf false)) (cond y (odd (suc (prec f)) false r k (low f)) (inf false)))
-    go true true a b =
-        le-of-values (odd (suc (prec f)) false q j (low f)) (odd (suc (prec f)) false r k (low f)) (q * 2 ^ j) (2 ^ low f) (r * 2 ^ k) (2 ^ low f) (pow-pos (low f)) (pow-pos (low f))
-        (odd-sign (suc (prec f)) false q j (low f)) (odd-sign (suc (prec f)) false r k (low f)) (mul-le-mul-right (2 ^ low f) h)
-    go true false a b = le-inf (odd (suc (prec f)) false q j (low f)) (q * 2 ^ j) (2 ^ low f) (odd-sign (suc (prec f)) false q j (low f))
-    go false true a b = absurd (clash (q * 2 ^ j) (r * 2 ^ k) (overflow f) h (b tt) (a tt))
-    go false false a b = unfold le in tt
-
-pub roundRoot-mono : (f : Format) (a b c d : ℕ) → 0 < b → 0 < d → a * d ≤ c * b → T (le (roundRoot f a b) (roundRoot f c d))
-roundRoot-mono f a b c d B D h =
-    let l = 2 ^ low f in
-    let p = prec f in
-    subst (λ (z : Float). T (le z (roundRoot f c d))) (sym (roundRoot-is f a b))
-    (subst (λ (z : Float). T (le (units f false (rootKept p (a * l * l) b) (rootDrop p (a * l * l) b)) z)) (sym (roundRoot-is f c d))
-    (units-mono f (rootKept p (a * l * l) b) (rootDrop p (a * l * l) b) (rootKept p (c * l * l) d) (rootDrop p (c * l * l) d)
-    (rootGrid-mono p (a * l * l) b (c * l * l) d (two-le-pos p (two f)) B D (scaled-up a d c b l h))))
-
-pub squareRoot-mono : (f : Format) (x y : Float) → T (positive x) → T (positive y) → T (le x y) → T (le (squareRoot f x) (squareRoot f y))
-squareRoot-mono f x y p q h =
-    subst (λ (z : Float). T (le z (squareRoot f y))) (sym (squareRoot-is f x p))
-    (subst (λ (z : Float). T (le (roundRoot f (num x) (den x)) z)) (sym (squareRoot-is f y q)) (roundRoot-mono f (num x) (den x) (num y) (den y) (den-pos x) (den-pos y) (le→cross x y p q h)))
-
 -- ---- a value above zero that fits is known by its size
 positive-value : (x : Float) (a c : ℕ) → T (positive x) → num x * c ≡ a * den x → HasValue x false a c
 positive-value nan a c p e = absurd p
@@ -220,15 +186,6 @@ positive-value (fin false m d) a c p e = (refl, e)
 
 pub fits-unique : (f : Format) (x y : Float) → T (fits f x) → T (fits f y) → T (positive x) → T (positive y) → num x * den y ≡ num y * den x → x ≡ y
 fits-unique f x y h k p q e = unique f x y false (num y) (den y) (den-pos y) h k (positive-value x (num y) (den y) p e) (own-value y q)
-
-pub le-antisymm-positive : (f : Format) (x y : Float) → T (fits f x) → T (fits f y) → T (positive x) → T (positive y) → T (le x y) → T (le y x) → x ≡ y
-le-antisymm-positive f x y h k p q a b = fits-unique f x y h k p q (le-antisymm (le→cross x y p q a) (le→cross y x q p b))
-
--- ---- the root of y * y is y, where the format holds y * y
-pub squareRoot-exact : (f : Format) (x y : Float) → T (fits f x) → T (fits f y) → T (positive x) → T (positive y) → num x * (den y * den y) ≡ num y * num y * den x → squareRoot f x ≡ y
-squareRoot-exact f x y h k p q e =
-    le-antisymm-positive f (squareRoot f x) y (squareRoot-fits f x h) k (squareRoot-positive f x h p) q
-    (squareRoot-le f y x k q p (le-of-eq e)) (squareRoot-ge f y x k q p (le-of-eq (sym e)))
 
 -- ---- finite and not negative: -0 counts, and its root is -0
 abbrev pub notNegative : Float → Bool

@@ -5,17 +5,16 @@ use native.Mathlib.Nat.{le-trans, le-of-eq, le-of-lt, lt-of-lt-of-le, lt-of-le-o
 use native.Mathlib.Omega.{arith}
 use mathlib.Core.Bool.{Bool, true, false, not, _&&_, cond}
 use lib.Dec.{T, ltb, leb, eqb, eqb→eq, ltb→lt, nleb→lt, leb→le}
-use lib.Pow.{pow-add, pow-pos}
+use lib.Pow.{pow-pos}
 use lib.Ieee.{Float, nan, inf, fin, binary64, up, down, round, Format, prec, low, rem, fits}
 use lib.Ieee.Fits.{and-l, and-r}
 use lib.Ieee.Scale.{finite}
 use lib.Ieee.Positive.{num, den, den-pos, first-pos}
 use Rattle.ieee.specs.Range.{sgn, Mag, In, holds}
 use Rattle.ieee.proofs.Range.Round.{value-cross, value-finite}
-use Rattle.ieee.proofs.Range.Values.{Whole, whole}
+use Rattle.ieee.proofs.Range.Values.{split-pow, Whole, whole}
 use Rattle.ieee.proofs.Range.Laws.{plus-finite, rep-small, round-rep}
 use lib.Arith.{mod-mul}
-use lib.Ieee.Digits.{back}
 use lib.Ieee.Exact.{HasValue, round-exact}
 
 -- ---- a remainder of multiples
@@ -32,9 +31,6 @@ pub record Left (p A B : ℕ) : Type 0 where
   pub j : ℕ
   pub few : q < 2 ^ p
   pub is : A % B ≡ q * 2 ^ j
-
-split-pow : (n i j : ℕ) → i ≤ j → n * 2 ^ j ≡ n * 2 ^ (j - i) * 2 ^ i
-split-pow n i j h = ap (λ (x : ℕ). n * 2 ^ x) (sym (back j i h)) ∙ ap (λ (x : ℕ). n * x) (pow-add 2 (j - i) i) ∙ sym (mul-assoc n (2 ^ (j - i)) (2 ^ i))
 
 left : (p m i n j : ℕ) → m < 2 ^ p → n < 2 ^ p → 0 < n → Left p (m * 2 ^ i) (n * 2 ^ j)
 left p m i n j M N P = go (leb i j) (leb→le i j) (nleb→lt i j)

@@ -21,6 +21,9 @@ use Rattle.ieee.specs.Range.{sgn}
 pub pow-lt-back : (i p : ℕ) → 2 ^ i < 2 ^ p → i < p
 pow-lt-back i p h = lt-of-not-le (λ (g : p ≤ i). not-le-of-lt h (pow-mono g))
 
+pub split-pow : (n i j : ℕ) → i ≤ j → n * 2 ^ j ≡ n * 2 ^ (j - i) * 2 ^ i
+split-pow n i j h = ap (λ (x : ℕ). n * 2 ^ x) (sym (back j i h)) ∙ ap (λ (x : ℕ). n * x) (pow-add 2 (j - i) i) ∙ sym (mul-assoc n (2 ^ (j - i)) (2 ^ i))
+
 pub pow-le-back : (a l : ℕ) → 2 ^ a ≤ 2 ^ l → a ≤ l
 pow-le-back a l h = le-of-suc-le-suc (lt-of-not-le (λ (g : suc l ≤ a). lt-irrefl (2 ^ l) (lt-of-lt-of-le (pow-lt g) h)))
 
