@@ -4,6 +4,7 @@ pub mod Closest
 pub mod Grid
 pub mod Laws
 pub mod Square
+pub mod Nearest
 pub mod Range
 pub mod Examples
 mod Digits
