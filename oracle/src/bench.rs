@@ -1,0 +1,272 @@
+// Command bench: nanoseconds for a call, best of several runs, of each side; and their ratios.
+
+use crate::section2::{self, PI};
+use crate::sheets::largest;
+use crate::values::Rng;
+use std::hint::black_box;
+use std::time::Instant;
+
+/// A scalar function of one side, called through a pointer so that none is inlined into the loop.
+pub type Scalar = fn(f64, f64) -> f64;
+
+/// Where a surface stands.
+struct Place {
+    n_incident: f64,
+    n_substrate: f64,
+    angle: f64,
+    wavelength: f64,
+}
+
+/// A workload of one side: runs once over all places and gives a number that depends on every answer.
+pub type Work = Box<dyn Fn() -> f64>;
+
+/// The workloads over one of the two modules.
+macro_rules! side {
+    ($side:ident, $cos:path) => {
+        mod $side {
+            use super::{Place, Work};
+            use crate::sheet::{gate, Surface};
+            use crate::$side::fresnel::fresnel_dielectric;
+            use crate::$side::thin_film::{Coating, SurfaceCoating, ThinFilmLayer};
+
+            fn bare(place: &Place) -> [f64; 4] {
+                let cos = $cos(place.angle);
+                let (rs, rp) = fresnel_dielectric(cos, place.n_incident, place.n_substrate);
+                [rs, rp, 1.0 - rs, 1.0 - rp]
+            }
+
+            fn coated(coating: &SurfaceCoating, place: &Place) -> [f64; 4] {
+                let (n_incident, n_substrate) = (place.n_incident, place.n_substrate);
+                coating
+                    .evaluate(n_incident, n_substrate, place.angle, place.wavelength)
+                    .map(|r| {
+                        let (rs, rp) = (r.reflectance_s, r.reflectance_p);
+                        [rs, rp, r.transmittance_s, r.transmittance_p]
+                    })
+                    .unwrap_or([0.0; 4])
+            }
+
+            fn custom<'a>(layers: impl Iterator<Item = &'a [f64; 3]>) -> SurfaceCoating {
+                let layer = |[n, k, thickness_nm]: &[f64; 3]| ThinFilmLayer {
+                    n: *n,
+                    k: *k,
+                    thickness_nm: *thickness_nm,
+                };
+                SurfaceCoating::Custom(Coating::Multilayer {
+                    layers: layers.map(layer).collect(),
+                })
+            }
+
+            fn over(coating: SurfaceCoating, places: Vec<Place>) -> Work {
+                Box::new(move || places.iter().map(|p| coated(&coating, p)[2]).sum())
+            }
+
+            /// Gate (the same for both modules) and whole run of a sheet of custom surfaces.
+            fn run(bytes: &[u8]) -> f64 {
+                let Ok(sheet) = gate(bytes) else { return 0.0 };
+                let (mut s, mut p) = (sheet.s, sheet.p);
+                for surface in &sheet.surfaces {
+                    let [rs, rp, ts, tp] = answer(surface, sheet.wavelength);
+                    s *= if surface.reflected { rs } else { ts };
+                    p *= if surface.reflected { rp } else { tp };
+                }
+                s + p
+            }
+
+            fn answer(surface: &Surface, wavelength: f64) -> [f64; 4] {
+                let place = Place {
+                    n_incident: surface.n_incident,
+                    n_substrate: surface.n_substrate,
+                    angle: surface.angle,
+                    wavelength,
+                };
+                let layers: Vec<[f64; 3]> = surface
+                    .layers
+                    .iter()
+                    .map(|(_, film)| [film.n, film.k, film.thickness_nm])
+                    .collect();
+                coated(&custom(layers.iter()), &place)
+            }
+
+            pub fn works() -> Vec<Work> {
+                let layers = super::layers();
+                let places = super::places();
+                let sheet = super::largest().bytes();
+                vec![
+                    Box::new(move || places.iter().map(|p| bare(p)[2]).sum()),
+                    over(SurfaceCoating::mgf2_default(), super::places()),
+                    over(SurfaceCoating::HighReflectanceMirror, super::places()),
+                    over(custom(layers.iter().take(16)), super::places()),
+                    over(custom(layers.iter()), super::places()),
+                    Box::new(move || run(&sheet)),
+                ]
+            }
+        }
+    };
+}
+
+side!(authors, f64::cos);
+side!(reference, crate::section2::cos);
+
+/// The workloads, with the number of calls in each.
+pub const WORKS: [(&str, usize); 6] = [
+    ("bare surface", 64),
+    ("MgF2", 64),
+    ("15-layer mirror", 64),
+    ("16 custom layers", 64),
+    ("64 custom layers", 64),
+    ("whole run, 64 surfaces of 16 layers, with its gate", 1),
+];
+
+fn places() -> Vec<Place> {
+    let mut rng = Rng::new(3);
+    let place = |_| Place {
+        n_incident: rng.uniform(1.0, 1.5),
+        n_substrate: rng.uniform(1.5, 3.0),
+        angle: rng.uniform(0.0, 0.9),
+        wavelength: rng.uniform(400.0, 700.0),
+    };
+    (0..64).map(place).collect()
+}
+
+fn layers() -> Vec<[f64; 3]> {
+    let mut rng = Rng::new(4);
+    let layer = |_| [rng.uniform(1.3, 2.4), 0.0, rng.uniform(20.0, 300.0)];
+    (0..64).map(layer).collect()
+}
+
+pub fn reference_scalars() -> crate::proved::Scalars {
+    [
+        |x, _| section2::sqrt(x),
+        |x, _| section2::sin(x),
+        |x, _| section2::cos(x),
+        |x, _| section2::exp(x),
+        |x, _| section2::atan(x),
+        |x, _| section2::asin(x),
+        section2::atan2,
+    ]
+}
+
+fn authors_scalars() -> crate::proved::Scalars {
+    [
+        |x, _| x.sqrt(),
+        |x, _| x.sin(),
+        |x, _| x.cos(),
+        |x, _| x.exp(),
+        |x, _| x.atan(),
+        |x, _| x.asin(),
+        f64::atan2,
+    ]
+}
+
+/// The scalar rows: name, which of `proved::NAMES`, range of the arguments.
+const SCALARS: [(&str, usize, f64, f64); 9] = [
+    ("sqrt", 0, 0.0, 100.0),
+    ("sin, one turn", 1, -PI, PI),
+    ("sin, phases to 25000", 1, 0.0, 25_000.0),
+    ("cos, one turn", 2, -PI, PI),
+    ("cos, phases to 25000", 2, 0.0, 25_000.0),
+    ("exp", 3, -20.0, 20.0),
+    ("atan", 4, -4.0, 4.0),
+    ("asin", 5, -1.0, 1.0),
+    ("atan2", 6, -2.0, 2.0),
+];
+
+/// Nanoseconds for one call: the best of `runs` runs of `calls` calls each.
+fn best(runs: usize, calls: usize, mut work: impl FnMut() -> f64) -> f64 {
+    let mut least = f64::INFINITY;
+    for _ in 0..runs {
+        let start = Instant::now();
+        black_box(work());
+        least = least.min(start.elapsed().as_nanos() as f64 / calls as f64);
+    }
+    least
+}
+
+const CALLS: usize = 1 << 14;
+
+/// Calls that do not wait for each other.
+fn throughput(runs: usize, f: Scalar, arguments: &[(f64, f64)]) -> f64 {
+    let f = black_box(f);
+    best(runs, arguments.len(), || {
+        for (x, y) in arguments {
+            black_box(f(*x, *y));
+        }
+        0.0
+    })
+}
+
+/// Calls that each wait for the last: its result, masked to nothing, goes into the next argument.
+fn latency(runs: usize, f: Scalar, arguments: &[(f64, f64)]) -> f64 {
+    let f = black_box(f);
+    let mask = black_box(0_u64);
+    best(runs, arguments.len(), || {
+        let mut last = 0.0_f64;
+        for (x, y) in arguments {
+            let x = f64::from_bits(x.to_bits() ^ (last.to_bits() & mask));
+            last = f(x, *y);
+        }
+        last
+    })
+}
+
+/// A row: the sides' times, then the ratios reference/authors and, if it is there, proved/reference.
+fn row(name: &str, times: &[f64]) {
+    let mut line = format!("{name:<52}");
+    for time in times {
+        line += &format!(" {time:>11.1}");
+    }
+    for i in 1..times.len() {
+        line += &format!(" {:>18.2}", times[i] / times[i - 1]);
+    }
+    println!("{line}");
+}
+
+pub fn bench(runs: usize) {
+    let mut sides = vec![authors_scalars(), reference_scalars()];
+    sides.extend(crate::proved::scalars());
+    let mut heading = format!("{:<52}", "nanoseconds for a call");
+    for name in ["authors", "reference", "proved"].iter().take(sides.len()) {
+        heading += &format!(" {name:>11}");
+    }
+    for name in ["reference/authors", "proved/reference"]
+        .iter()
+        .take(sides.len() - 1)
+    {
+        heading += &format!(" {name:>18}");
+    }
+    println!("{heading}");
+    for (name, which, lo, hi) in SCALARS {
+        let mut rng = Rng::new(5);
+        let pair = |_| (rng.uniform(lo, hi), rng.uniform(lo, hi));
+        let arguments: Vec<(f64, f64)> = (0..CALLS).map(pair).collect();
+        let time = |how: fn(usize, Scalar, &[(f64, f64)]) -> f64| -> Vec<f64> {
+            sides
+                .iter()
+                .map(|side| how(runs, side[which], &arguments))
+                .collect()
+        };
+        row(name, &time(throughput));
+        row(
+            &format!("{name}, each waiting for the last"),
+            &time(latency),
+        );
+    }
+    let mut works = vec![authors::works(), reference::works()];
+    works.extend(crate::proved::works());
+    for (i, (name, calls)) in WORKS.iter().enumerate() {
+        let times: Vec<f64> = works
+            .iter()
+            .map(|side| best(runs, *calls, || side[i]()))
+            .collect();
+        row(name, &times);
+    }
+    let sheet = largest().bytes();
+    let gate = || crate::sheet::gate(&sheet).map_or(0.0, |sheet| sheet.s);
+    println!(
+        "{:<52} {:>11} {:>11.1}",
+        "gate of the longest sheet",
+        "",
+        best(runs, 1, gate)
+    );
+}

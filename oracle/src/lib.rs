@@ -1,0 +1,32 @@
+// The independent judge of the proved program: see README.md.
+
+#![allow(clippy::manual_is_multiple_of)]
+
+pub mod arguments;
+pub mod bench;
+pub mod cases;
+pub mod feed;
+pub mod functions;
+pub mod proved;
+pub mod record;
+pub mod section2;
+pub mod sheet;
+pub mod sheet_cases;
+pub mod sheets;
+pub mod train;
+pub mod values;
+
+/// The original files with section 2's meanings (made by build.rs).
+#[allow(clippy::all)]
+pub mod reference {
+    include!(concat!(env!("OUT_DIR"), "/reference.rs"));
+}
+
+/// The original files with the platform's functions (made by build.rs): for benchmarks only.
+#[allow(clippy::all)]
+pub mod authors {
+    include!(concat!(env!("OUT_DIR"), "/authors.rs"));
+}
+
+#[cfg(test)]
+mod tests;

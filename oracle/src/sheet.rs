@@ -1,0 +1,194 @@
+// Document 01, sections 1 and 3: the sheet's words and grammar (refusals 4 and 5) and the gate (refusal 6).
+
+use crate::reference::thin_film::{Coating, SurfaceCoating, ThinFilmLayer};
+use crate::section2::{abs, cos, sin};
+
+/// 01's number of a refusal, and its place (0 where there is none).
+#[derive(Clone, Copy, Debug, PartialEq)]
+pub struct Refusal {
+    pub number: u64,
+    pub place: u64,
+}
+
+fn refuse<X>(number: u64, place: usize) -> Result<X, Refusal> {
+    let place = place as u64;
+    Err(Refusal { number, place })
+}
+
+/// A sheet that follows the grammar.
+#[derive(Debug)]
+pub struct Sheet {
+    pub wavelength: f64,
+    pub s: f64,
+    pub p: f64,
+    pub surfaces: Vec<Surface>,
+}
+
+#[derive(Debug)]
+pub struct Surface {
+    /// The place of its kind word.
+    pub word: usize,
+    /// The lowest payload bit: follow the reflected light.
+    pub reflected: bool,
+    /// payload / 2.
+    pub coating: u32,
+    pub n_incident: f64,
+    pub n_substrate: f64,
+    pub angle: f64,
+    /// The LAYERs with the places of their kind words.
+    pub layers: Vec<(usize, ThinFilmLayer)>,
+}
+
+const MOST_SURFACES: usize = 64;
+const MOST_LAYERS: usize = 16;
+
+/// The whole gate: 4, then 5 over the sheet, then 6 over the sheet.
+pub fn gate(bytes: &[u8]) -> Result<Sheet, Refusal> {
+    let sheet = read(bytes)?;
+    limits(&sheet)?;
+    Ok(sheet)
+}
+
+/// Section 1: length and grammar.
+pub fn read(bytes: &[u8]) -> Result<Sheet, Refusal> {
+    if bytes.len() % 4 != 0 || bytes.len() < 36 || bytes.len() > 30_500 {
+        return refuse(4, 0);
+    }
+    let word = |chunk: &[u8]| u32::from_be_bytes([chunk[0], chunk[1], chunk[2], chunk[3]]);
+    let words: Vec<u32> = bytes.chunks(4).map(word).collect();
+    let floats = |at: usize| -> [f64; 3] {
+        std::array::from_fn(|i| {
+            let high = u64::from(words[at + 1 + 2 * i]);
+            let low = u64::from(words[at + 2 + 2 * i]);
+            f64::from_bits(high << 32 | low)
+        })
+    };
+    if words[0] != 0x1000_0001 {
+        return refuse(5, 0);
+    }
+    if words[1] != 0x2000_0000 {
+        return refuse(5, 1);
+    }
+    let [wavelength, s, p] = floats(1);
+    let mut surfaces: Vec<Surface> = Vec::new();
+    let mut at = 8;
+    loop {
+        if at == words.len() {
+            return refuse(5, at);
+        }
+        let (kind, payload) = (words[at] >> 28, words[at] & 0x0FFF_FFFF);
+        let floats_fit = at + 6 < words.len();
+        match kind {
+            3 => {
+                if surfaces.len() == MOST_SURFACES || payload > 15 || !floats_fit {
+                    return refuse(5, at);
+                }
+                let [n_incident, n_substrate, angle] = floats(at);
+                surfaces.push(Surface {
+                    word: at,
+                    reflected: payload % 2 == 1,
+                    coating: payload / 2,
+                    n_incident,
+                    n_substrate,
+                    angle,
+                    layers: Vec::new(),
+                });
+                at += 7;
+            }
+            4 => {
+                let Some(surface) = surfaces.last_mut() else {
+                    return refuse(5, at);
+                };
+                let full = surface.layers.len() == MOST_LAYERS;
+                if surface.coating != 5 || full || payload != 0 || !floats_fit {
+                    return refuse(5, at);
+                }
+                let [n, k, thickness_nm] = floats(at);
+                surface
+                    .layers
+                    .push((at, ThinFilmLayer { n, k, thickness_nm }));
+                at += 7;
+            }
+            5 => {
+                if payload as usize != surfaces.len() {
+                    return refuse(5, at);
+                }
+                if at + 1 < words.len() {
+                    return refuse(5, at + 1);
+                }
+                break;
+            }
+            _ => return refuse(5, at),
+        }
+    }
+    Ok(Sheet {
+        wavelength,
+        s,
+        p,
+        surfaces,
+    })
+}
+
+/// Section 3: the first BEAM, SURFACE or LAYER outside the limits.
+pub fn limits(sheet: &Sheet) -> Result<(), Refusal> {
+    let beam = within(sheet.wavelength, 100.0, 10_000.0)
+        && within(sheet.s, 0.0, 1.0)
+        && within(sheet.p, 0.0, 1.0);
+    if !beam {
+        return refuse(6, 1);
+    }
+    for surface in &sheet.surfaces {
+        if !surface_passes(surface) {
+            return refuse(6, surface.word);
+        }
+        for (word, layer) in &surface.layers {
+            if !layer_passes(surface, layer) {
+                return refuse(6, *word);
+            }
+        }
+    }
+    Ok(())
+}
+
+/// By value, both ends included; NaN is outside.
+fn within(x: f64, low: f64, high: f64) -> bool {
+    low <= x && x <= high
+}
+
+/// n_incident·abs(sin) at most 0.875·n, each product rounded once.
+fn bends(surface: &Surface, n: f64) -> bool {
+    surface.n_incident * abs(sin(surface.angle)) <= 0.875 * n
+}
+
+fn layer_passes(surface: &Surface, layer: &ThinFilmLayer) -> bool {
+    within(layer.n, 1.0, 4.0)
+        && layer.k == 0.0
+        && within(layer.thickness_nm, 0.0, 100_000.0)
+        && bends(surface, layer.n)
+}
+
+/// The SURFACE's own numbers and the layers of its preset.
+fn surface_passes(surface: &Surface) -> bool {
+    within(surface.n_incident, 1.0, 4.0)
+        && within(surface.n_substrate, 1.0, 4.0)
+        && surface.angle.is_finite()
+        && cos(surface.angle) >= 0.25
+        && bends(surface, surface.n_substrate)
+        && preset_layers(surface.coating)
+            .iter()
+            .all(|layer| layer_passes(surface, layer))
+}
+
+/// The layers of codes 2, 3 and 4, as the Rust lists them; none for the others.
+fn preset_layers(coating: u32) -> Vec<ThinFilmLayer> {
+    let preset = match coating {
+        2 => SurfaceCoating::mgf2_default(),
+        3 => SurfaceCoating::BroadbandAr,
+        4 => SurfaceCoating::HighReflectanceMirror,
+        _ => return Vec::new(),
+    };
+    match preset.to_coating(1.0) {
+        Coating::Multilayer { layers } => layers,
+        _ => Vec::new(),
+    }
+}

@@ -1,0 +1,276 @@
+// Sheets to try the gate and the train with: random ones, valid and damaged.
+
+use crate::section2::T;
+use crate::sheet::gate;
+use crate::values::{any, neighbour, Rng, CORE, LIMITS};
+
+/// A sheet before it is written.
+#[derive(Clone)]
+pub struct Plan {
+    /// Wavelength, s power, p power.
+    pub beam: [f64; 3],
+    pub surfaces: Vec<Face>,
+}
+
+#[derive(Clone)]
+pub struct Face {
+    pub payload: u32,
+    /// n_incident, n_substrate, angle.
+    pub numbers: [f64; 3],
+    /// n, k, thickness.
+    pub layers: Vec<[f64; 3]>,
+}
+
+/// Written words, with the places of the kind words that floats follow.
+pub struct Written {
+    pub words: Vec<u32>,
+    pub kinds: Vec<usize>,
+}
+
+impl Written {
+    fn block(&mut self, kind_word: u32, floats: [f64; 3]) {
+        self.kinds.push(self.words.len());
+        self.words.push(kind_word);
+        for x in floats {
+            let bits = x.to_bits();
+            self.words.extend([(bits >> 32) as u32, bits as u32]);
+        }
+    }
+
+    pub fn bytes(&self) -> Vec<u8> {
+        self.words
+            .iter()
+            .flat_map(|word| word.to_be_bytes())
+            .collect()
+    }
+}
+
+impl Plan {
+    pub fn write(&self) -> Written {
+        let mut out = Written {
+            words: vec![0x1000_0001],
+            kinds: Vec::new(),
+        };
+        out.block(0x2000_0000, self.beam);
+        for face in &self.surfaces {
+            out.block(0x3000_0000 | face.payload, face.numbers);
+            for layer in &face.layers {
+                out.block(0x4000_0000, *layer);
+            }
+        }
+        out.words.push(0x5000_0000 | self.surfaces.len() as u32);
+        out
+    }
+
+    pub fn bytes(&self) -> Vec<u8> {
+        self.write().bytes()
+    }
+}
+
+/// 01's example.
+pub fn example() -> Plan {
+    Plan {
+        beam: [500.0, 0.5, 0.5],
+        surfaces: vec![Face {
+            payload: 0,
+            numbers: [1.0, 3.0, 0.0],
+            layers: Vec::new(),
+        }],
+    }
+}
+
+/// A sheet with every kind of block: three surfaces, two of them with layers.
+pub fn varied() -> Plan {
+    let face = |payload, numbers, layers: &[[f64; 3]]| Face {
+        payload,
+        numbers,
+        layers: layers.to_vec(),
+    };
+    Plan {
+        beam: [550.0, 0.75, 0.5],
+        surfaces: vec![
+            face(10, [1.0, 1.5, 0.5], &[[1.38, 0.0, 100.0], [2.3, 0.0, 60.0]]),
+            face(1, [1.5, 1.0, 0.25], &[]),
+            face(11, [1.5, 1.5, -0.5], &[[1.46, -0.0, 0.0]]),
+        ],
+    }
+}
+
+/// The largest sheet, 30,500 bytes: 64 surfaces with 16 layers each.
+pub fn largest() -> Plan {
+    let mut rng = Rng::new(30_500);
+    let mut plan = random_plan(&mut rng, 0, 0);
+    for _ in 0..64 {
+        let face = valid_face(&mut rng, 10, 16);
+        plan.surfaces.push(face);
+    }
+    plan
+}
+
+fn index(rng: &mut Rng) -> f64 {
+    match rng.below(4) {
+        0 => rng.pick(&[1.0, 4.0, 1.38, 1.46, 1.5, 2.3, 3.0]),
+        _ => rng.uniform(1.0, 4.0),
+    }
+}
+
+fn layer(rng: &mut Rng) -> [f64; 3] {
+    let n = index(rng);
+    let k = rng.pick(&[0.0, 0.0, 0.0, -0.0]);
+    let thickness = match rng.below(6) {
+        0 => rng.pick(&[0.0, -0.0, 100_000.0, 88.0]),
+        1 => 550.0 / (4.0 * n),
+        2 => rng.uniform(0.0, 100_000.0),
+        3 => rng.log(-1074, 10),
+        _ => rng.uniform(0.0, 500.0),
+    };
+    [n, k, thickness]
+}
+
+/// A surface that passes the gate.
+fn valid_face(rng: &mut Rng, payload: u32, layers: usize) -> Face {
+    let code = payload / 2;
+    loop {
+        let mut face = Face {
+            payload,
+            numbers: [index(rng), index(rng), 0.0],
+            layers: Vec::new(),
+        };
+        if code == 5 {
+            face.layers.extend((0..layers).map(|_| layer(rng)));
+        }
+        let preset = match code {
+            2 => 1.38,
+            3 | 4 => 1.46,
+            _ => 4.0,
+        };
+        let thinnest = face.layers.iter().map(|layer| layer[0]);
+        let least = thinnest.fold(face.numbers[1].min(preset), f64::min);
+        let steepest = (0.875 * least / face.numbers[0]).min(0.968).asin();
+        let share = rng.pick(&[0.0, 0.5, 0.9, 1.0]);
+        let angle = steepest * if rng.one_in(3) { share } else { rng.unit() };
+        face.numbers[2] = rng.signed(angle);
+        if rng.one_in(5) {
+            let turns = rng.bits() >> (34 + rng.below(30));
+            face.numbers[2] += turns as f64 * T;
+        }
+        let alone = Plan {
+            beam: [550.0, 1.0, 1.0],
+            surfaces: vec![face.clone()],
+        };
+        if gate(&alone.bytes()).is_ok() {
+            return face;
+        }
+    }
+}
+
+/// A sheet that passes the gate, with so many surfaces and at most so many layers each.
+pub fn random_plan(rng: &mut Rng, surfaces: usize, layers: usize) -> Plan {
+    let power = |rng: &mut Rng| match rng.below(4) {
+        0 => rng.pick(&[0.0, -0.0, 1.0, 0.5, f64::from_bits(1)]),
+        _ => rng.unit(),
+    };
+    let wavelength = match rng.below(4) {
+        0 => rng.pick(&[100.0, 10_000.0, 550.0, 632.8]),
+        _ => rng.uniform(100.0, 10_000.0),
+    };
+    let beam = [wavelength, power(rng), power(rng)];
+    let mut list = Vec::new();
+    for _ in 0..surfaces {
+        let custom = rng.one_in(3);
+        let payload = if custom {
+            10 + rng.below(2)
+        } else {
+            rng.below(16)
+        };
+        let count = rng.below(layers + 1);
+        list.push(valid_face(rng, payload as u32, count));
+    }
+    Plan {
+        beam,
+        surfaces: list,
+    }
+}
+
+/// A sheet that passes the gate: most are short, a few as long as they may be.
+pub fn valid(rng: &mut Rng) -> Plan {
+    let layers = rng.pick(&[0, 2, 3, 3, 5, 8, 16]);
+    match rng.below(60) {
+        0 => random_plan(rng, 64, 16),
+        1 | 2 => {
+            let surfaces = rng.below(65);
+            random_plan(rng, surfaces, 3)
+        }
+        3..=12 => {
+            let surfaces = rng.below(12);
+            random_plan(rng, surfaces, layers)
+        }
+        _ => {
+            let surfaces = rng.below(4);
+            random_plan(rng, surfaces, layers)
+        }
+    }
+}
+
+/// Kind words, right and wrong.
+fn kind_word(rng: &mut Rng) -> u32 {
+    let payload = rng.pick(&[0, 1, 2, 3, 10, 11, 15, 16, 17, 64, 0x0100_000A, 0x0FFF_FFFF]);
+    let kind = rng.pick(&[0, 1, 2, 3, 3, 4, 4, 5, 5, 6, 7, 15]);
+    kind << 28 | payload
+}
+
+/// A sheet, damaged in one place.
+pub fn damaged(rng: &mut Rng) -> Vec<u8> {
+    let plan = valid(rng);
+    let mut out = plan.write();
+    let count = out.words.len();
+    let at = rng.below(count);
+    match rng.below(14) {
+        0 => {
+            let mut bytes = out.bytes();
+            bytes.truncate(rng.below(count * 4));
+            return bytes;
+        }
+        1 => out.words.truncate(at),
+        2 => out.words[at] ^= 1 << rng.below(32),
+        3 => out.words[at] = kind_word(rng),
+        4 => {
+            let kind = rng.pick(&out.kinds);
+            out.words[kind] = kind_word(rng);
+        }
+        5 => out.words.insert(at, kind_word(rng)),
+        6 => {
+            out.words.remove(at);
+        }
+        7 => out.words.push(kind_word(rng)),
+        8 => out.words[count - 1] = kind_word(rng),
+        9 => out.words[count - 1] = 0x5000_0000 | rng.below(67) as u32,
+        10 => {
+            let block = rng.pick(&out.kinds);
+            let into = rng.pick(&out.kinds);
+            let copy = out.words[block..block + 7].to_vec();
+            out.words.splice(into..into, copy);
+        }
+        _ => {
+            let kind = rng.pick(&out.kinds);
+            let field = kind + 1 + 2 * rng.below(3);
+            let x = match rng.below(3) {
+                0 => rng.pick(&CORE),
+                1 => neighbour(rng.pick(&LIMITS[..8]), rng.below(3) as i64 - 1),
+                _ => any(rng),
+            };
+            out.words[field] = (x.to_bits() >> 32) as u32;
+            out.words[field + 1] = x.to_bits() as u32;
+        }
+    }
+    out.bytes()
+}
+
+/// A random sheet: two of five are damaged.
+pub fn sheet(rng: &mut Rng) -> Vec<u8> {
+    if rng.below(5) < 2 {
+        damaged(rng)
+    } else {
+        valid(rng).bytes()
+    }
+}

@@ -1,0 +1,6 @@
+// Unit tests: section 2's edges, 01's known answers, sheets and trains, records.
+
+mod known;
+mod records;
+mod scalar;
+mod sheets;

@@ -1,0 +1,212 @@
+// 01's example and edges, each limit of the gate, and the train over random sheets.
+
+use crate::sheet::{gate, Refusal};
+use crate::sheet_cases::{cases, limits};
+use crate::sheets::{damaged, example, largest, sheet, valid, varied};
+use crate::train::{program, run, start, step, State};
+use crate::values::Rng;
+
+const EXAMPLE: [u32; 16] = [
+    0x10000001, 0x20000000, 0x407F4000, 0x00000000, 0x3FE00000, 0x00000000, 0x3FE00000, 0x00000000,
+    0x30000000, 0x3FF00000, 0x00000000, 0x40080000, 0x00000000, 0x00000000, 0x00000000, 0x50000001,
+];
+
+fn bytes(words: &[u32]) -> Vec<u8> {
+    words.iter().flat_map(|word| word.to_be_bytes()).collect()
+}
+
+fn refused(bytes: &[u8]) -> (u64, u64) {
+    match gate(bytes) {
+        Ok(sheet) => (0, sheet.surfaces.len() as u64),
+        Err(Refusal { number, place }) => (number, place),
+    }
+}
+
+#[test]
+fn the_example_prints_its_lines() {
+    assert_eq!(bytes(&EXAMPLE), example().bytes());
+    let lines = "1 T 3FD8000000000000 3FD8000000000000\nsum 3FE8000000000000\n";
+    assert_eq!(program(&bytes(&EXAMPLE)), lines);
+    assert_eq!(program(&[]), "refused 4 0\n");
+    assert_eq!(program(&[0; 36]), "refused 5 0\n");
+}
+
+#[test]
+fn edges() {
+    let with_wavelength = |x: f64| {
+        let mut plan = example();
+        plan.beam[0] = x;
+        refused(&plan.bytes())
+    };
+    assert_eq!(with_wavelength(100.0), (0, 1));
+    assert_eq!(with_wavelength(99.0), (6, 1));
+
+    let with_layers = |count: usize| {
+        let mut plan = example();
+        plan.surfaces[0].payload = 10;
+        plan.surfaces[0].layers = vec![[1.5, 0.0, 10.0]; count];
+        refused(&plan.bytes())
+    };
+    assert_eq!(with_layers(16), (0, 1));
+    assert_eq!(with_layers(17), (5, 8 + 7 + 16 * 7));
+
+    let with_surfaces = |count: usize| {
+        let mut plan = example();
+        plan.surfaces = vec![plan.surfaces[0].clone(); count];
+        refused(&plan.bytes())
+    };
+    assert_eq!(with_surfaces(0), (0, 0));
+    assert_eq!(with_surfaces(64), (0, 64));
+    assert_eq!(with_surfaces(65), (5, 8 + 64 * 7));
+}
+
+#[test]
+fn lengths() {
+    let whole = largest().bytes();
+    assert_eq!(whole.len(), 30_500);
+    assert_eq!(refused(&whole), (0, 64));
+    assert_eq!(refused(&whole[..30_496]), (5, 7_624));
+    assert_eq!(refused(&[whole.as_slice(), &[0; 4]].concat()), (4, 0));
+    assert_eq!(refused(&whole[..35]), (4, 0));
+    assert_eq!(refused(&whole[..32]), (4, 0));
+    assert_eq!(refused(&whole[..37]), (4, 0));
+}
+
+#[test]
+fn grammar() {
+    let changed = |place: usize, word: u32| {
+        let mut words = EXAMPLE;
+        words[place] = word;
+        refused(&bytes(&words))
+    };
+    // OPEN and BEAM.
+    for word in [0, 0x1000_0000, 0x1000_0002, 0x2000_0001] {
+        assert_eq!(changed(0, word), (5, 0));
+    }
+    for word in [0, 0x2000_0001, 0x3000_0000, 0x5000_0000] {
+        assert_eq!(changed(1, word), (5, 1));
+    }
+    // Payloads of a SURFACE, and kinds in its place.
+    for payload in 0..16 {
+        assert_eq!(changed(8, 0x3000_0000 | payload), (0, 1));
+    }
+    for word in [
+        0x3000_0010,
+        0x3000_010A,
+        0x3FFF_FFFF,
+        0,
+        0x4000_0000,
+        0x6000_0000,
+    ] {
+        assert_eq!(changed(8, word), (5, 8));
+    }
+    // An END too early: its count is looked at before the words after it.
+    assert_eq!(changed(8, 0x5000_0000), (5, 9));
+    assert_eq!(changed(8, 0x5000_0001), (5, 8));
+    // END's count; a LAYER after a bare surface; raw words past the end; END missing.
+    for word in [0x5000_0000, 0x5000_0002, 0x4000_0000, 0x3000_0000] {
+        assert_eq!(changed(15, word), (5, 15));
+    }
+    assert_eq!(refused(&bytes(&EXAMPLE[..15])), (5, 15));
+    assert_eq!(refused(&bytes(&EXAMPLE[..14])), (5, 8));
+    assert_eq!(refused(&bytes(&EXAMPLE[..9])), (5, 8));
+    let mut two_ends = EXAMPLE.to_vec();
+    two_ends.push(0x5000_0001);
+    assert_eq!(refused(&bytes(&two_ends)), (5, 16));
+    // 5 before 6.
+    let mut words = EXAMPLE;
+    words[2] = 0;
+    words[15] = 0x5000_0002;
+    assert_eq!(refused(&bytes(&words)), (5, 15));
+}
+
+#[test]
+fn each_limit_has_two_sides() {
+    for (inside, outside) in limits() {
+        assert!(gate(&inside).is_ok(), "{:?}", refused(&inside));
+        assert_eq!(refused(&outside).0, 6);
+    }
+}
+
+#[test]
+fn a_layer_at_fault_has_its_own_word_and_a_preset_its_surfaces() {
+    let mut plan = varied();
+    plan.surfaces[0].layers[1][1] = 1e-9;
+    assert_eq!(refused(&plan.bytes()), (6, 8 + 7 + 7));
+    let mut plan = example();
+    plan.surfaces[0].payload = 4;
+    plan.surfaces[0].numbers = [2.0, 4.0, 0.7];
+    assert_eq!(refused(&plan.bytes()), (6, 8));
+    plan.surfaces[0].payload = 0;
+    assert_eq!(refused(&plan.bytes()), (0, 1));
+}
+
+#[test]
+fn refusals_of_step_and_run() {
+    let sheet = varied().bytes();
+    let at = |done: u64| {
+        step(
+            &sheet,
+            State {
+                done,
+                s: 1.0,
+                p: 1.0,
+            },
+        )
+    };
+    let seven = Err(Refusal {
+        number: 7,
+        place: 0,
+    });
+    assert!(at(2).is_ok());
+    assert_eq!(at(3), seven);
+    assert_eq!(at(u64::MAX), seven);
+    let mut list = [7.0; 9];
+    let eight = Err(Refusal {
+        number: 8,
+        place: 0,
+    });
+    assert_eq!(run(&sheet, &mut list[..5]), eight);
+    assert_eq!(list, [7.0; 9]);
+    assert_eq!(run(&sheet, &mut list), Ok(3));
+    assert_eq!(list[6..], [7.0; 3]);
+    assert!(list[..6].iter().all(|x| *x < 1.0));
+}
+
+#[test]
+fn a_run_is_step_after_step_and_never_grows() {
+    let mut rng = Rng::new(12);
+    for _ in 0..300 {
+        let bytes = valid(&mut rng).bytes();
+        let sheet = gate(&bytes).expect("valid");
+        let count = sheet.surfaces.len();
+        let mut list = vec![0.0; 2 * count];
+        assert_eq!(run(&bytes, &mut list), Ok(count));
+        let mut state = start(&sheet);
+        for powers in list.chunks(2) {
+            let before = state;
+            state = step(&bytes, state).expect("valid");
+            assert_eq!(powers[0].to_bits(), state.s.to_bits());
+            assert_eq!(powers[1].to_bits(), state.p.to_bits());
+            assert!(0.0 <= state.s && state.s <= before.s);
+            assert!(0.0 <= state.p && state.p <= before.p);
+        }
+        assert_eq!(step(&bytes, state).map_err(|r| r.number), Err(7));
+    }
+}
+
+#[test]
+fn every_refusal_is_met() {
+    let mut met = [0; 7];
+    for bytes in cases() {
+        met[refused(&bytes).0 as usize] += 1;
+    }
+    assert!([0, 4, 5, 6].iter().all(|n| met[*n] > 20), "{met:?}");
+    let mut rng = Rng::new(13);
+    let mut met = [0; 7];
+    for _ in 0..2000 {
+        met[refused(&damaged(&mut rng)).0 as usize] += 1;
+        met[refused(&sheet(&mut rng)).0 as usize] += 1;
+    }
+    assert!([0, 4, 5, 6].iter().all(|n| met[*n] > 100), "{met:?}");
+}

@@ -1,0 +1,177 @@
+// Document 01, section 7: a surface's answers, the train's state, steps, the whole run and the program.
+
+use crate::reference::fresnel::fresnel_dielectric;
+use crate::reference::polarization::{
+    surface_coating_jones, surface_fresnel_jones, JonesMatrix, MuellerMatrix,
+};
+use crate::reference::thin_film::{Coating, CoatingResponse, SurfaceCoating};
+use crate::section2::cos;
+use crate::sheet::{gate, Refusal, Sheet, Surface};
+
+/// Surfaces done, s, p.
+#[derive(Clone, Copy, Debug, PartialEq)]
+pub struct State {
+    pub done: u64,
+    pub s: f64,
+    pub p: f64,
+}
+
+/// R_s, R_p, T_s, T_p.
+#[derive(Clone, Copy, Debug, PartialEq)]
+pub struct Powers {
+    pub reflected: [f64; 2],
+    pub transmitted: [f64; 2],
+}
+
+/// Section 4's response, or section 5's powers if the surface is bare.
+#[derive(Debug)]
+pub enum Light {
+    Bare(Powers),
+    Coated(CoatingResponse),
+}
+
+/// A surface's answers; the matrices are those of reflection and transmission.
+#[derive(Debug)]
+pub struct Answers {
+    pub light: Light,
+    pub jones: [JonesMatrix; 2],
+    pub mueller: [MuellerMatrix; 2],
+}
+
+fn coating(surface: &Surface) -> Option<SurfaceCoating> {
+    let layers = || {
+        surface
+            .layers
+            .iter()
+            .map(|(_, film)| film.clone())
+            .collect()
+    };
+    Some(match surface.coating {
+        0 => return None,
+        1 => SurfaceCoating::IdealAr,
+        2 => SurfaceCoating::MgF2 {
+            design_wavelength_nm: 550.0,
+        },
+        3 => SurfaceCoating::BroadbandAr,
+        4 => SurfaceCoating::HighReflectanceMirror,
+        5 => SurfaceCoating::Custom(Coating::Multilayer { layers: layers() }),
+        6 => SurfaceCoating::Custom(Coating::IdealBeamsplitter),
+        7 => SurfaceCoating::Custom(Coating::IdealMirror),
+        code => panic!("coating code {code}"),
+    })
+}
+
+/// The answers of a surface of an admitted sheet: the Rust refuses none of these.
+fn light(surface: &Surface, wavelength: f64) -> Light {
+    let (n_incident, n_substrate, angle) = (surface.n_incident, surface.n_substrate, surface.angle);
+    match coating(surface) {
+        None => {
+            let (rs, rp) = fresnel_dielectric(cos(angle), n_incident, n_substrate);
+            Light::Bare(Powers {
+                reflected: [rs, rp],
+                transmitted: [1.0 - rs, 1.0 - rp],
+            })
+        }
+        Some(coating) => Light::Coated(
+            coating
+                .evaluate(n_incident, n_substrate, angle, wavelength)
+                .expect("admitted"),
+        ),
+    }
+}
+
+pub fn answers(surface: &Surface, wavelength: f64) -> Answers {
+    let light = light(surface, wavelength);
+    let (reflection, transmission) = match &light {
+        Light::Coated(response) => surface_coating_jones(response),
+        Light::Bare(_) => {
+            surface_fresnel_jones(surface.n_incident, surface.n_substrate, surface.angle)
+                .expect("admitted")
+        }
+    };
+    Answers {
+        light,
+        jones: [reflection, transmission],
+        mueller: [reflection.to_mueller(), transmission.to_mueller()],
+    }
+}
+
+fn powers(light: &Light) -> Powers {
+    match light {
+        Light::Bare(powers) => *powers,
+        Light::Coated(r) => Powers {
+            reflected: [r.reflectance_s, r.reflectance_p],
+            transmitted: [r.transmittance_s, r.transmittance_p],
+        },
+    }
+}
+
+pub fn start(sheet: &Sheet) -> State {
+    State {
+        done: 0,
+        s: sheet.s,
+        p: sheet.p,
+    }
+}
+
+fn pass(sheet: &Sheet, surface: &Surface, state: State) -> State {
+    let powers = powers(&light(surface, sheet.wavelength));
+    let [s, p] = if surface.reflected {
+        powers.reflected
+    } else {
+        powers.transmitted
+    };
+    State {
+        done: state.done + 1,
+        s: state.s * s,
+        p: state.p * p,
+    }
+}
+
+/// One step: 4, 5, 6, 7 in that order, each with the state as before.
+pub fn step(bytes: &[u8], state: State) -> Result<State, Refusal> {
+    let sheet = gate(bytes)?;
+    if state.done >= sheet.surfaces.len() as u64 {
+        return Err(Refusal {
+            number: 7,
+            place: 0,
+        });
+    }
+    let surface = &sheet.surfaces[state.done as usize];
+    Ok(pass(&sheet, surface, state))
+}
+
+/// A whole run: 4, 5, 6, 8 in that order; the count of surfaces, and s, p after each of them in the list.
+pub fn run(bytes: &[u8], list: &mut [f64]) -> Result<usize, Refusal> {
+    let sheet = gate(bytes)?;
+    if list.len() < 2 * sheet.surfaces.len() {
+        return Err(Refusal {
+            number: 8,
+            place: 0,
+        });
+    }
+    let mut state = start(&sheet);
+    for (i, surface) in sheet.surfaces.iter().enumerate() {
+        state = pass(&sheet, surface, state);
+        list[2 * i] = state.s;
+        list[2 * i + 1] = state.p;
+    }
+    Ok(sheet.surfaces.len())
+}
+
+/// What the program `train` prints for a sheet.
+pub fn program(bytes: &[u8]) -> String {
+    let sheet = match gate(bytes) {
+        Ok(sheet) => sheet,
+        Err(refusal) => return format!("refused {} {}\n", refusal.number, refusal.place),
+    };
+    let mut state = start(&sheet);
+    let mut text = String::new();
+    for surface in &sheet.surfaces {
+        state = pass(&sheet, surface, state);
+        let letter = if surface.reflected { 'R' } else { 'T' };
+        let (s, p) = (state.s.to_bits(), state.p.to_bits());
+        text += &format!("{} {letter} {s:016X} {p:016X}\n", state.done);
+    }
+    text + &format!("sum {:016X}\n", (state.s + state.p).to_bits())
+}
