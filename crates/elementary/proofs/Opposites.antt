@@ -39,7 +39,7 @@ pub round-neg : (f : Format) (s : Bool) (N D : ℕ) → neg (round f s N D) ≡ 
 round-neg f s N D =
     ap neg (round-is f s N D) ∙ units-neg f s (kept (prec f) (N * 2 ^ low f) D) (drop (prec f) (N * 2 ^ low f) D) ∙ sym (round-is f (not s) N D)
 
-round-zero : (s : Bool) (c : ℕ) → 0 < c → round binary64 s 0 c ≡ fin s 0 (pos 0)
+pub round-zero : (s : Bool) (c : ℕ) → 0 < c → round binary64 s 0 c ≡ fin s 0 (pos 0)
 round-zero s c C = round-same binary64 s 0 c 0 1 C one (zero-mul 1 ∙ sym (zero-mul c)) ∙ at s
   where
     one : 0 < 1

@@ -10,3 +10,4 @@ pub mod Powers
 pub mod Rem
 pub mod Zero
 pub mod Ratio
+pub mod FromZero

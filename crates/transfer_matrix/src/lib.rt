@@ -3,6 +3,7 @@
 // A stack is begun at the incident medium, takes each layer in turn, and is finished at the
 // substrate. Whoever has layers, in a list, by index or in a sheet, calls these three.
 ghost use mathlib.Core.Path.{_≡_};
+ghost use Rattle.elementary.specs.Exp.{exp};
 ghost use Rattle.complex.specs.Complex.{mul, div};
 ghost use Rattle.transfer_matrix.specs.Matrix.{matrix, dot, mat-mul};
 ghost use Rattle.transfer_matrix.specs.Layer.{cos-theta, cos-delta, i-sin-delta};
@@ -107,11 +108,27 @@ struct Phase {
     i_sin: Complex,
 }
 
+// e^x, at once where x is a zero.
+fn exp_of(x: f64) -> f64
+    ensures { λ r. ⌜ r ≡ exp x ⌝ }
+{
+    if x == 0.0 {
+        1.0
+    } else {
+        elementary::exp(x)
+    }
+}
+
+// Both exponentials from one sine and one cosine: -sin(x) stands for sin(-x). Where these differ,
+// both are zeros, and the sum and the difference of the exponentials have the same bits.
 fn phase_of(delta: Complex) -> Phase
     ensures { λ r. ⌜ r ≡ record { cos = cos-delta delta; «i_sin» = i-sin-delta delta } ⌝ }
 {
-    let exp_pos = Complex::new(-delta.im, delta.re).exp();
-    let exp_neg = Complex::new(delta.im, -delta.re).exp();
+    let y = elementary::sin_cos(delta.re);
+    let pos = exp_of(-delta.im);
+    let neg = exp_of(delta.im);
+    let exp_pos = Complex::new(pos * y.cos, pos * y.sin);
+    let exp_neg = Complex::new(neg * y.cos, neg * -y.sin);
     let cos_delta = exp_pos.add(exp_neg).scale(0.5);
     let sin_delta = exp_pos.sub(exp_neg).mul(Complex::new(0.0, -0.5));
     Phase {
