@@ -79,6 +79,17 @@ impl Complex {
     pub fn sqrt(self) -> Self
         ensures { λ r. ⌜ r ≡ sqrt self ⌝ }
     {
+        if self.im == 0.0 {
+            if self.re >= 0.0009765625 {
+                if self.re <= 1024.0 {
+                    // the norm is the real part itself
+                    return Self {
+                        re: half_root(self.re + self.re),
+                        im: 0.0,
+                    };
+                }
+            }
+        }
         let r = self.norm();
         let u = half_root(r + self.re);
         let v = half_root(r - self.re);

@@ -1,12 +1,14 @@
 -- `complex::Complex::sqrt` meets its contract. Assumes nothing.
-use mathlib.Core.Path.{_≡_}
+use mathlib.Core.Path.{_≡_, ap, _∙_, sym, subst}
 use mathlib.Core.Bool.{true, false}
-use borrow.Author.Needs.{needs}
-use lib.Ieee.{Float, neg, le}
+use lib.Dec.{T}
+use lib.Ieee.{Float, binary64, neg, le, fits}
 use Rattle.ieee.specs.Operators.{_⊕_, _⊖_}
 use Rattle.ieee.specs.Functions.{zero-f}
 use Rattle.complex.specs.declared.Complex.{Complex}
 use Rattle.complex.specs.Complex.{norm, half-root, sqrt}
+use Rattle.complex.proofs.RealRoot.{root-is}
+use borrow.Author.Needs.{needs}
 use Rattle.complex.proofs.Complex.sqrt.Statement.{statement}
 use Rattle.complex.proofs.Complex.sqrt.Tie as tie
 
@@ -19,20 +21,38 @@ module _ (z : Complex) (r u v : Float) (r-is : r ≡ norm z) (u-is : u ≡ half-
   unfolding sqrt
   lower e = simp (e, u-is, v-is, r-is)
 
-norm-requires : tie.Need-norm-requires
-norm-requires c κs = search needs
-
 half-root-requires : tie.Need-half-root-requires
 half-root-requires c κs = search needs
+
+returns : tie.Need-returns
+returns c =
+    let g = c .before .before .before .before .before .before .before .before .good in
+    let held : T (fits binary64 (c .before .before .before .before .before .before .before .before .args .self .re)) = subst T (sym (g .0 .1 .1 .0 .1)) tt in
+    ap (λ (x : Float). record { re = x; im = zero-f }) (c .half-root .ensures) ∙ root-is _ held (c .before .before .before .before .before .before .if1 .taken) (c .before .before .before .before .if2 .taken) (c .before .before .if3 .taken)
+
+norm-requires : tie.Need-norm-requires
+norm-requires c κs = search needs
 
 half-root-requires-2 : tie.Need-half-root-requires-2
 half-root-requires-2 c κs = search needs
 
-returns : tie.Need-returns
-returns c = upper _ _ _ _ (c .before .before .before .before .before .before .norm .ensures) (c .before .before .before .before .half-root .ensures) (c .before .before .half-root2 .ensures) (c .if1 .taken)
+half-root-requires-3 : tie.Need-half-root-requires-3
+half-root-requires-3 c κs = search needs
 
 returns-2 : tie.Need-returns-2
-returns-2 c = lower _ _ _ _ (c .before .before .before .before .before .before .norm .ensures) (c .before .before .before .before .half-root .ensures) (c .before .before .half-root2 .ensures) (c .if1 .left)
+returns-2 c = upper _ _ _ _ (c .before .before .before .before .before .before .norm .ensures) (c .before .before .before .before .half-root2 .ensures) (c .before .before .half-root3 .ensures) (c .if4 .taken)
+
+returns-3 : tie.Need-returns-3
+returns-3 c = lower _ _ _ _ (c .before .before .before .before .before .before .norm .ensures) (c .before .before .before .before .half-root2 .ensures) (c .before .before .half-root3 .ensures) (c .if4 .left)
 
 pub sqrt-spec : {M : Type 1} → statement M
-sqrt-spec = tie.close (tie.spec norm-requires half-root-requires half-root-requires-2 returns returns-2)
+sqrt-spec =
+    tie.close
+    (tie.spec
+    half-root-requires
+    returns
+    norm-requires
+    half-root-requires-2
+    half-root-requires-3
+    returns-2
+    returns-3)

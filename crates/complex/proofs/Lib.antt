@@ -1,0 +1,2 @@
+-- Laws of complex numbers.
+pub mod RealRoot
