@@ -2,4 +2,5 @@
 pub mod Root
 pub mod Steps
 pub mod Nearest
+pub mod Known
 pub mod RootLaw
