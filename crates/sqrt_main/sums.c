@@ -1,5 +1,5 @@
 // What sqrt_main has to write, by the machine's square root. In this folder:
-//     cc -O2 -fno-math-errno -ffp-contract=off -o /tmp/sums sums.c -lm && /tmp/sums > stdout
+//     cc -O2 -fno-math-errno -ffp-contract=off -o sums sums.c -lm && ./sums > stdout && rm sums
 #include <math.h>
 #include <stdint.h>
 #include <stdio.h>
