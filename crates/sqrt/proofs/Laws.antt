@@ -171,7 +171,7 @@ unfolding squareRoot
 squareRoot-fits f nan h = h
 squareRoot-fits f (inf true) h = unfold fits in tt
 squareRoot-fits f (inf false) h = h
-squareRoot-fits f (fin s zero e) h = h
+squareRoot-fits f (fin s zero e) h = unfold fits in h
 squareRoot-fits f (fin true (suc m) e) h = unfold fits in tt
 squareRoot-fits f (fin false (suc m) e) h =
     let n = suc m * up e * 2 ^ low f * 2 ^ low f in

@@ -6,7 +6,7 @@ pub mod Laws
 pub mod Square
 pub mod Nearest
 pub mod Range
-pub mod Examples
+pub mod Known
 mod Digits
 mod Halves
 mod Patterns

@@ -19,7 +19,7 @@ use Rattle.ieee.proofs.Count.{count-of}
 use Rattle.ieee.proofs.Range.Round.{value-cross}
 use Rattle.ieee.proofs.Range.Laws.{plus-finite}
 use Rattle.ieee.proofs.Range.Values.{split-pow, Whole, whole}
-use Rattle.sqrt.specs.Root.{squareRoot, sqrt}
+use Rattle.sqrt.specs.Root.{midSquare, squareRoot, sqrt}
 use Rattle.sqrt.specs.Nearest.{square, RootIsNearest}
 use Rattle.sqrt.proofs.Closest.{Half, closestRoot-half, closestRoot-same}
 use Rattle.sqrt.proofs.Grid.{rootDrop, rootKept, roundRoot-is, root-reaches, kept-ge}
@@ -45,13 +45,13 @@ odd-le s m a b o e = go (leb b a) (leb→le b a) (nleb→lt b a)
         (le-of-eq (eq-of-mul-eq-mul-right (2 ^ b) (pow-pos b) (s * 2 ^ (a - b)) m (sym (split-pow s b a (h tt)) ∙ e))))
     go false h k = absurd (no-lower s m a b o (k tt) e)
 
-odd-square : (g : ℕ) → (2 * g + 1) * (2 * g + 1) % 2 ≡ 1
+odd-square : (g : ℕ) → midSquare g % 2 ≡ 1
 odd-square g = omega arith
 
 -- ---- no tie: the square of (2 * a + 1) / 2 * 2 ^ k is not m * 2 ^ t, for an m of p digits
-no-tie : (p m t k a : ℕ) → m < 2 ^ p → (0 < k → 2 ^ p ≤ (2 * a + 1) * (2 * a + 1)) → (2 * a + 1) * (2 * a + 1) * (2 ^ k * 2 ^ k) ≡ 4 * (m * 2 ^ t) → ⊥
+no-tie : (p m t k a : ℕ) → m < 2 ^ p → (0 < k → 2 ^ p ≤ midSquare a) → midSquare a * (2 ^ k * 2 ^ k) ≡ 4 * (m * 2 ^ t) → ⊥
 no-tie p m t k a few big e =
-    let s = (2 * a + 1) * (2 * a + 1) in
+    let s = midSquare a in
     let d : s * 2 ^ (k + k) ≡ m * 2 ^ (t + 2) = ap (λ (z : ℕ). s * z) (pow-add 2 k k) ∙ e ∙ four m (2 ^ t) ∙ ap (λ (z : ℕ). m * z) (sym (pow-add 2 t 2)) in
     elim (eq-zero-or-pos k) [
       | inl z ↦ no-lower s m (k + k) (t + 2) (odd-square a) (none k t z) d
@@ -73,7 +73,7 @@ module _ (p m t k g : ℕ) (P : 2 ≤ p) (few : m < 2 ^ p) (half : Half (m * 2 ^
       step : (p : ℕ) → 2 ≤ p → p ≡ suc (p - 1)
       step p h = omega arith
 
-  low-end : (2 * g + 1) * (2 * g + 1) * (2 ^ k * 2 ^ k) < 4 * (m * 2 ^ t)
+  low-end : midSquare g * (2 ^ k * 2 ^ k) < 4 * (m * 2 ^ t)
   low-end =
       lt-of-le-ne (subst (λ (z : ℕ). z * z * (2 ^ k * 2 ^ k) ≤ 4 * (m * 2 ^ t)) (odd g) (half .0))
       (no-tie p m t k g few (λ (K : 0 < k). at-least g (2 ^ p) (le-trans (pow-mono P) (le-of-eq refl)) (digits K)))
@@ -81,13 +81,13 @@ module _ (p m t k g : ℕ) (P : 2 ≤ p) (few : m < 2 ^ p) (half : Half (m * 2 ^
       odd : (g : ℕ) → 2 * suc g - 1 ≡ 2 * g + 1
       odd g = omega arith
 
-      at-least : (g y : ℕ) → 4 ≤ y → y ≤ 2 * suc g → y ≤ (2 * g + 1) * (2 * g + 1)
+      at-least : (g y : ℕ) → 4 ≤ y → y ≤ 2 * suc g → y ≤ midSquare g
       at-least g y f h = omega arith
 
-  high-end : 4 * (m * 2 ^ t) < (2 * suc g + 1) * (2 * suc g + 1) * (2 ^ k * 2 ^ k)
-  high-end = lt-of-le-ne (half .1) (λ (e : 4 * (m * 2 ^ t) ≡ (2 * suc g + 1) * (2 * suc g + 1) * (2 ^ k * 2 ^ k)). no-tie p m t k (suc g) few (λ (K : 0 < k). at-least g (2 ^ p) (digits K)) (sym e))
+  high-end : 4 * (m * 2 ^ t) < midSquare (suc g) * (2 ^ k * 2 ^ k)
+  high-end = lt-of-le-ne (half .1) (λ (e : 4 * (m * 2 ^ t) ≡ midSquare (suc g) * (2 ^ k * 2 ^ k)). no-tie p m t k (suc g) few (λ (K : 0 < k). at-least g (2 ^ p) (digits K)) (sym e))
     where
-      at-least : (g y : ℕ) → y ≤ 2 * suc g → y ≤ (2 * suc g + 1) * (2 * suc g + 1)
+      at-least : (g y : ℕ) → y ≤ 2 * suc g → y ≤ midSquare (suc g)
       at-least g y h = omega arith
 
   -- a value n * 2 ^ i of few digits with a smaller unit is below 2 ^ (p - 1) * 2 ^ k

@@ -13,7 +13,7 @@ use lib.Ieee.Digits.{size-lt, size-le, size-reaches, back}
 use lib.Ieee.Fits.{two, two-le-pos}
 use Rattle.ieee.proofs.Range.Relative.{Cmp, cmp, near}
 use Rattle.ieee.proofs.Range.Values.{Whole, whole, pow-lt-back}
-use Rattle.sqrt.specs.Root.{isqrt, closestRoot, squareRoot}
+use Rattle.sqrt.specs.Root.{midSquare, isqrt, closestRoot, squareRoot}
 use Rattle.sqrt.proofs.Closest.{isqrt-ge, isqrt-below, closestRoot-is}
 use Rattle.sqrt.proofs.Grid.{rootDrop, rootKept, rootGrid, roundRoot-is, roundRoot-same, rootDrop-in, rootGrid-exact, kept-le, size-gt}
 use Rattle.sqrt.proofs.Laws.{squareRoot-is, units-fits, fits-unique}
@@ -24,22 +24,22 @@ use lib.Ieee.Positive.{num, den, positive, positive-finite, den-pos, own-value, 
 
 -- ---- g is the nearest root where n / b is between the squares of g - 1 / 2 and g + 1 / 2
 
-pub closestRoot-near : (n b g : ℕ) → 0 < b → (2 * g + 1) * (2 * g + 1) * b < 4 * n → 4 * n < (2 * g + 3) * (2 * g + 3) * b → closestRoot n b ≡ suc g
+pub closestRoot-near : (n b g : ℕ) → 0 < b → midSquare g * b < 4 * n → 4 * n < (2 * g + 3) * (2 * g + 3) * b → closestRoot n b ≡ suc g
 closestRoot-near n b g B lo hi =
     let q = isqrt (n / b) in
     let a : g ≤ q = isqrt-ge (n / b) g (le-div-iff-mul-le B .1 (down g n b (le-of-lt lo))) in
     let c : q < suc (suc g) = isqrt-below (n / b) (suc (suc g)) (div-lt-iff-lt-mul B .1 (up g n b hi)) in
-    closestRoot-is n b ∙ go q a (le-of-suc-le-suc c) (compare (4 * n) ((2 * q + 1) * (2 * q + 1) * b)) (cmp (4 * n) ((2 * q + 1) * (2 * q + 1) * b))
+    closestRoot-is n b ∙ go q a (le-of-suc-le-suc c) (compare (4 * n) (midSquare q * b)) (cmp (4 * n) (midSquare q * b))
   where
-    down : (g n b : ℕ) → (2 * g + 1) * (2 * g + 1) * b ≤ 4 * n → g * g * b ≤ n
+    down : (g n b : ℕ) → midSquare g * b ≤ 4 * n → g * g * b ≤ n
     down g n b h = omega arith
 
     up : (g n b : ℕ) → 4 * n < (2 * g + 3) * (2 * g + 3) * b → n < suc (suc g) * suc (suc g) * b
     up g n b h = omega arith
 
-    pick : (q : ℕ) (o : Ordering) → q ≡ g → Cmp o (4 * n) ((2 * q + 1) * (2 * q + 1) * b) → nearest q o ≡ suc g
-    pick q Ordering·lt e c = absurd (not-le-of-lt (subst (λ (x : ℕ). 4 * n < (2 * x + 1) * (2 * x + 1) * b) e c) (le-of-lt lo))
-    pick q Ordering·eq e c = absurd (not-le-of-lt lo (le-of-eq (subst (λ (x : ℕ). 4 * n ≡ (2 * x + 1) * (2 * x + 1) * b) e c)))
+    pick : (q : ℕ) (o : Ordering) → q ≡ g → Cmp o (4 * n) (midSquare q * b) → nearest q o ≡ suc g
+    pick q Ordering·lt e c = absurd (not-le-of-lt (subst (λ (x : ℕ). 4 * n < midSquare x * b) e c) (le-of-lt lo))
+    pick q Ordering·eq e c = absurd (not-le-of-lt lo (le-of-eq (subst (λ (x : ℕ). 4 * n ≡ midSquare x * b) e c)))
     pick q Ordering·gt e c = ap suc e
 
     over : (x : ℕ) → (2 * suc x + 1) * (2 * suc x + 1) * b ≡ (2 * x + 3) * (2 * x + 3) * b
@@ -48,12 +48,12 @@ closestRoot-near n b g B lo hi =
         three : (x : ℕ) → 2 * suc x + 1 ≡ 2 * x + 3
         three x = omega arith
 
-    pick′ : (q : ℕ) (o : Ordering) → q ≡ suc g → Cmp o (4 * n) ((2 * q + 1) * (2 * q + 1) * b) → nearest q o ≡ suc g
+    pick′ : (q : ℕ) (o : Ordering) → q ≡ suc g → Cmp o (4 * n) (midSquare q * b) → nearest q o ≡ suc g
     pick′ q Ordering·lt e c = e
-    pick′ q Ordering·eq e c = absurd (not-le-of-lt hi (le-of-eq (sym (over g) ∙ sym (subst (λ (x : ℕ). 4 * n ≡ (2 * x + 1) * (2 * x + 1) * b) e c))))
-    pick′ q Ordering·gt e c = absurd (not-le-of-lt hi (le-of-lt (lt-of-le-of-lt (le-of-eq (sym (over g))) (subst (λ (x : ℕ). (2 * x + 1) * (2 * x + 1) * b < 4 * n) e c))))
+    pick′ q Ordering·eq e c = absurd (not-le-of-lt hi (le-of-eq (sym (over g) ∙ sym (subst (λ (x : ℕ). 4 * n ≡ midSquare x * b) e c))))
+    pick′ q Ordering·gt e c = absurd (not-le-of-lt hi (le-of-lt (lt-of-le-of-lt (le-of-eq (sym (over g))) (subst (λ (x : ℕ). midSquare x * b < 4 * n) e c))))
 
-    go : (q : ℕ) → g ≤ q → q ≤ suc g → (o : Ordering) → Cmp o (4 * n) ((2 * q + 1) * (2 * q + 1) * b) → nearest q o ≡ suc g
+    go : (q : ℕ) → g ≤ q → q ≤ suc g → (o : Ordering) → Cmp o (4 * n) (midSquare q * b) → nearest q o ≡ suc g
     go q a c o k = elim (eq-or-lt-of-le a) [ inl e ↦ pick q o (sym e) k | inr l ↦ pick′ q o (le-antisymm c l) k ]
 
 -- ---- the rounded square W of G * 2 ^ k, with E for 4 ^ k and U for the unit that W is rounded to
@@ -62,10 +62,10 @@ closestRoot-near n b g B lo hi =
 half-above : (g E U W : ℕ) → 0 < E → 2 * W ≤ 2 * (suc g * suc g * E) + U → U ≤ 2 * g * E → 4 * W < (2 * g + 3) * (2 * g + 3) * E
 half-above g E U W v a b = omega arith
 
-half-below : (g E U W : ℕ) → 0 < E → 2 * (suc g * suc g * E) ≤ 2 * W + U → U ≤ 2 * g * E → (2 * g + 1) * (2 * g + 1) * E < 4 * W
+half-below : (g E U W : ℕ) → 0 < E → 2 * (suc g * suc g * E) ≤ 2 * W + U → U ≤ 2 * g * E → midSquare g * E < 4 * W
 half-below g E U W v a b = omega arith
 
-at-least : (g E W : ℕ) → (2 * g + 1) * (2 * g + 1) * E < 4 * W → g * g * E ≤ W
+at-least : (g E W : ℕ) → midSquare g * E < 4 * W → g * g * E ≤ W
 at-least g E W h = omega arith
 
 at-most : (g E W : ℕ) → 4 * W < (2 * g + 3) * (2 * g + 3) * E → W < suc (suc g) * suc (suc g) * E
@@ -144,12 +144,12 @@ inner p D l k g K C N P pos-C e up down least lo hi =
     let c : 2 ^ (p - 1) * 2 ^ (D + l) ≤ suc g * suc g * E = subst (λ (x : ℕ). 2 ^ (p - 1) * x ≤ suc g * suc g * E) (sym (pow-add 2 D l)) (unit N L (suc g) E C K B pos-C e (2 ^ (p - 1)) least) in
     let u : B * L ≤ 2 * g * E = le-trans (le-of-eq (sym (pow-add 2 D l))) (le-trans (unit-le p (D + l) k (suc g) P c hi) (mul-le-mul-right E (le-trans (le-of-eq (double p P)) (mul-le-mul-left 2 lo)))) in
     let x : 4 * W < (2 * g + 3) * (2 * g + 3) * E = half-above g E (B * L) W (pow-pos (k + k)) a u in
-    let y : (2 * g + 1) * (2 * g + 1) * E < 4 * W = half-below g E (B * L) W (pow-pos (k + k)) b u in
+    let y : midSquare g * E < 4 * W = half-below g E (B * L) W (pow-pos (k + k)) b u in
     let f : E * L ≡ L * Q * Q = ap (λ (z : ℕ). z * L) (square-of-power k) ∙ mul-comm (Q * Q) L ∙ sym (mul-assoc L Q Q) in
     let n = W * L in
     let nearby : closestRoot n (L * Q * Q) ≡ suc g =
     closestRoot-near n (L * Q * Q) g (mul-pos (mul-pos (pow-pos l) (pow-pos k)) (pow-pos k))
-    (lt-of-le-of-lt (le-of-eq (ap (λ (z : ℕ). (2 * g + 1) * (2 * g + 1) * z) (sym f) ∙ sym (mul-assoc ((2 * g + 1) * (2 * g + 1)) E L))) (lt-of-lt-of-le (mul-lt-mul-of-pos-right y (pow-pos l)) (le-of-eq (mul-assoc 4 W L))))
+    (lt-of-le-of-lt (le-of-eq (ap (λ (z : ℕ). midSquare g * z) (sym f) ∙ sym (mul-assoc (midSquare g) E L))) (lt-of-lt-of-le (mul-lt-mul-of-pos-right y (pow-pos l)) (le-of-eq (mul-assoc 4 W L))))
     (lt-of-le-of-lt (le-of-eq (sym (mul-assoc 4 W L))) (lt-of-lt-of-le (mul-lt-mul-of-pos-right x (pow-pos l)) (le-of-eq (mul-assoc ((2 * g + 3) * (2 * g + 3)) E L ∙ ap (λ (z : ℕ). (2 * g + 3) * (2 * g + 3) * z) f)))) in
     let d : rootDrop p n L ≡ k =
     rootDrop-in p n L k P (pow-pos l)

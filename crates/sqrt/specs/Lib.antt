@@ -1,5 +1,6 @@
--- The square root's definition, what the functions on the way to it say, and what proofs of ranges ask of it.
+-- The square root's definition, the claim that it is the nearest f64, and what its callers and its own functions are told.
 pub mod Root
 pub mod Steps
 pub mod Nearest
+pub mod Known
 pub mod RootLaw
