@@ -2,4 +2,6 @@
 pub mod Signs
 pub mod Patterns
 pub mod Range
+pub mod Rounding
+pub mod Count
 pub mod Fmod

@@ -1,5 +1,6 @@
 -- The laws of ranges, from rounding up.
 pub mod Round
+pub mod Values
 pub mod Relative
 pub mod Laws
 pub mod Sums

@@ -23,7 +23,7 @@ pub of-true : (b : Bool) → b ≡ true → T b
 of-true true e = tt
 of-true false e = absurd (false≢true e)
 
-and-true : (a b : Bool) → (a && b) ≡ true → T a
+pub and-true : (a b : Bool) → (a && b) ≡ true → T a
 and-true true b e = tt
 and-true false b e = absurd (false≢true e)
 
@@ -43,7 +43,7 @@ pub abs-negative : (x : Float) → lt x (ofBits binary64 0) ≡ true → neg x �
 abs-negative x e = abs-below x (ap (lt x) (sym zero-is) ∙ e)
 
 -- ---- equal to zero: a zero of either sign, written in the one way
-not-zero : (m u v : ℕ) → 0 < u → suc m * u * 1 ≡ 0 * 1 * v → ⊥
+pub not-zero : (m u v : ℕ) → 0 < u → suc m * u * 1 ≡ 0 * 1 * v → ⊥
 not-zero m u v U e = lt-irrefl 0 (subst (λ (x : ℕ). 0 < x) (sym (mul-one (suc m * u)) ∙ e ∙ ap (λ (x : ℕ). x * v) (zero-mul 1) ∙ zero-mul v) (mul-pos (zero-lt-suc m) U))
 
 twice : (p : ℕ) → 0 < p → p * 2 ≡ 1 → ⊥
@@ -69,14 +69,14 @@ abs-zero x f e = zero-is ∙ zero-abs x f (ap (eq x) (sym zero-is) ∙ e)
 nothing : (u : ℕ) → 0 * u * 1 ≡ 0
 nothing u = mul-one (0 * u) ∙ zero-mul u
 
-nothing′ : (v : ℕ) → 0 * 1 * v ≡ 0
+pub nothing′ : (v : ℕ) → 0 * 1 * v ≡ 0
 nothing′ v = ap (λ (x : ℕ). x * v) (zero-mul 1) ∙ zero-mul v
 
 level-zero : (s : Bool) → level s 0 false 0 ≡ true
 level-zero true = refl
 level-zero false = refl
 
-zero-level : (s : Bool) (u v : ℕ) → level s (0 * u * 1) false (0 * 1 * v) ≡ true
+pub zero-level : (s : Bool) (u v : ℕ) → level s (0 * u * 1) false (0 * 1 * v) ≡ true
 zero-level s u v = ap (λ (x : ℕ). level s x false (0 * 1 * v)) (nothing u) ∙ ap (level s 0 false) (nothing′ v) ∙ level-zero s
 
 below-zero : (m u v : ℕ) → 0 < u → ltb 0 (suc m * u * 1 + 0 * 1 * v) ≡ true

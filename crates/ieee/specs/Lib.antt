@@ -2,4 +2,6 @@
 pub mod Operators
 pub mod Functions
 pub mod Range
+pub mod Rounding
+pub mod Count
 pub mod Fmod

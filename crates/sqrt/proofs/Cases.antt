@@ -1,30 +1,18 @@
 -- Which values pass the tests of `sqrt`, and their roots where no root is computed. Assumes nothing.
 use mathlib.Core.Path.{_≡_, refl, sym, ap, _∙_, subst}
-use Prim.Native.Nat.{ℕ, zero, suc, _*_, _%_, _^_, _≤_, _<_}
-use native.Mathlib.Nat.{le-trans, lt-irrefl, mod-le, mul-one, zero-mul, mul-pos, zero-lt-suc, lt-of-le-of-lt}
+use Prim.Native.Nat.{ℕ, zero, suc, _*_, _^_, _≤_, _<_}
+use native.Mathlib.Nat.{le-trans, le-of-lt, mod-le, mul-pos, zero-lt-suc, lt-of-le-of-lt}
 use native.Mathlib.Omega.{arith}
-use mathlib.Core.Bool.{Bool, true, false, not, _&&_, _||_, Bool·beq, true≢false, false≢true}
+use mathlib.Core.Bool.{true, false, not, _||_, Bool·beq, true≢false, false≢true}
 use lib.IntN.{pos}
 use lib.Dec.{T, ltb, eqb, ltb→lt, lt→ltb, eqb→eq}
-use lib.Arith.{le→nltb}
-use lib.Ieee.{Float, nan, inf, fin, binary64, up, down, lt, eq, div, isNan, nanBits, ofBits, level}
-use lib.Ieee.Bits.{is-true, nanBits-above}
+use lib.Ieee.{Float, nan, inf, fin, binary64, up, down, lt, eq, div, isNan, nanBits, ofBits}
+use lib.Ieee.Bits.{is-true}
 use lib.Ieee.Fits.{up-pos}
 use lib.Ieee.Positive.{above, first-pos}
+use Rattle.ieee.proofs.Signs.{zero-is, of-true, and-true, not-zero, nothing′, zero-level}
+use Rattle.ieee.proofs.Patterns.{nan-is, no-nan}
 use Rattle.sqrt.specs.Root.{squareRoot}
-
--- the 0.0 of the source, and its 0.0 / 0.0
-zero-is : ofBits binary64 0 ≡ fin false 0 (pos 0)
-unfolding ofBits
-zero-is = refl
-
-pub nan-is : div binary64 (ofBits binary64 0) (ofBits binary64 0) ≡ nan
-unfolding ofBits div
-nan-is = refl
-
-of-true : (b : Bool) → b ≡ true → T b
-of-true true e = tt
-of-true false e = absurd (false≢true e)
 
 -- 0 < x
 lt-above : (x : Float) → lt (fin false 0 (pos 0)) x ≡ true → T (above x)
@@ -49,24 +37,14 @@ above-no-nan (inf s) a = tt
 above-no-nan (fin s m e) a = tt
 
 -- a pattern below the infinity's is no NaN's
-pub no-nan : (r : ℕ) → r < 0x7ff0_0000_0000_0000 → T (not (nanBits binary64 r))
-no-nan r h = subst (λ (b : Bool). T (not b)) (sym (nanBits-above binary64 r)) (le→nltb 0x7ff0_0000_0000_0000 (r % 2 ^ 63) (le-trans (mod-le r (2 ^ 63)) (less r h)))
-  where
-    less : (r : ℕ) → r < 0x7ff0_0000_0000_0000 → r ≤ 0x7ff0_0000_0000_0000
-    less r h = omega arith
+pub below-no-nan : (r : ℕ) → r < 0x7ff0_0000_0000_0000 → T (not (nanBits binary64 r))
+below-no-nan r h = no-nan r (le-trans (mod-le r (2 ^ 63)) (le-of-lt h))
 
 -- ---- the roots that are the argument itself
 
 pub root-inf : (x : Float) → x ≡ inf false → x ≡ squareRoot binary64 x
 unfolding squareRoot
 root-inf x e = e ∙ sym (ap (squareRoot binary64) e)
-
-and-true : (a b : Bool) → (a && b) ≡ true → T a
-and-true true b e = tt
-and-true false b e = absurd (false≢true e)
-
-not-zero : (m u v : ℕ) → 0 < u → suc m * u * 1 ≡ 0 * 1 * v → ⊥
-not-zero m u v U e = lt-irrefl 0 (subst (λ (x : ℕ). 0 < x) (sym (mul-one (suc m * u)) ∙ e ∙ ap (λ (x : ℕ). x * v) (zero-mul 1) ∙ zero-mul v) (mul-pos (zero-lt-suc m) U))
 
 zero-root : (x : Float) → eq x (fin false 0 (pos 0)) ≡ true → x ≡ squareRoot binary64 x
 unfolding eq squareRoot
@@ -80,19 +58,6 @@ pub root-zero : (x : Float) → eq x (ofBits binary64 0) ≡ true → x ≡ squa
 root-zero x e = zero-root x (ap (eq x) (sym zero-is) ∙ e)
 
 -- ---- what is neither above zero nor zero has no root
-
-nothing : (u : ℕ) → 0 * u * 1 ≡ 0
-nothing u = mul-one (0 * u) ∙ zero-mul u
-
-nothing′ : (v : ℕ) → 0 * 1 * v ≡ 0
-nothing′ v = ap (λ (x : ℕ). x * v) (zero-mul 1) ∙ zero-mul v
-
-level-zero : (s : Bool) → level s 0 false 0 ≡ true
-level-zero true = refl
-level-zero false = refl
-
-zero-level : (s : Bool) (u v : ℕ) → level s (0 * u * 1) false (0 * 1 * v) ≡ true
-zero-level s u v = ap (λ (x : ℕ). level s x false (0 * 1 * v)) (nothing u) ∙ ap (level s 0 false) (nothing′ v) ∙ level-zero s
 
 above-zero : (m u v : ℕ) → 0 < u → ltb (0 * 1 * v) (suc m * u * 1) ≡ true
 above-zero m u v U =

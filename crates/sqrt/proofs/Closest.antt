@@ -4,13 +4,11 @@ use mathlib.Core.Logic.{inl, inr}
 use Prim.Native.Nat.{ℕ, zero, suc, _+_, _-_, _*_, _/_, _%_, _≤_, _<_, compare, Ordering, Ordering·lt, Ordering·eq, Ordering·gt}
 use native.Mathlib.Nat.{le-refl, le-trans, le-of-eq, le-of-lt, le-antisymm, le-of-suc-le-suc, lt-of-not-le, not-le-of-lt, eq-or-lt-of-le, mul-right-comm, mul-le-mul, mul-le-mul-right, mul-lt-mul-of-pos-right, div-one, le-div-iff-mul-le, div-lt-iff-lt-mul}
 use native.Mathlib.Omega.{arith}
-use mathlib.Core.Bool.{not}
-use lib.Dec.{T, isLe, isEq, eqb, leb→le, nleb→lt, eqb→eq, eqb-refl}
-use lib.Arith.{lt-of-le-ne}
 use lib.Ieee.{nearest}
 use lib.Ieee.Fits.{nearest-le}
 use lib.Ieee.Nearest.{nearest-ge, div-mono}
-use Rattle.sqrt.specs.Root.{isqrt, closestRoot}
+use Rattle.ieee.proofs.Range.Relative.{Cmp, cmp}
+use Rattle.sqrt.specs.Root.{midSquare, isqrt, closestRoot}
 use Rattle.sqrt.proofs.Floor.{isqrt-le, isqrt-lt}
 
 -- ---- `isqrt`
@@ -33,23 +31,9 @@ square-lt q = omega arith
 pub isqrt-square : (q : ℕ) → isqrt (q * q) ≡ q
 isqrt-square q = isqrt-unique (q * q) q (le-refl (q * q)) (square-lt q)
 
--- ---- what `compare` says
-abbrev pub Cmp : Ordering → ℕ → ℕ → Type 0
-Cmp Ordering·lt a b = a < b
-Cmp Ordering·eq a b = a ≡ b
-Cmp Ordering·gt a b = b < a
-
-pub cmp : (a b : ℕ) → Cmp (compare a b) a b
-cmp a b = go (compare a b) (leb→le a b) (nleb→lt a b) (eqb→eq a b) (λ (e : a ≡ b). subst (λ (x : ℕ). T (eqb a x)) e (eqb-refl a))
-  where
-    go : (o : Ordering) → (T (isLe o) → a ≤ b) → (T (not (isLe o)) → b < a) → (T (isEq o) → a ≡ b) → (a ≡ b → T (isEq o)) → Cmp o a b
-    go Ordering·lt h k e n = lt-of-le-ne (h tt) n
-    go Ordering·eq h k e n = e tt
-    go Ordering·gt h k e n = k tt
-
 -- ---- `closestRoot`
 
-pub closestRoot-is : (a b : ℕ) → closestRoot a b ≡ nearest (isqrt (a / b)) (compare (4 * a) ((2 * isqrt (a / b) + 1) * (2 * isqrt (a / b) + 1) * b))
+pub closestRoot-is : (a b : ℕ) → closestRoot a b ≡ nearest (isqrt (a / b)) (compare (4 * a) (midSquare (isqrt (a / b)) * b))
 unfolding closestRoot
 closestRoot-is a b = refl
 
@@ -82,15 +66,15 @@ pub closestRoot-mono : (a b c d : ℕ) → 0 < b → 0 < d → a * d ≤ c * b �
 closestRoot-mono a b c d B D h =
     let p = isqrt (a / b) in
     let q = isqrt (c / d) in
-    let o = compare (4 * a) ((2 * p + 1) * (2 * p + 1) * b) in
-    let r = compare (4 * c) ((2 * q + 1) * (2 * q + 1) * d) in
+    let o = compare (4 * a) (midSquare p * b) in
+    let r = compare (4 * c) (midSquare q * d) in
     let four : 4 * a * d ≤ 4 * c * b = times-four a b c d h in
     rw (closestRoot-is a b, closestRoot-is c d)
     (elim (eq-or-lt-of-le (isqrt-mono (a / b) (c / d) (div-mono a b c d B D h))) [
       | inl e ↦
-          subst (λ (w : ℕ). nearest w (compare (4 * a) ((2 * w + 1) * (2 * w + 1) * b)) ≤ nearest q r) (sym e)
-          (same-whole q (compare (4 * a) ((2 * q + 1) * (2 * q + 1) * b)) r (4 * a) b (4 * c) d ((2 * q + 1) * (2 * q + 1))
-          (cmp (4 * a) ((2 * q + 1) * (2 * q + 1) * b)) (cmp (4 * c) ((2 * q + 1) * (2 * q + 1) * d)) four B D)
+          subst (λ (w : ℕ). nearest w (compare (4 * a) (midSquare w * b)) ≤ nearest q r) (sym e)
+          (same-whole q (compare (4 * a) (midSquare q * b)) r (4 * a) b (4 * c) d (midSquare q)
+          (cmp (4 * a) (midSquare q * b)) (cmp (4 * c) (midSquare q * d)) four B D)
       | inr l ↦ le-trans (nearest-le p o) (le-trans l (nearest-ge q r))
     ])
   where
@@ -102,10 +86,10 @@ pub closestRoot-same : (a b c d : ℕ) → 0 < b → 0 < d → a * d ≡ c * b �
 closestRoot-same a b c d B D e = le-antisymm (closestRoot-mono a b c d B D (le-of-eq e)) (closestRoot-mono c d a b D B (le-of-eq (sym e)))
 
 -- ---- the root of a whole number n, from the root q that is cut and what its square leaves: it is q or q + 1, and never halfway
-below-half : (q r : ℕ) → r ≤ q → 4 * (q * q + r) < (2 * q + 1) * (2 * q + 1) * 1
+below-half : (q r : ℕ) → r ≤ q → 4 * (q * q + r) < midSquare q * 1
 below-half q r h = omega arith
 
-above-half : (q r : ℕ) → q < r → (2 * q + 1) * (2 * q + 1) * 1 < 4 * (q * q + r)
+above-half : (q r : ℕ) → q < r → midSquare q * 1 < 4 * (q * q + r)
 above-half q r h = omega arith
 
 pick-lt : (w : ℕ) (o : Ordering) (a b : ℕ) → Cmp o a b → a < b → nearest w o ≡ w
@@ -131,8 +115,8 @@ pub closestRoot-down : (q r : ℕ) → r ≤ q → closestRoot (q * q + r) 1 ≡
 closestRoot-down q r h =
     let n = q * q + r in
     closestRoot-is n 1
-    ∙ ap (λ (w : ℕ). nearest w (compare (4 * n) ((2 * w + 1) * (2 * w + 1) * 1))) (root-of q r (twice q r h))
-    ∙ pick-lt q (compare (4 * n) ((2 * q + 1) * (2 * q + 1) * 1)) (4 * n) ((2 * q + 1) * (2 * q + 1) * 1) (cmp (4 * n) ((2 * q + 1) * (2 * q + 1) * 1)) (below-half q r h)
+    ∙ ap (λ (w : ℕ). nearest w (compare (4 * n) (midSquare w * 1))) (root-of q r (twice q r h))
+    ∙ pick-lt q (compare (4 * n) (midSquare q * 1)) (4 * n) (midSquare q * 1) (cmp (4 * n) (midSquare q * 1)) (below-half q r h)
   where
     twice : (q r : ℕ) → r ≤ q → r ≤ 2 * q
     twice q r h = omega arith
@@ -141,8 +125,8 @@ pub closestRoot-up : (q r : ℕ) → q < r → r ≤ 2 * q → closestRoot (q * 
 closestRoot-up q r h k =
     let n = q * q + r in
     closestRoot-is n 1
-    ∙ ap (λ (w : ℕ). nearest w (compare (4 * n) ((2 * w + 1) * (2 * w + 1) * 1))) (root-of q r k)
-    ∙ pick-gt q (compare (4 * n) ((2 * q + 1) * (2 * q + 1) * 1)) (4 * n) ((2 * q + 1) * (2 * q + 1) * 1) (cmp (4 * n) ((2 * q + 1) * (2 * q + 1) * 1)) (above-half q r h)
+    ∙ ap (λ (w : ℕ). nearest w (compare (4 * n) (midSquare w * 1))) (root-of q r k)
+    ∙ pick-gt q (compare (4 * n) (midSquare q * 1)) (4 * n) (midSquare q * 1) (cmp (4 * n) (midSquare q * 1)) (above-half q r h)
 
 -- a square
 pub closestRoot-square : (q : ℕ) → closestRoot (q * q) 1 ≡ q
@@ -156,9 +140,9 @@ closestRoot-square q = ap (λ (n : ℕ). closestRoot n 1) (plus-zero (q * q)) �
 
 -- ---- the root that is picked is off by a half at most: 4 * a / b is between the squares of 2 * r - 1 and 2 * r + 1
 abbrev pub Half : ℕ → ℕ → ℕ → Type 0
-Half a b r = ((2 * r - 1) * (2 * r - 1) * b ≤ 4 * a) × (4 * a ≤ (2 * r + 1) * (2 * r + 1) * b)
+Half a b r = ((2 * r - 1) * (2 * r - 1) * b ≤ 4 * a) × (4 * a ≤ midSquare r * b)
 
-half-at : (w : ℕ) (o : Ordering) (a b : ℕ) → w * w * b ≤ a → a < suc w * suc w * b → Cmp o (4 * a) ((2 * w + 1) * (2 * w + 1) * b) → Half a b (nearest w o)
+half-at : (w : ℕ) (o : Ordering) (a b : ℕ) → w * w * b ≤ a → a < suc w * suc w * b → Cmp o (4 * a) (midSquare w * b) → Half a b (nearest w o)
 half-at w Ordering·lt a b lo hi c = (le-trans (mul-le-mul-right b (mul-le-mul (less w) (less w))) (four w a b lo), le-of-lt c)
   where
     less : (w : ℕ) → 2 * w - 1 ≤ 2 * w
@@ -207,4 +191,4 @@ pub closestRoot-half : (a b : ℕ) → 0 < b → Half a b (closestRoot a b)
 closestRoot-half a b B =
     let q = isqrt (a / b) in
     subst (λ (r : ℕ). Half a b r) (sym (closestRoot-is a b))
-    (half-at q (compare (4 * a) ((2 * q + 1) * (2 * q + 1) * b)) a b (le-div-iff-mul-le B .0 (isqrt-le (a / b))) (div-lt-iff-lt-mul B .0 (isqrt-lt (a / b))) (cmp (4 * a) ((2 * q + 1) * (2 * q + 1) * b)))
+    (half-at q (compare (4 * a) (midSquare q * b)) a b (le-div-iff-mul-le B .0 (isqrt-le (a / b))) (div-lt-iff-lt-mul B .0 (isqrt-lt (a / b))) (cmp (4 * a) (midSquare q * b)))

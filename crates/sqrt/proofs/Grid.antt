@@ -11,7 +11,7 @@ use lib.Ieee.{Format, prec, low, size, units}
 use lib.Ieee.Digits.{size-lt, size-le, size-reaches, back}
 use lib.Ieee.Fits.{nearest-le, two, two-le-pos}
 use lib.Ieee.Nearest.{nearest-ge, div-mono, div-same}
-use Rattle.sqrt.specs.Root.{isqrt, closestRoot, roundRoot}
+use Rattle.sqrt.specs.Root.{midSquare, isqrt, closestRoot, roundRoot}
 use Rattle.sqrt.proofs.Floor.{isqrt-le, isqrt-lt}
 use Rattle.sqrt.proofs.Closest.{isqrt-ge, isqrt-below, isqrt-mono, isqrt-square, closestRoot-is, closestRoot-mono, closestRoot-same, closestRoot-square}
 
@@ -80,19 +80,23 @@ kept-le p n den D =
     let s : suc r ≤ 2 ^ p * 2 ^ k = le-trans (size-lt r) (le-trans (pow-mono (cover (size r) p)) (le-of-eq (pow-add 2 p k))) in
     let x : n < 2 ^ p * 2 ^ k * (2 ^ p * 2 ^ k) * den = div-lt-iff-lt-mul D .0 (lt-of-lt-of-le (isqrt-lt w) (mul-le-mul s s)) in
     let y : isqrt (n / u) < 2 ^ p = isqrt-below (n / u) (2 ^ p) (div-lt-iff-lt-mul (unit-pos den k D) .1 (lt-of-lt-of-le x (le-of-eq (spread (2 ^ p) (2 ^ k) den)))) in
-    le-trans (le-of-eq (closestRoot-is n u)) (le-trans (nearest-le (isqrt (n / u)) (compare (4 * n) ((2 * isqrt (n / u) + 1) * (2 * isqrt (n / u) + 1) * u))) y)
+    le-trans (le-of-eq (closestRoot-is n u)) (le-trans (nearest-le (isqrt (n / u)) (compare (4 * n) (midSquare (isqrt (n / u)) * u))) y)
 
--- where digits are dropped, it has p at least
-pub kept-ge : (p n den : ℕ) → 0 < p → 0 < den → 0 < rootDrop p n den → 2 ^ (p - 1) ≤ rootKept p n den
-kept-ge p n den P D K =
+-- where digits are dropped, the root has p + k of them, and the kept number has p at least
+pub root-reaches : (p n den : ℕ) → 0 < p → 0 < rootDrop p n den → 2 ^ (p - 1) * 2 ^ rootDrop p n den * (2 ^ (p - 1) * 2 ^ rootDrop p n den) * den ≤ n
+root-reaches p n den P K =
     let w = n / den in
     let r = isqrt w in
     let k = rootDrop p n den in
-    let u = den * 2 ^ k * 2 ^ k in
     let s : 2 ^ (p - 1) * 2 ^ k ≤ r = le-trans (le-of-eq (sym (pow-add 2 (p - 1) k))) (size-reaches r (p - 1 + k) (all-in-use (size r) p P K)) in
-    let x : 2 ^ (p - 1) * 2 ^ k * (2 ^ (p - 1) * 2 ^ k) * den ≤ n = le-trans (mul-le-mul-right den (le-trans (mul-le-mul s s) (isqrt-le w))) (div-mul-le-self n den) in
-    let y : 2 ^ (p - 1) ≤ isqrt (n / u) = isqrt-ge (n / u) (2 ^ (p - 1)) (le-div-iff-mul-le (unit-pos den k D) .1 (le-trans (le-of-eq (sym (spread (2 ^ (p - 1)) (2 ^ k) den))) x)) in
-    le-trans y (le-trans (nearest-ge (isqrt (n / u)) (compare (4 * n) ((2 * isqrt (n / u) + 1) * (2 * isqrt (n / u) + 1) * u))) (le-of-eq (sym (closestRoot-is n u))))
+    le-trans (mul-le-mul-right den (le-trans (mul-le-mul s s) (isqrt-le w))) (div-mul-le-self n den)
+
+pub kept-ge : (p n den : ℕ) → 0 < p → 0 < den → 0 < rootDrop p n den → 2 ^ (p - 1) ≤ rootKept p n den
+kept-ge p n den P D K =
+    let k = rootDrop p n den in
+    let u = den * 2 ^ k * 2 ^ k in
+    let y : 2 ^ (p - 1) ≤ isqrt (n / u) = isqrt-ge (n / u) (2 ^ (p - 1)) (le-div-iff-mul-le (unit-pos den k D) .1 (le-trans (le-of-eq (sym (spread (2 ^ (p - 1)) (2 ^ k) den))) (root-reaches p n den P K))) in
+    le-trans y (le-trans (nearest-ge (isqrt (n / u)) (compare (4 * n) (midSquare (isqrt (n / u)) * u))) (le-of-eq (sym (closestRoot-is n u))))
 
 same-drop : (k a b c d : ℕ) → 0 < b → 0 < d → a * d ≤ c * b → closestRoot a (b * 2 ^ k * 2 ^ k) * 2 ^ k ≤ closestRoot c (d * 2 ^ k * 2 ^ k) * 2 ^ k
 same-drop k a b c d B D h =

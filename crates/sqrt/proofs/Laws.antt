@@ -1,23 +1,20 @@
 -- The laws of `squareRoot`, for any format.
 -- `squareRoot-ge`, `squareRoot-le`: if the format holds lo and hi, and lo * lo ≤ x ≤ hi * hi as fractions, then lo ≤ squareRoot x ≤ hi.
--- `squareRoot-positive`: the root of a number that is finite and above zero is finite and above zero. `squareRoot-fits`: the format holds every root. `squareRoot-mono`: a larger number has a root that is no smaller.
--- `squareRoot-exact`: where x is the square of a value that the format holds, the root is that value. Assumes nothing.
+-- `squareRoot-positive`: the root of a number that is finite and above zero is finite and above zero. `squareRoot-fits`: the format holds every root. Assumes nothing.
 use mathlib.Core.Path.{_≡_, refl, sym, ap, _∙_, subst}
-use Prim.Native.Nat.{ℕ, zero, suc, _+_, _-_, _*_, _/_, _%_, _^_, _≤_, _<_}
-use native.Mathlib.Nat.{le-refl, le-antisymm, le-trans, le-of-eq, le-of-lt, le-of-suc-le-suc, lt-of-lt-of-le, lt-of-le-of-lt, lt-of-not-le, lt-irrefl, zero-lt-suc, mul-one, one-mul, mul-assoc, mul-comm, mul-left-comm, mul-right-comm, mul-le-mul, mul-le-mul-right, mul-pos, mul-lt-mul-of-pos-right, lt-of-mul-lt-mul-right, mul-mul-mul-comm}
-use native.Mathlib.Omega.{arith}
-use mathlib.Core.Bool.{Bool, true, false, not, _&&_, cond, true≢false}
-use lib.IntN.{ℤ, pos, negsuc}
-use lib.Dec.{T, lt→ltb, leb, ltb, eqb, ltb→lt, leb→le, nltb→le, lit≤}
+use Prim.Native.Nat.{ℕ, zero, suc, _+_, _*_, _^_, _≤_, _<_}
+use native.Mathlib.Nat.{le-refl, le-trans, le-of-eq, le-of-lt, lt-of-lt-of-le, lt-of-le-of-lt, zero-lt-suc, mul-one, one-mul, mul-assoc, mul-comm, mul-left-comm, mul-right-comm, mul-le-mul-left, mul-le-mul-right, mul-pos, mul-lt-mul-of-pos-right, lt-of-mul-lt-mul-right, mul-mul-mul-comm}
+use mathlib.Core.Bool.{Bool, true, false, cond, true≢false}
+use lib.IntN.{pos, negsuc}
+use lib.Dec.{T, lt→ltb, ltb, ltb→lt, lit≤}
 use lib.Pow.{pow-add, pow-pos, pow-mono, pow-lt}
-use lib.Ieee.{Float, nan, inf, fin, Format, binary32, binary64, prec, emax, low, up, down, size, odd, units, le, fits, hid, top, toBits, ofBits}
-use lib.Ieee.Bits.{ofBits-toBits}
-use lib.Ieee.Nearest.{div-same}
-use lib.Ieee.Fits.{two, two-le-pos, up-pos, down-pos, and-l, and-r, odd-fits}
+use lib.Ieee.{Float, nan, inf, fin, Format, binary32, binary64, prec, emax, low, up, down, odd, units, le, fits}
+use lib.Ieee.Fits.{two, two-le-pos, down-pos, odd-fits}
 use lib.Ieee.Exact.{HasValue, odd-sign, units-val}
 use lib.Ieee.Order.{le-of-values}
 use lib.Ieee.Scale.{overflow}
-use lib.Ieee.Positive.{num, den, positive, den-pos, own-value, between, le→cross}
+use lib.Ieee.Positive.{num, den, positive, positive-finite, den-pos, first-pos, value-pos, own-value, between}
+use Rattle.ieee.proofs.Range.Values.{Whole, whole, unique}
 use Rattle.sqrt.specs.Root.{roundRoot, squareRoot}
 use Rattle.sqrt.proofs.Grid.{rootDrop, rootKept, rootGrid, roundRoot-is, rootGrid-mono, rootGrid-exact, kept-le}
 
@@ -29,63 +26,13 @@ squareRoot-is f (fin true m e) p = absurd p
 squareRoot-is f (fin false zero e) p = absurd p
 squareRoot-is f (fin false (suc m) e) p = refl
 
--- ---- a value that the format holds, in units of its smallest value: q * 2 ^ j, with q of at most prec digits
-
-pub record Held (f : Format) (a c : ℕ) : Type 0 where
-  pub digits : ℕ
-  pub places : ℕ
-  pub few : digits < 2 ^ prec f
-  pub under : digits * 2 ^ places < overflow f
-  pub value : a * 2 ^ low f ≡ digits * 2 ^ places * c
-
-pow-le-back : (a l : ℕ) → 2 ^ a ≤ 2 ^ l → a ≤ l
-pow-le-back a l h = le-of-suc-le-suc (lt-of-not-le (λ (g : suc l ≤ a). lt-irrefl (2 ^ l) (lt-of-lt-of-le (pow-lt g) h)))
-
-held-places : (l : ℕ) (m : ℕ) (e : ℤ) → down e ≤ 2 ^ l → (j : ℕ) × (m * up e * 2 ^ l ≡ m * 2 ^ j * down e)
-held-places l m (pos a) h = (a + l, mul-assoc m (2 ^ a) (2 ^ l) ∙ ap (λ (x : ℕ). m * x) (sym (pow-add 2 a l)) ∙ sym (mul-one (m * 2 ^ (a + l))))
-held-places l m (negsuc a) h =
-    let g : suc a ≤ l = pow-le-back (suc a) l h in
-    (l - suc a, ap (λ (x : ℕ). x * 2 ^ l) (mul-one m) ∙ ap (λ (x : ℕ). m * 2 ^ x) (parts l (suc a) g) ∙ ap (λ (x : ℕ). m * x) (pow-add 2 (l - suc a) (suc a)) ∙ sym (mul-assoc m (2 ^ (l - suc a)) (2 ^ suc a)))
-  where
-    parts : (l a : ℕ) → a ≤ l → l ≡ l - a + a
-    parts l a h = omega arith
-
--- what `fits` says of a value above zero
-fits-says : (f : Format) (m : ℕ) (e : ℤ) → T (fits f (fin false (suc m) e)) → (suc m < 2 ^ prec f) × (down e ≤ 2 ^ low f) × (suc m * up e < 2 ^ suc (emax f) * down e)
-unfolding fits
-fits-says f m e h =
-    let A = eqb (suc m % 2) 1 in
-    let B = ltb (suc m) (2 ^ prec f) in
-    let C = leb (down e) (2 ^ low f) in
-    let D = ltb (suc m * up e) (2 ^ suc (emax f) * down e) in (
-      ltb→lt (suc m) (2 ^ prec f) (and-r A B (and-l (A && B) C (and-l (A && B && C) D h))),
-      leb→le (down e) (2 ^ low f) (and-r (A && B) C (and-l (A && B && C) D h)),
-      ltb→lt (suc m * up e) (2 ^ suc (emax f) * down e) (and-r (A && B && C) D h),
-    )
-
-pub held : (f : Format) (x : Float) → T (fits f x) → T (positive x) → Held f (num x) (den x)
-held f nan h p = absurd p
-held f (inf s) h p = absurd p
-held f (fin true m e) h p = absurd p
-held f (fin false zero e) h p = absurd p
-held f (fin false (suc m) e) h p =
-    let s = fits-says f m e h in
-    let j = held-places (low f) (suc m) e (s .1) in
-    let u : suc m * 2 ^ j .0 * down e < 2 ^ (low f + suc (emax f)) * down e =
-    subst (λ (x : ℕ). x < 2 ^ (low f + suc (emax f)) * down e) (j .1)
-    (lt-of-lt-of-le (mul-lt-mul-of-pos-right (s .2) (pow-pos (low f))) (le-of-eq (turn (2 ^ suc (emax f)) (down e) (2 ^ low f) ∙ ap (λ (x : ℕ). x * down e) (sym (pow-add 2 (low f) (suc (emax f))))))) in
-    record { digits = suc m; places = j .0; few = s .0; under = lt-of-mul-lt-mul-right (down e) u; value = j .1 }
-  where
-    turn : (a d l : ℕ) → a * d * l ≡ l * a * d
-    turn a d l = simp (mul-assoc, mul-comm)
-
--- the root of the square a * a / (c * c) of such a value
-square-grid : (f : Format) (a c : ℕ) → 0 < c → (h : Held f a c) → rootGrid (prec f) (a * a * 2 ^ low f * 2 ^ low f) (c * c) ≡ h .digits * 2 ^ h .places
-square-grid f a c C h =
+-- ---- the root of the square of a value that the format holds, m * 2 ^ j of its smallest values
+square-grid : (f : Format) (x : Float) (w : Whole f x) → rootGrid (prec f) (num x * num x * 2 ^ low f * 2 ^ low f) (den x * den x) ≡ w .m * 2 ^ w .j
+square-grid f x w =
     let l = 2 ^ low f in
-    let g = h .digits * 2 ^ h .places in
-    rootGrid-exact (prec f) (a * a * l * l) (c * c) (h .digits) (h .places) (mul-pos C C) (h .few)
-    (pairs a l ∙ ap (λ (x : ℕ). x * x) (h .value) ∙ mul-mul-mul-comm g c g c)
+    let g = w .m * 2 ^ w .j in
+    rootGrid-exact (prec f) (num x * num x * l * l) (den x * den x) (w .m) (w .j) (mul-pos (den-pos x) (den-pos x)) (w .few)
+    (pairs (num x) l ∙ ap (λ (z : ℕ). z * z) (w .is) ∙ mul-mul-mul-comm g (den x) g (den x))
   where
     pairs : (a l : ℕ) → a * a * l * l ≡ a * l * (a * l)
     pairs a l = simp (mul-assoc, mul-left-comm)
@@ -122,26 +69,26 @@ scaled-up a d c b l h = le-trans (le-of-eq (out a l d)) (le-trans (mul-le-mul-ri
 pub roundRoot-ge : (f : Format) (lo : Float) (a c : ℕ) → T (fits f lo) → T (positive lo) → 0 < c → num lo * num lo * c ≤ a * (den lo * den lo) → T (le lo (roundRoot f a c))
 roundRoot-ge f lo a c h p C s =
     let l = 2 ^ low f in
-    let v = held f lo h p in
-    let g = v .digits * 2 ^ v .places in
+    let v = whole f lo (positive-finite lo p) h in
+    let g = v .m * 2 ^ v .j in
     let n = a * l * l in
     let m : g ≤ rootGrid (prec f) n c =
-    subst (λ (x : ℕ). x ≤ rootGrid (prec f) n c) (square-grid f (num lo) (den lo) (den-pos lo) v)
+    subst (λ (x : ℕ). x ≤ rootGrid (prec f) n c) (square-grid f lo v)
     (rootGrid-mono (prec f) (num lo * num lo * l * l) (den lo * den lo) n c (two-le-pos (prec f) (two f)) (mul-pos (den-pos lo) (den-pos lo)) C (scaled-up (num lo * num lo) c a (den lo * den lo) l s)) in
     subst (λ (x : Float). T (le lo x)) (sym (roundRoot-is f a c))
-    (le-units f lo (num lo) (den lo) (rootKept (prec f) n c) (rootDrop (prec f) n c) (den-pos lo) (own-value lo p) (le-trans (le-of-eq (v .value)) (mul-le-mul-right (den lo) m)))
+    (le-units f lo (num lo) (den lo) (rootKept (prec f) n c) (rootDrop (prec f) n c) (den-pos lo) (own-value lo p) (le-trans (le-of-eq (v .is)) (mul-le-mul-right (den lo) m)))
 
 pub roundRoot-le : (f : Format) (hi : Float) (a c : ℕ) → T (fits f hi) → T (positive hi) → 0 < c → a * (den hi * den hi) ≤ num hi * num hi * c → T (le (roundRoot f a c) hi)
 roundRoot-le f hi a c h p C s =
     let l = 2 ^ low f in
-    let v = held f hi h p in
-    let g = v .digits * 2 ^ v .places in
+    let v = whole f hi (positive-finite hi p) h in
+    let g = v .m * 2 ^ v .j in
     let n = a * l * l in
     let m : rootGrid (prec f) n c ≤ g =
-    subst (λ (x : ℕ). rootGrid (prec f) n c ≤ x) (square-grid f (num hi) (den hi) (den-pos hi) v)
+    subst (λ (x : ℕ). rootGrid (prec f) n c ≤ x) (square-grid f hi v)
     (rootGrid-mono (prec f) n c (num hi * num hi * l * l) (den hi * den hi) (two-le-pos (prec f) (two f)) C (mul-pos (den-pos hi) (den-pos hi)) (scaled-up a (den hi * den hi) (num hi * num hi) c l s)) in
     subst (λ (x : Float). T (le x hi)) (sym (roundRoot-is f a c))
-    (units-le f hi (num hi) (den hi) (rootKept (prec f) n c) (rootDrop (prec f) n c) (den-pos hi) (own-value hi p) (lt-of-le-of-lt m (v .under)) (le-trans (mul-le-mul-right (den hi) m) (le-of-eq (sym (v .value)))))
+    (units-le f hi (num hi) (den hi) (rootKept (prec f) n c) (rootDrop (prec f) n c) (den-pos hi) (own-value hi p) (lt-of-le-of-lt m (v .under)) (le-trans (mul-le-mul-right (den hi) m) (le-of-eq (sym (v .is)))))
 
 pub squareRoot-ge : (f : Format) (lo x : Float) → T (fits f lo) → T (positive lo) → T (positive x) → num lo * num lo * den x ≤ num x * (den lo * den lo) → T (le lo (squareRoot f x))
 squareRoot-ge f lo x h p q s = subst (λ (y : Float). T (le lo y)) (sym (squareRoot-is f x q)) (roundRoot-ge f lo (num x) (den x) h p (den-pos x) s)
@@ -173,12 +120,22 @@ unfolding fits
 large-fits binary32 = tt
 large-fits binary64 = tt
 
-squared : (n d l : ℕ) → 0 < n → 0 < l → d ≤ l → 1 * 1 * d ≤ n * (l * l)
-squared n d l N L h = le-trans (le-of-eq (one-mul d)) (le-trans h (le-trans (le-of-eq (sym (one-mul l) ∙ sym (one-mul (1 * l)))) (mul-le-mul N (mul-le-mul-right l L))))
+-- x is 2 ^ -low at least, and below 2 ^ (emax + 1)
+least-whole : (n d l g : ℕ) → 0 < n → 0 < l → n * l ≡ g * d → 1 * 1 * d ≤ n * (l * l)
+least-whole n d l g N L e =
+    let G : 0 < g = first-pos g d (subst (λ (z : ℕ). 0 < z) e (mul-pos N L)) in
+    le-trans (mul-le-mul-right d G) (le-trans (le-of-eq (sym e ∙ sym (mul-one (n * l)))) (le-trans (mul-le-mul-left (n * l) L) (le-of-eq (mul-assoc n l l))))
 
-above-smallest : (f : Format) (n d : ℕ) → 0 < n → d ≤ 2 ^ low f → num (smallest f) * num (smallest f) * d ≤ n * (den (smallest f) * den (smallest f))
-above-smallest binary32 n d N h = squared n d (2 ^ 149) N (pow-pos 149) h
-above-smallest binary64 n d N h = squared n d (2 ^ 1074) N (pow-pos 1074) h
+above-smallest : (f : Format) (n d g : ℕ) → 0 < n → n * 2 ^ low f ≡ g * d → num (smallest f) * num (smallest f) * d ≤ n * (den (smallest f) * den (smallest f))
+above-smallest binary32 n d g N e = least-whole n d (2 ^ 149) g N (pow-pos 149) e
+above-smallest binary64 n d g N e = least-whole n d (2 ^ 1074) g N (pow-pos 1074) e
+
+under-top : (f : Format) (n d g : ℕ) → 0 < d → n * 2 ^ low f ≡ g * d → g < overflow f → n < 2 ^ suc (emax f) * d
+under-top f n d g D e u =
+    lt-of-mul-lt-mul-right (2 ^ low f)
+    (lt-of-le-of-lt (le-of-eq e)
+    (lt-of-lt-of-le (mul-lt-mul-of-pos-right u D)
+    (le-of-eq (ap (λ (z : ℕ). z * d) (pow-add 2 (low f) (suc (emax f)) ∙ mul-comm (2 ^ low f) (2 ^ suc (emax f))) ∙ mul-right-comm (2 ^ suc (emax f)) (2 ^ low f) d))))
 
 doubled : (f : Format) → suc (emax f) ≤ emax f + emax f
 doubled binary32 = lit≤ tt
@@ -193,16 +150,11 @@ below-large f n d h =
     (le-of-eq (pow-add 2 (emax f) (emax f) ∙ ap (λ (x : ℕ). x * x) (sym (one-mul (2 ^ emax f))))))))
 
 pub squareRoot-positive : (f : Format) (x : Float) → T (fits f x) → T (positive x) → T (positive (squareRoot f x))
-squareRoot-positive f nan h p = absurd p
-squareRoot-positive f (inf s) h p = absurd p
-squareRoot-positive f (fin true m e) h p = absurd p
-squareRoot-positive f (fin false zero e) h p = absurd p
-squareRoot-positive f (fin false (suc m) e) h p =
-    let x = fin false (suc m) e in
-    let s = fits-says f m e h in
+squareRoot-positive f x h p =
+    let w = whole f x (positive-finite x p) h in
     between (smallest f) (squareRoot f x) (large f) (smallest-positive f) tt
-    (squareRoot-ge f (smallest f) x (smallest-fits f) (smallest-positive f) p (above-smallest f (suc m * up e) (down e) (mul-pos (zero-lt-suc m) (up-pos e)) (s .1)))
-    (squareRoot-le f (large f) x (large-fits f) tt p (below-large f (suc m * up e) (down e) (s .2)))
+    (squareRoot-ge f (smallest f) x (smallest-fits f) (smallest-positive f) p (above-smallest f (num x) (den x) (w .m * 2 ^ w .j) (value-pos x (num x) (den x) p (den-pos x) (own-value x p)) (w .is)))
+    (squareRoot-le f (large f) x (large-fits f) tt p (below-large f (num x) (den x) (under-top f (num x) (den x) (w .m * 2 ^ w .j) (den-pos x) (w .is) (w .under))))
 
 -- ---- the format holds every root
 
@@ -219,72 +171,21 @@ unfolding squareRoot
 squareRoot-fits f nan h = h
 squareRoot-fits f (inf true) h = unfold fits in tt
 squareRoot-fits f (inf false) h = h
-squareRoot-fits f (fin s zero e) h = h
+squareRoot-fits f (fin s zero e) h = unfold fits in h
 squareRoot-fits f (fin true (suc m) e) h = unfold fits in tt
 squareRoot-fits f (fin false (suc m) e) h =
     let n = suc m * up e * 2 ^ low f * 2 ^ low f in
     subst (λ (x : Float). T (fits f x)) (sym (roundRoot-is f (suc m * up e) (down e))) (units-fits f false (rootKept (prec f) n (down e)) (rootDrop (prec f) n (down e)) (kept-le (prec f) n (down e) (down-pos e)))
 
--- ---- a larger number
-
-clash : (x y z : ℕ) → x ≤ y → y < z → z ≤ x → ⊥
-clash x y z a b c = omega arith
-
-units-mono : (f : Format) (q j r k : ℕ) → q * 2 ^ j ≤ r * 2 ^ k → T (le (units f false q j) (units f false r k))
-unfolding units
-units-mono f q j r k h = go (ltb (q * 2 ^ j) (overflow f)) (ltb (r * 2 ^ k) (overflow f)) (nltb→le (q * 2 ^ j) (overflow f)) (ltb→lt (r * 2 ^ k) (overflow f))
-  where
-    go : (x y : Bool) → (T (not x) → overflow f ≤ q * 2 ^ j) → (T y → r * 2 ^ k < overflow f)
-        → T (le (cond x (odd (suc (prec f)) false q j (low f)) (inf false)) (cond y (odd (suc (prec f)) false r k (low f)) (inf false)))
-    go true true a b =
-        le-of-values (odd (suc (prec f)) false q j (low f)) (odd (suc (prec f)) false r k (low f)) (q * 2 ^ j) (2 ^ low f) (r * 2 ^ k) (2 ^ low f) (pow-pos (low f)) (pow-pos (low f))
-        (odd-sign (suc (prec f)) false q j (low f)) (odd-sign (suc (prec f)) false r k (low f)) (mul-le-mul-right (2 ^ low f) h)
-    go true false a b = le-inf (odd (suc (prec f)) false q j (low f)) (q * 2 ^ j) (2 ^ low f) (odd-sign (suc (prec f)) false q j (low f))
-    go false true a b = absurd (clash (q * 2 ^ j) (r * 2 ^ k) (overflow f) h (b tt) (a tt))
-    go false false a b = unfold le in tt
-
-pub roundRoot-mono : (f : Format) (a b c d : ℕ) → 0 < b → 0 < d → a * d ≤ c * b → T (le (roundRoot f a b) (roundRoot f c d))
-roundRoot-mono f a b c d B D h =
-    let l = 2 ^ low f in
-    let p = prec f in
-    subst (λ (z : Float). T (le z (roundRoot f c d))) (sym (roundRoot-is f a b))
-    (subst (λ (z : Float). T (le (units f false (rootKept p (a * l * l) b) (rootDrop p (a * l * l) b)) z)) (sym (roundRoot-is f c d))
-    (units-mono f (rootKept p (a * l * l) b) (rootDrop p (a * l * l) b) (rootKept p (c * l * l) d) (rootDrop p (c * l * l) d)
-    (rootGrid-mono p (a * l * l) b (c * l * l) d (two-le-pos p (two f)) B D (scaled-up a d c b l h))))
-
-pub squareRoot-mono : (f : Format) (x y : Float) → T (positive x) → T (positive y) → T (le x y) → T (le (squareRoot f x) (squareRoot f y))
-squareRoot-mono f x y p q h =
-    subst (λ (z : Float). T (le z (squareRoot f y))) (sym (squareRoot-is f x p))
-    (subst (λ (z : Float). T (le (roundRoot f (num x) (den x)) z)) (sym (squareRoot-is f y q)) (roundRoot-mono f (num x) (den x) (num y) (den y) (den-pos x) (den-pos y) (le→cross x y p q h)))
-
--- ---- a value that fits is known by its sign and its size
-
-toBits-by-size : (f : Format) (m : ℕ) (e : ℤ) (n : ℕ) (d : ℤ) → m * up e * 2 ^ low f / down e ≡ n * up d * 2 ^ low f / down d → toBits f (fin false m e) ≡ toBits f (fin false n d)
-unfolding toBits
-toBits-by-size f m e n d h = ap (λ (x : ℕ). cond false (top f) 0 + (size x - prec f) * hid f + x / 2 ^ (size x - prec f)) h
+-- ---- a value above zero that fits is known by its size
+positive-value : (x : Float) (a c : ℕ) → T (positive x) → num x * c ≡ a * den x → HasValue x false a c
+positive-value nan a c p e = absurd p
+positive-value (inf s) a c p e = absurd p
+positive-value (fin true m d) a c p e = absurd p
+positive-value (fin false m d) a c p e = (refl, e)
 
 pub fits-unique : (f : Format) (x y : Float) → T (fits f x) → T (fits f y) → T (positive x) → T (positive y) → num x * den y ≡ num y * den x → x ≡ y
-fits-unique f nan y h k p q e = absurd p
-fits-unique f (inf s) y h k p q e = absurd p
-fits-unique f (fin true m d) y h k p q e = absurd p
-fits-unique f (fin false m d) nan h k p q e = absurd q
-fits-unique f (fin false m d) (inf t) h k p q e = absurd q
-fits-unique f (fin false m d) (fin true n g) h k p q e = absurd q
-fits-unique f (fin false m d) (fin false n g) h k p q e =
-    let l = 2 ^ low f in
-    let s : m * up d * l * down g ≡ n * up g * l * down d = mul-right-comm (m * up d) l (down g) ∙ ap (λ (z : ℕ). z * l) e ∙ mul-right-comm (n * up g) (down d) l in
-    sym (ofBits-toBits f (fin false m d) h)
-    ∙ ap (ofBits f) (toBits-by-size f m d n g (div-same (m * up d * l) (down d) (n * up g * l) (down g) (down-pos d) (down-pos g) s))
-    ∙ ofBits-toBits f (fin false n g) k
-
-pub le-antisymm-positive : (f : Format) (x y : Float) → T (fits f x) → T (fits f y) → T (positive x) → T (positive y) → T (le x y) → T (le y x) → x ≡ y
-le-antisymm-positive f x y h k p q a b = fits-unique f x y h k p q (le-antisymm (le→cross x y p q a) (le→cross y x q p b))
-
--- ---- the root of y * y is y, where the format holds y * y
-pub squareRoot-exact : (f : Format) (x y : Float) → T (fits f x) → T (fits f y) → T (positive x) → T (positive y) → num x * (den y * den y) ≡ num y * num y * den x → squareRoot f x ≡ y
-squareRoot-exact f x y h k p q e =
-    le-antisymm-positive f (squareRoot f x) y (squareRoot-fits f x h) k (squareRoot-positive f x h p) q
-    (squareRoot-le f y x k q p (le-of-eq e)) (squareRoot-ge f y x k q p (le-of-eq (sym e)))
+fits-unique f x y h k p q e = unique f x y false (num y) (den y) (den-pos y) h k (positive-value x (num y) (den y) p e) (own-value y q)
 
 -- ---- finite and not negative: -0 counts, and its root is -0
 abbrev pub notNegative : Float → Bool

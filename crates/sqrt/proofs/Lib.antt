@@ -4,8 +4,9 @@ pub mod Closest
 pub mod Grid
 pub mod Laws
 pub mod Square
+pub mod Nearest
 pub mod Range
-pub mod Examples
+pub mod Known
 mod Digits
 mod Halves
 mod Patterns

@@ -1,13 +1,14 @@
 -- A subnormal's digits, moved up by their leading zeros, and the number that `scaled` makes of a pattern. Assumes nothing.
 use mathlib.Core.Path.{_≡_, sym, ap, _∙_, subst}
 use Prim.Native.Nat.{ℕ, suc, _+_, _-_, _*_, _/_, _%_, _^_, _≤_, _<_}
-use native.Mathlib.Nat.{le-trans, le-of-eq, lt-of-lt-of-le, lt-of-le-of-lt, lt-of-not-le, lt-irrefl, mul-assoc, mul-right-comm, mul-le-mul-right, mod-eq-of-lt}
+use native.Mathlib.Nat.{le-trans, le-of-eq, lt-of-le-of-lt, mul-assoc, mul-right-comm, mul-le-mul-right, mod-eq-of-lt}
 use native.Mathlib.Omega.{arith}
 use mathlib.Core.Bool.{Bool, false}
-use lib.Pow.{pow-add, pow-mono, shl-lt}
+use lib.Pow.{pow-add, shl-lt}
 use lib.Count.{leadingZeros, leading-top}
 use lib.Ieee.{Float, nan, inf, fin, binary64, low, up, down, ofBits}
 use lib.Ieee.Exact.{HasValue}
+use Rattle.ieee.proofs.Range.Values.{pow-lt-back}
 use Rattle.sqrt.specs.Steps.{Normal}
 use Rattle.sqrt.proofs.Patterns.{subnormal, normal}
 
@@ -17,9 +18,6 @@ rescale nan s a c d v = v
 rescale (inf t) s a c d v = v
 rescale (fin t m e) s a c d v =
     (v .0, sym (mul-assoc (m * up e) c d) ∙ ap (λ (x : ℕ). x * d) (v .1) ∙ mul-right-comm a (down e) d)
-
-pow-lt-back : (i p : ℕ) → 2 ^ i < 2 ^ p → i < p
-pow-lt-back i p h = lt-of-not-le (λ (g : p ≤ i). lt-irrefl (2 ^ i) (lt-of-lt-of-le h (pow-mono g)))
 
 -- how far up the digits of b go: z is the number of leading zeros of b, in 64 digits
 pub record Lifted (b z : ℕ) : Type 0 where

@@ -16,7 +16,7 @@ use Rattle.ieee.specs.Operators.{_⊗_}
 use Rattle.ieee.specs.Functions.{abs}
 use Rattle.ieee.specs.Range.{plus, clear, In, Mag, Size, Pow, holds}
 use Rattle.ieee.proofs.Range.Round.{rep-value, round-clear, units-clear, to-plus, below-finite, le-cross, value-cross, value-finite}
-use Rattle.ieee.proofs.Range.Laws.{rep-small, in-size, in-up}
+use Rattle.ieee.proofs.Range.Laws.{zero-under, rep-small, in-size, in-up}
 use Rattle.ieee.proofs.Range.Powers.{to-pow, mul-pow}
 use Rattle.sqrt.specs.Root.{squareRoot, sqrt}
 use Rattle.sqrt.specs.RootLaw.{roots, RootLaw}
@@ -72,10 +72,7 @@ module _ (x : Float) (P : T (positive x)) where
       (f, through (num r) (num hi) q (den r) (den hi) (2 ^ l) (den-pos hi) (le-cross r hi (root-clear x P) (c-clear q l h) f (value-finite hi false q (2 ^ l) (c-value q l h)) s) (le-of-eq (c-cross q l h)))
 
   lower : (b k : ℕ) → T (holds b k) → b * b * den x ≤ num x * (2 ^ k * 2 ^ k) → T (finite (sqrt x)) → b * den (sqrt x) ≤ num (sqrt x) * 2 ^ k
-  lower zero k h m f = none (den (sqrt x)) (num (sqrt x) * 2 ^ k)
-    where
-      none : (d n : ℕ) → 0 * d ≤ n
-      none d n = omega arith
+  lower zero k h m f = zero-under (den (sqrt x)) (num (sqrt x) * 2 ^ k)
   lower (suc b) k h m f =
       let lo = c (suc b) k h in
       let r = sqrt x in
@@ -123,15 +120,12 @@ module _ (a i p j b k q l : ℕ) (t : T (roots a i p j b k q l)) where
   at-zero : (e : ℤ) → a * down e ≤ 0 * up e * 2 ^ i → In b k q l (fin false 0 e)
   at-zero e h = record {
     sign = tt;
-    least = subst (λ (z : ℕ). z * down e ≤ 0 * up e * 2 ^ k) (sym (no-foot a b (down e) (up e) (2 ^ i) (2 ^ k) (down-pos e) (pow-pos i) h foot-le)) (none (down e) (0 * up e * 2 ^ k));
-    most = none' (up e) (2 ^ l) (q * down e);
+    least = subst (λ (z : ℕ). z * down e ≤ 0 * up e * 2 ^ k) (sym (no-foot a b (down e) (up e) (2 ^ i) (2 ^ k) (down-pos e) (pow-pos i) h foot-le)) (zero-under (down e) (0 * up e * 2 ^ k));
+    most = none (up e) (2 ^ l) (q * down e);
   }
     where
-      none : (d n : ℕ) → 0 * d ≤ n
-      none d n = omega arith
-
-      none' : (u L n : ℕ) → 0 * u * L ≤ n
-      none' u L n = omega arith
+      none : (u L n : ℕ) → 0 * u * L ≤ n
+      none u L n = omega arith
 
   root-range : (x : Float) → T (plus x) → a * den x ≤ num x * 2 ^ i → num x * 2 ^ j ≤ p * den x → In b k q l (sqrt x)
   unfolding squareRoot

@@ -1,8 +1,8 @@
 -- The root of a rounded square: `squareRoot f (mul f y y)` is y, for a y above zero that the format holds, where y * y neither overflows nor falls below the normal range. Assumes nothing.
 use mathlib.Core.Path.{_≡_, refl, sym, ap, _∙_, subst}
 use mathlib.Core.Logic.{inl, inr}
-use Prim.Native.Nat.{ℕ, zero, suc, _+_, _-_, _*_, _/_, _%_, _^_, _≤_, _<_, compare, Ordering, Ordering·lt, Ordering·eq, Ordering·gt}
-use native.Mathlib.Nat.{le-trans, le-of-eq, le-of-lt, le-antisymm, le-of-suc-le-suc, lt-of-lt-of-le, lt-of-le-of-lt, lt-of-not-le, not-le-of-lt, eq-or-lt-of-le, mul-one, mul-assoc, mul-comm, mul-left-comm, mul-right-comm, mul-le-mul, mul-le-mul-left, mul-le-mul-right, mul-lt-mul-of-pos-right, le-of-mul-le-mul-right, lt-of-mul-lt-mul-right, eq-of-mul-eq-mul-right, mul-pos, mod-lt, div-add-mod', div-lt-iff-lt-mul, le-div-iff-mul-le, pow-succ', zero-lt-suc}
+use Prim.Native.Nat.{ℕ, zero, suc, _+_, _-_, _*_, _/_, _^_, _≤_, _<_, compare, Ordering, Ordering·lt, Ordering·eq, Ordering·gt}
+use native.Mathlib.Nat.{le-trans, le-of-eq, le-of-lt, le-antisymm, le-of-suc-le-suc, lt-of-lt-of-le, lt-of-le-of-lt, lt-of-not-le, not-le-of-lt, eq-or-lt-of-le, mul-one, mul-assoc, mul-comm, mul-left-comm, mul-right-comm, mul-le-mul, mul-le-mul-left, mul-le-mul-right, mul-lt-mul-of-pos-right, le-of-mul-le-mul-right, lt-of-mul-lt-mul-right, eq-of-mul-eq-mul-right, mul-pos, div-lt-iff-lt-mul, le-div-iff-mul-le, pow-succ', zero-lt-suc}
 use native.Mathlib.Omega.{arith}
 use mathlib.Core.Bool.{true, false}
 use lib.IntN.{ℤ}
@@ -11,57 +11,35 @@ use lib.Pow.{pow-add, pow-pos, pow-mono, pow-lt, shl-lt}
 use lib.Ieee.{Float, down, up, fin, Format, binary32, binary64, prec, low, size, nearest, units, round, fits, mul}
 use lib.Ieee.Digits.{size-lt, size-le, size-reaches, back}
 use lib.Ieee.Fits.{two, two-le-pos}
-use lib.Ieee.Nearest.{closest}
-use Rattle.sqrt.specs.Root.{isqrt, closestRoot, squareRoot}
-use Rattle.sqrt.proofs.Closest.{Cmp, cmp, isqrt-ge, isqrt-below, closestRoot-is}
+use Rattle.ieee.proofs.Range.Relative.{Cmp, cmp, near}
+use Rattle.ieee.proofs.Range.Values.{Whole, whole, pow-lt-back}
+use Rattle.sqrt.specs.Root.{midSquare, isqrt, closestRoot, squareRoot}
+use Rattle.sqrt.proofs.Closest.{isqrt-ge, isqrt-below, closestRoot-is}
 use Rattle.sqrt.proofs.Grid.{rootDrop, rootKept, rootGrid, roundRoot-is, roundRoot-same, rootDrop-in, rootGrid-exact, kept-le, size-gt}
-use Rattle.sqrt.proofs.Laws.{Held, held, squareRoot-is, units-fits, fits-unique}
+use Rattle.sqrt.proofs.Laws.{squareRoot-is, units-fits, fits-unique}
 use lib.Ieee.Exact.{HasValue, units-val}
 use lib.Ieee.Order.{drop, kept}
 use lib.Ieee.Scale.{finite, overflow, round-val, round-under}
-use lib.Ieee.Positive.{num, den, positive, den-pos, own-value, value→cross, positive-of-value, mul-at}
-
--- ---- rounding to a whole number moves a fraction by half at most
-
-rounded : (w : ℕ) (o : Ordering) (r b : ℕ) → Cmp o (r * 2) b → r < b → (2 * (nearest w o * b) ≤ 2 * (w * b + r) + b) × (2 * (w * b + r) ≤ 2 * (nearest w o * b) + b)
-rounded w Ordering·lt r b c h = (omega arith, omega arith)
-rounded w Ordering·eq r b c h = even (w % 2) (small w)
-  where
-    small : (w : ℕ) → w % 2 < 2
-    small w = omega arith
-
-    even : (t : ℕ) → t < 2 → (2 * ((w + t) * b) ≤ 2 * (w * b + r) + b) × (2 * (w * b + r) ≤ 2 * ((w + t) * b) + b)
-    even zero l = (omega arith, omega arith)
-    even (suc zero) l = (omega arith, omega arith)
-    even (suc (suc t)) l = absurd (no t l)
-      where
-        no : (t : ℕ) → suc (suc t) < 2 → ⊥
-        no t h = omega arith
-rounded w Ordering·gt r b c h = (omega arith, omega arith)
-
-pub closest-near : (n b : ℕ) → 0 < b → (2 * (closest n b * b) ≤ 2 * n + b) × (2 * n ≤ 2 * (closest n b * b) + b)
-closest-near n b B =
-    subst (λ (x : ℕ). (2 * (closest n b * b) ≤ 2 * x + b) × (2 * x ≤ 2 * (closest n b * b) + b)) (div-add-mod' n b)
-    (rounded (n / b) (compare (n % b * 2) b) (n % b) b (cmp (n % b * 2) b) (mod-lt n B))
+use lib.Ieee.Positive.{num, den, positive, positive-finite, den-pos, own-value, value→cross, positive-of-value, mul-at}
 
 -- ---- g is the nearest root where n / b is between the squares of g - 1 / 2 and g + 1 / 2
 
-pub closestRoot-near : (n b g : ℕ) → 0 < b → (2 * g + 1) * (2 * g + 1) * b < 4 * n → 4 * n < (2 * g + 3) * (2 * g + 3) * b → closestRoot n b ≡ suc g
+pub closestRoot-near : (n b g : ℕ) → 0 < b → midSquare g * b < 4 * n → 4 * n < (2 * g + 3) * (2 * g + 3) * b → closestRoot n b ≡ suc g
 closestRoot-near n b g B lo hi =
     let q = isqrt (n / b) in
     let a : g ≤ q = isqrt-ge (n / b) g (le-div-iff-mul-le B .1 (down g n b (le-of-lt lo))) in
     let c : q < suc (suc g) = isqrt-below (n / b) (suc (suc g)) (div-lt-iff-lt-mul B .1 (up g n b hi)) in
-    closestRoot-is n b ∙ go q a (le-of-suc-le-suc c) (compare (4 * n) ((2 * q + 1) * (2 * q + 1) * b)) (cmp (4 * n) ((2 * q + 1) * (2 * q + 1) * b))
+    closestRoot-is n b ∙ go q a (le-of-suc-le-suc c) (compare (4 * n) (midSquare q * b)) (cmp (4 * n) (midSquare q * b))
   where
-    down : (g n b : ℕ) → (2 * g + 1) * (2 * g + 1) * b ≤ 4 * n → g * g * b ≤ n
+    down : (g n b : ℕ) → midSquare g * b ≤ 4 * n → g * g * b ≤ n
     down g n b h = omega arith
 
     up : (g n b : ℕ) → 4 * n < (2 * g + 3) * (2 * g + 3) * b → n < suc (suc g) * suc (suc g) * b
     up g n b h = omega arith
 
-    pick : (q : ℕ) (o : Ordering) → q ≡ g → Cmp o (4 * n) ((2 * q + 1) * (2 * q + 1) * b) → nearest q o ≡ suc g
-    pick q Ordering·lt e c = absurd (not-le-of-lt (subst (λ (x : ℕ). 4 * n < (2 * x + 1) * (2 * x + 1) * b) e c) (le-of-lt lo))
-    pick q Ordering·eq e c = absurd (not-le-of-lt lo (le-of-eq (subst (λ (x : ℕ). 4 * n ≡ (2 * x + 1) * (2 * x + 1) * b) e c)))
+    pick : (q : ℕ) (o : Ordering) → q ≡ g → Cmp o (4 * n) (midSquare q * b) → nearest q o ≡ suc g
+    pick q Ordering·lt e c = absurd (not-le-of-lt (subst (λ (x : ℕ). 4 * n < midSquare x * b) e c) (le-of-lt lo))
+    pick q Ordering·eq e c = absurd (not-le-of-lt lo (le-of-eq (subst (λ (x : ℕ). 4 * n ≡ midSquare x * b) e c)))
     pick q Ordering·gt e c = ap suc e
 
     over : (x : ℕ) → (2 * suc x + 1) * (2 * suc x + 1) * b ≡ (2 * x + 3) * (2 * x + 3) * b
@@ -70,12 +48,12 @@ closestRoot-near n b g B lo hi =
         three : (x : ℕ) → 2 * suc x + 1 ≡ 2 * x + 3
         three x = omega arith
 
-    pick′ : (q : ℕ) (o : Ordering) → q ≡ suc g → Cmp o (4 * n) ((2 * q + 1) * (2 * q + 1) * b) → nearest q o ≡ suc g
+    pick′ : (q : ℕ) (o : Ordering) → q ≡ suc g → Cmp o (4 * n) (midSquare q * b) → nearest q o ≡ suc g
     pick′ q Ordering·lt e c = e
-    pick′ q Ordering·eq e c = absurd (not-le-of-lt hi (le-of-eq (sym (over g) ∙ sym (subst (λ (x : ℕ). 4 * n ≡ (2 * x + 1) * (2 * x + 1) * b) e c))))
-    pick′ q Ordering·gt e c = absurd (not-le-of-lt hi (le-of-lt (lt-of-le-of-lt (le-of-eq (sym (over g))) (subst (λ (x : ℕ). (2 * x + 1) * (2 * x + 1) * b < 4 * n) e c))))
+    pick′ q Ordering·eq e c = absurd (not-le-of-lt hi (le-of-eq (sym (over g) ∙ sym (subst (λ (x : ℕ). 4 * n ≡ midSquare x * b) e c))))
+    pick′ q Ordering·gt e c = absurd (not-le-of-lt hi (le-of-lt (lt-of-le-of-lt (le-of-eq (sym (over g))) (subst (λ (x : ℕ). midSquare x * b < 4 * n) e c))))
 
-    go : (q : ℕ) → g ≤ q → q ≤ suc g → (o : Ordering) → Cmp o (4 * n) ((2 * q + 1) * (2 * q + 1) * b) → nearest q o ≡ suc g
+    go : (q : ℕ) → g ≤ q → q ≤ suc g → (o : Ordering) → Cmp o (4 * n) (midSquare q * b) → nearest q o ≡ suc g
     go q a c o k = elim (eq-or-lt-of-le a) [ inl e ↦ pick q o (sym e) k | inr l ↦ pick′ q o (le-antisymm c l) k ]
 
 -- ---- the rounded square W of G * 2 ^ k, with E for 4 ^ k and U for the unit that W is rounded to
@@ -84,17 +62,14 @@ closestRoot-near n b g B lo hi =
 half-above : (g E U W : ℕ) → 0 < E → 2 * W ≤ 2 * (suc g * suc g * E) + U → U ≤ 2 * g * E → 4 * W < (2 * g + 3) * (2 * g + 3) * E
 half-above g E U W v a b = omega arith
 
-half-below : (g E U W : ℕ) → 0 < E → 2 * (suc g * suc g * E) ≤ 2 * W + U → U ≤ 2 * g * E → (2 * g + 1) * (2 * g + 1) * E < 4 * W
+half-below : (g E U W : ℕ) → 0 < E → 2 * (suc g * suc g * E) ≤ 2 * W + U → U ≤ 2 * g * E → midSquare g * E < 4 * W
 half-below g E U W v a b = omega arith
 
-at-least : (g E W : ℕ) → (2 * g + 1) * (2 * g + 1) * E < 4 * W → g * g * E ≤ W
+at-least : (g E W : ℕ) → midSquare g * E < 4 * W → g * g * E ≤ W
 at-least g E W h = omega arith
 
 at-most : (g E W : ℕ) → 4 * W < (2 * g + 3) * (2 * g + 3) * E → W < suc (suc g) * suc (suc g) * E
 at-most g E W h = omega arith
-
-pow-lt-back : (i p : ℕ) → 2 ^ i < 2 ^ p → i < p
-pow-lt-back i p h = lt-of-not-le (λ (g : p ≤ i). not-le-of-lt h (pow-mono g))
 
 double : (p : ℕ) → 0 < p → 2 ^ p ≡ 2 * 2 ^ (p - 1)
 double p h = ap (λ (x : ℕ). 2 ^ x) (step p h) ∙ pow-succ' 2 (p - 1)
@@ -169,18 +144,18 @@ inner p D l k g K C N P pos-C e up down least lo hi =
     let c : 2 ^ (p - 1) * 2 ^ (D + l) ≤ suc g * suc g * E = subst (λ (x : ℕ). 2 ^ (p - 1) * x ≤ suc g * suc g * E) (sym (pow-add 2 D l)) (unit N L (suc g) E C K B pos-C e (2 ^ (p - 1)) least) in
     let u : B * L ≤ 2 * g * E = le-trans (le-of-eq (sym (pow-add 2 D l))) (le-trans (unit-le p (D + l) k (suc g) P c hi) (mul-le-mul-right E (le-trans (le-of-eq (double p P)) (mul-le-mul-left 2 lo)))) in
     let x : 4 * W < (2 * g + 3) * (2 * g + 3) * E = half-above g E (B * L) W (pow-pos (k + k)) a u in
-    let y : (2 * g + 1) * (2 * g + 1) * E < 4 * W = half-below g E (B * L) W (pow-pos (k + k)) b u in
+    let y : midSquare g * E < 4 * W = half-below g E (B * L) W (pow-pos (k + k)) b u in
     let f : E * L ≡ L * Q * Q = ap (λ (z : ℕ). z * L) (square-of-power k) ∙ mul-comm (Q * Q) L ∙ sym (mul-assoc L Q Q) in
     let n = W * L in
-    let near : closestRoot n (L * Q * Q) ≡ suc g =
+    let nearby : closestRoot n (L * Q * Q) ≡ suc g =
     closestRoot-near n (L * Q * Q) g (mul-pos (mul-pos (pow-pos l) (pow-pos k)) (pow-pos k))
-    (lt-of-le-of-lt (le-of-eq (ap (λ (z : ℕ). (2 * g + 1) * (2 * g + 1) * z) (sym f) ∙ sym (mul-assoc ((2 * g + 1) * (2 * g + 1)) E L))) (lt-of-lt-of-le (mul-lt-mul-of-pos-right y (pow-pos l)) (le-of-eq (mul-assoc 4 W L))))
+    (lt-of-le-of-lt (le-of-eq (ap (λ (z : ℕ). midSquare g * z) (sym f) ∙ sym (mul-assoc (midSquare g) E L))) (lt-of-lt-of-le (mul-lt-mul-of-pos-right y (pow-pos l)) (le-of-eq (mul-assoc 4 W L))))
     (lt-of-le-of-lt (le-of-eq (sym (mul-assoc 4 W L))) (lt-of-lt-of-le (mul-lt-mul-of-pos-right x (pow-pos l)) (le-of-eq (mul-assoc ((2 * g + 3) * (2 * g + 3)) E L ∙ ap (λ (z : ℕ). (2 * g + 3) * (2 * g + 3) * z) f)))) in
     let d : rootDrop p n L ≡ k =
     rootDrop-in p n L k P (pow-pos l)
     (mul-le-mul-right L (le-trans (le-of-eq (pair (2 ^ (p - 1)) Q ∙ ap (λ (z : ℕ). 2 ^ (p - 1) * 2 ^ (p - 1) * z) (sym (square-of-power k)))) (le-trans (mul-le-mul-right E (mul-le-mul lo lo)) (at-least g E W y))))
     (mul-lt-mul-of-pos-right (lt-of-lt-of-le (at-most g E W x) (le-trans (mul-le-mul-right E (mul-le-mul hi hi)) (le-of-eq (ap (λ (z : ℕ). 2 ^ p * 2 ^ p * z) (square-of-power k) ∙ sym (pair (2 ^ p) Q))))) (pow-pos l)) in
-    ap (λ (z : ℕ). closestRoot n (L * 2 ^ z * 2 ^ z) * 2 ^ z) d ∙ ap (λ (z : ℕ). z * Q) near
+    ap (λ (z : ℕ). closestRoot n (L * 2 ^ z * 2 ^ z) * 2 ^ z) d ∙ ap (λ (z : ℕ). z * Q) nearby
   where
     pair : (a K : ℕ) → a * K * (a * K) ≡ a * a * (K * K)
     pair a K = simp (mul-assoc, mul-left-comm)
@@ -334,11 +309,11 @@ module _ (p l D K C N q j : ℕ) (pos-p : 0 < p) (pos-C : 0 < C) (deep-enough : 
       turn a c d = simp (mul-assoc, mul-comm)
 
 -- a value z of W units has the root y, if the root of W units is y
-root-is-value : (f : Format) (y z : Float) (W : ℕ) → T (fits f y) → T (positive y) → (v : Held f (num y) (den y)) → 0 < v .digits * 2 ^ v .places → HasValue z false W (2 ^ low f) → 0 < W
-    → rootGrid (prec f) (W * 2 ^ low f * 2 ^ low f) (2 ^ low f) ≡ v .digits * 2 ^ v .places → squareRoot f z ≡ y
+root-is-value : (f : Format) (y z : Float) (W : ℕ) → T (fits f y) → T (positive y) → (v : Whole f y) → 0 < v .m * 2 ^ v .j → HasValue z false W (2 ^ low f) → 0 < W
+    → rootGrid (prec f) (W * 2 ^ low f * 2 ^ low f) (2 ^ low f) ≡ v .m * 2 ^ v .j → squareRoot f z ≡ y
 root-is-value f y z W h pos v g-pos val W-pos root =
     let L = 2 ^ low f in
-    let g = v .digits * 2 ^ v .places in
+    let g = v .m * 2 ^ v .j in
     let q = rootKept (prec f) (W * L * L) L in
     let k = rootDrop (prec f) (W * L * L) L in
     let r = units f false q k in
@@ -348,7 +323,7 @@ root-is-value f y z W h pos v g-pos val W-pos root =
     ∙ roundRoot-is f W L
     ∙ fits-unique f r y (units-fits f false q k (kept-le (prec f) (W * L * L) L (pow-pos (low f)))) h (positive-of-value r g L r-val g-pos) pos
     (eq-of-mul-eq-mul-right L (pow-pos (low f)) (num r * den y) (num y * den r)
-    (mul-right-comm (num r) (den y) L ∙ ap (λ (x : ℕ). x * den y) (value→cross r g L r-val) ∙ mul-right-comm g (den r) (den y) ∙ ap (λ (x : ℕ). x * den r) (sym (v .value)) ∙ mul-right-comm (num y) L (den r)))
+    (mul-right-comm (num r) (den y) L ∙ ap (λ (x : ℕ). x * den y) (value→cross r g L r-val) ∙ mul-right-comm g (den r) (den y) ∙ ap (λ (x : ℕ). x * den r) (sym (v .is)) ∙ mul-right-comm (num y) L (den r)))
 
 pub squareRoot-of-square : (f : Format) (y : Float) → T (fits f y) → T (positive y) → prec f ≤ size (num y * num y * 2 ^ low f / (den y * den y)) → T (finite (mul f y y)) → squareRoot f (mul f y y) ≡ y
 squareRoot-of-square f y h pos normal fine =
@@ -362,20 +337,20 @@ squareRoot-of-square f y h pos normal fine =
     let N = m * m * 2 ^ l in
     let D = drop p N C in
     let K = kept p N C in
-    let v = held f y h pos in
-    let q = v .digits in
-    let j = v .places in
-    let e : N * 2 ^ l ≡ q * 2 ^ j * (q * 2 ^ j) * C = pairs m (2 ^ l) ∙ ap (λ (x : ℕ). x * x) (v .value) ∙ pair (q * 2 ^ j) c in
-    let near = closest-near N (C * 2 ^ D) (mul-pos pos-C (pow-pos D)) in
+    let v = whole f y (positive-finite y pos) h in
+    let q = v .m in
+    let j = v .j in
+    let e : N * 2 ^ l ≡ q * 2 ^ j * (q * 2 ^ j) * C = pairs m (2 ^ l) ∙ ap (λ (x : ℕ). x * x) (v .is) ∙ pair (q * 2 ^ j) c in
+    let halves = near N (C * 2 ^ D) (mul-pos pos-C (pow-pos D)) in
     let least : 2 ^ (p - 1) * 2 ^ D * C ≤ N = le-trans (le-of-eq (ap (λ (x : ℕ). x * C) (sym (pow-add 2 (p - 1) D)))) (le-div-iff-mul-le pos-C .0 (size-reaches (N / C) (p - 1 + D) (top (size (N / C)) p P normal))) in
     let is-mul : mul f y y ≡ round f false (m * m) C = mul-at f y y m c m c pos pos (den-pos y) (den-pos y) (own-value y pos) (own-value y pos) in
     let z-val : HasValue (mul f y y) false (K * 2 ^ D) (2 ^ l) =
     subst (λ (z : Float). HasValue z false (K * 2 ^ D) (2 ^ l)) (sym is-mul) (round-val f (m * m) C (round-under f (m * m) C (subst (λ (z : Float). T (finite z)) is-mul fine))) in
     root-is-value f y (mul f y y) (K * 2 ^ D) h pos v
-    (lt-of-lt-of-le (pow-pos (p - 1)) (g-long p l D K C N q j P pos-C (deep f) e (near .0) (near .1) least (v .few)))
+    (lt-of-lt-of-le (pow-pos (p - 1)) (g-long p l D K C N q j P pos-C (deep f) e (halves .0) (halves .1) least (v .few)))
     z-val
-    (square-pos p l D K C N q j P pos-C (deep f) e (near .0) (near .1) least (v .few))
-    (grid-back p l D K C N q j P pos-C (deep f) e (near .0) (near .1) least (v .few))
+    (square-pos p l D K C N q j P pos-C (deep f) e (halves .0) (halves .1) least (v .few))
+    (grid-back p l D K C N q j P pos-C (deep f) e (halves .0) (halves .1) least (v .few))
   where
     pairs : (a l : ℕ) → a * a * l * l ≡ a * l * (a * l)
     pairs a l = simp (mul-assoc, mul-left-comm)

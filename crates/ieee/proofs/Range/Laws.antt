@@ -2,10 +2,10 @@
 -- `Mag p j x`: x is finite and |x| ≤ p / 2 ^ j. `In a i p j x`: besides, x's sign is clear and a / 2 ^ i ≤ x.
 -- A law takes the operands' ranges and one test on whole numbers, which computes to `tt` where the bounds are numerals. The result's bounds are read off the statement to be shown. Assumes nothing.
 use mathlib.Core.Path.{_≡_, refl, sym, ap, _∙_, subst}
-use Prim.Native.Nat.{ℕ, _*_, _^_, _≤_, _<_}
-use native.Mathlib.Nat.{le-trans, le-of-eq, lt-of-lt-of-le, mul-one, one-mul, zero-mul, mul-comm, mul-assoc, mul-left-comm, mul-le-mul, mul-le-mul-left, mul-pos}
+use Prim.Native.Nat.{ℕ, _+_, _-_, _*_, _^_, _≤_, _<_}
+use native.Mathlib.Nat.{le-trans, le-of-eq, lt-of-lt-of-le, mul-one, one-mul, mul-comm, mul-assoc, mul-left-comm, mul-le-mul, mul-le-mul-left, mul-pos}
 use native.Mathlib.Omega.{arith}
-use mathlib.Core.Bool.{Bool, true, false, _&&_, cond}
+use mathlib.Core.Bool.{Bool, true, false, _&&_, Bool·beq, cond}
 use lib.Dec.{T, ltb, leb, eqb, eqb→eq, ltb→lt, leb→le, lit≤}
 use lib.Pow.{pow-pos, pow-lt}
 use lib.Ieee.{Float, nan, inf, fin, binary64, unlike, up, down, round, neg, sum, add, sub, mul, div}
@@ -42,11 +42,11 @@ in-mag {x = x} h = record { fine = plus-finite x (h .sign); most = h .most }
 pub in-size : {a i p j : ℕ} {x : Float} → In a i p j x → Size a i p j x
 in-size {x = x} h = record { fine = plus-finite x (h .sign); least = h .least; most = h .most }
 
+pub zero-under : (d n : ℕ) → 0 * d ≤ n
+zero-under d n = omega arith
+
 pub mag-size : {p j : ℕ} {x : Float} → Mag p j x → Size 0 0 p j x
-mag-size {x = x} h = record { fine = h .fine; least = le-trans (le-of-eq (zero-mul (den x))) (lit0 (num x * 2 ^ 0)); most = h .most }
-  where
-    lit0 : (n : ℕ) → 0 ≤ n
-    lit0 n = omega arith
+mag-size {x = x} h = record { fine = h .fine; least = zero-under (den x) (num x * 2 ^ 0); most = h .most }
 
 -- ---- a constant's range is a test
 pub mag-lit : {p j : ℕ} (x : Float) → T (magb p j x) → Mag p j x
@@ -129,6 +129,22 @@ pub sub-is : (x y : Float) → sub binary64 x y ≡ add binary64 x (neg y)
 unfolding sub
 sub-is x y = refl
 
+-- whatever the signs, the size of a sum ±a / c ± b / c before it is rounded is no more than (a + b) / c
+pub sum-any : (P : Float → Type 0) (s : Bool) (a : ℕ) (t : Bool) (b c : ℕ) → ((s : Bool) (n : ℕ) → n ≤ a + b → P (round binary64 s n c)) → P (sum binary64 s a t b c)
+unfolding sum
+sum-any P s a t b c f = go (Bool·beq s t) (ltb a b)
+  where
+    less : (a b : ℕ) → a - b ≤ a + b
+    less a b = omega arith
+
+    less' : (a b : ℕ) → b - a ≤ a + b
+    less' a b = omega arith
+
+    go : (u v : Bool) → P (cond u (round binary64 s (a + b) c) (cond v (round binary64 t (b - a) c) (round binary64 (s && ltb b a) (a - b) c)))
+    go true v = f s (a + b) (le-of-eq refl)
+    go false true = f t (b - a) (less' a b)
+    go false false = f (s && ltb b a) (a - b) (less a b)
+
 not-zero : (n : ℕ) → 0 < n → (b : Bool) → (T b → n ≡ 0) → T b → ⊥
 not-zero n h b f t = go (f t)
   where
@@ -176,13 +192,10 @@ pub abs-in : {p j : ℕ} {x : Float} → Mag p j x → In 0 0 p j (abs x)
 unfolding abs
 abs-in {p} {j} {x} h = go x (h .fine) (h .most)
   where
-    none : (n d : ℕ) → 0 * d ≤ n
-    none n d = omega arith
-
     go : (x : Float) → T (finite x) → num x * 2 ^ j ≤ p * den x → In 0 0 p j (abs x)
     go nan a b = absurd a
     go (inf s) a b = absurd a
-    go (fin s m e) a b = record { sign = tt; least = none (m * up e * 1) (down e); most = b }
+    go (fin s m e) a b = record { sign = tt; least = zero-under (down e) (m * up e * 1); most = b }
 
 -- ---- the product
 ac-mul : (X dx Y dy a A b B : ℕ) → X * a ≤ A * dx → Y * b ≤ B * dy → X * Y * (a * b) ≤ A * B * (dx * dy)
@@ -215,8 +228,5 @@ sq-in {p} {j} {r} {n} {x} h t =
     subst (λ (z : Float). In 0 0 r n z)
     (sym (mul-is x x (h .fine) (h .fine) ∙ ap (λ (s : Bool). round binary64 s (num x * num x) (den x * den x)) (beq-self (sgn x))))
     (round-in (num x * num x) (den x * den x) 0 1 (p * p) (2 ^ j * 2 ^ j) 0 0 r n (mul-pos (den-pos x) (den-pos x)) (pow-pos 0) (mul-pos (pow-pos j) (pow-pos j))
-    (none (num x * num x * 1) (den x * den x))
+    (zero-under (den x * den x) (num x * num x * 1))
     (ac-mul (num x) (den x) (num x) (den x) (2 ^ j) p (2 ^ j) p (h .most) (h .most)) t)
-  where
-    none : (n d : ℕ) → 0 * d ≤ n
-    none n d = omega arith

@@ -1,16 +1,16 @@
 -- Bounds that are powers of two, at an exponent that need not be a numeral: `Pow k x` is |x| ≤ 2 ^ k. The tests are orders of exponents, for `omega`. Assumes nothing.
 use mathlib.Core.Path.{sym, ap, _∙_, subst}
-use Prim.Native.Nat.{ℕ, suc, _+_, _-_, _*_, _^_, _≤_, _<_}
+use Prim.Native.Nat.{ℕ, suc, _+_, _*_, _^_, _≤_, _<_}
 use native.Mathlib.Nat.{pow-suc, le-trans, le-of-eq, lt-of-lt-of-le, mul-one, one-mul, mul-comm, mul-assoc, mul-left-comm, mul-le-mul, mul-le-mul-right, mul-pos}
 use native.Mathlib.Omega.{arith}
-use mathlib.Core.Bool.{Bool, true, false, _&&_, Bool·beq, cond}
-use lib.Dec.{T, ltb, leb, leb→le, lit≤}
+use mathlib.Core.Bool.{Bool}
+use lib.Dec.{T, leb, leb→le, lit≤}
 use lib.Pow.{pow-add, pow-pos, pow-mono}
 use lib.Ieee.{Float, nan, inf, fin, binary64, unlike, round, neg, sum, add, sub, mul, div}
 use lib.Ieee.Scale.{finite}
 use lib.Ieee.Positive.{num, den, den-pos, through, first-pos}
 use Rattle.ieee.specs.Range.{sgn, Mag, In, Pow}
-use Rattle.ieee.proofs.Range.Laws.{plus-finite, rep-pow, round-rep, mul-is, add-is, sub-is, div-is}
+use Rattle.ieee.proofs.Range.Laws.{sum-any, plus-finite, rep-pow, round-rep, mul-is, add-is, sub-is, div-is}
 
 -- ---- in and out
 pub to-pow : {p j : ℕ} {x : Float} (k : ℕ) → Mag p j x → T (leb p (2 ^ k * 2 ^ j)) → Pow k x
@@ -38,19 +38,7 @@ mul-pow {i} {j} {x} {y} h g t =
     (round-pow (unlike (sgn x) (sgn y)) (num x * num y) (den x * den y) (i + j) (mul-pos (den-pos x) (den-pos y)) t (ac-mul (num x) (den x) (num y) (den y) i j (h .most) (g .most)))
 
 sum-pow : (s : Bool) (a : ℕ) (t : Bool) (b c k : ℕ) → 0 < c → k ≤ 1023 → a + b ≤ 2 ^ k * c → Pow k (sum binary64 s a t b c)
-unfolding sum
-sum-pow s a t b c k C l h = go (Bool·beq s t) (ltb a b)
-  where
-    less : (a b : ℕ) → a - b ≤ a + b
-    less a b = omega arith
-
-    less' : (a b : ℕ) → b - a ≤ a + b
-    less' a b = omega arith
-
-    go : (u v : Bool) → Pow k (cond u (round binary64 s (a + b) c) (cond v (round binary64 t (b - a) c) (round binary64 (s && ltb b a) (a - b) c)))
-    go true v = round-pow s (a + b) c k C l h
-    go false true = round-pow t (b - a) c k C l (le-trans (less' a b) h)
-    go false false = round-pow (s && ltb b a) (a - b) c k C l (le-trans (less a b) h)
+sum-pow s a t b c k C l h = sum-any (λ z. Pow k z) s a t b c (λ s n g. round-pow s n c k C l (le-trans g h))
 
 ac-add : (X dx Y dy k : ℕ) → X ≤ 2 ^ k * dx → Y ≤ 2 ^ k * dy → X * dy + Y * dx ≤ 2 ^ suc k * (dx * dy)
 ac-add X dx Y dy k h g =

@@ -18,12 +18,12 @@ use lib.Ieee.Positive.{num, den}
 use Rattle.ieee.proofs.Range.Round.{value-cross, round-value}
 
 -- ---- what `compare` says
-abbrev Cmp : Ordering → ℕ → ℕ → Type 0
+abbrev pub Cmp : Ordering → ℕ → ℕ → Type 0
 Cmp Ordering·lt a b = a < b
 Cmp Ordering·eq a b = a ≡ b
 Cmp Ordering·gt a b = b < a
 
-cmp : (a b : ℕ) → Cmp (compare a b) a b
+pub cmp : (a b : ℕ) → Cmp (compare a b) a b
 cmp a b = go (compare a b) (leb→le a b) (nleb→lt a b) (eqb→eq a b) (λ (e : a ≡ b). subst (λ (x : ℕ). T (eqb a x)) e (eqb-refl a))
   where
     go : (o : Ordering) → (T (isLe o) → a ≤ b) → (T (not (isLe o)) → b < a) → (T (isEq o) → a ≡ b) → (a ≡ b → T (isEq o)) → Cmp o a b
@@ -32,7 +32,7 @@ cmp a b = go (compare a b) (leb→le a b) (nleb→lt a b) (eqb→eq a b) (λ (e 
     go Ordering·gt h k e n = k tt
 
 -- ---- the nearest whole number is off by half a unit at the most
-abbrev Close : ℕ → ℕ → ℕ → Type 0
+abbrev pub Close : ℕ → ℕ → ℕ → Type 0
 Close c n u = (2 * (c * u) ≤ 2 * n + u) × (2 * n ≤ 2 * (c * u) + u)
 
 at-lt : (q r u n : ℕ) → q * u + r ≡ n → r * 2 < u → Close q n u

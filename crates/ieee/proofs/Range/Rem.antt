@@ -1,21 +1,20 @@
 -- The remainder: it is exact, it is smaller than the divisor, and so it is finite. Over either format, for a divisor that is not zero. Assumes nothing.
 use mathlib.Core.Path.{_≡_, refl, sym, ap, _∙_, subst}
-use Prim.Native.Nat.{ℕ, zero, suc, _+_, _-_, _*_, _^_, _≤_, _<_, _%_}
-use native.Mathlib.Nat.{le-trans, le-of-eq, le-of-lt, lt-of-lt-of-le, lt-of-le-of-lt, lt-irrefl, mul-one, one-mul, zero-mul, mul-comm, mul-assoc, mul-right-comm, mul-le-mul-right, mul-pos, mod-lt, mod-le, mul-div-cancel, mul-mod-left, add-zero, lt-of-mul-lt-mul-right, mul-lt-mul-of-pos-right, le-of-suc-le-suc, lt-of-not-le}
+use Prim.Native.Nat.{ℕ, _+_, _-_, _*_, _^_, _≤_, _<_, _%_}
+use native.Mathlib.Nat.{le-trans, le-of-eq, le-of-lt, lt-of-lt-of-le, lt-of-le-of-lt, mul-comm, mul-assoc, mul-right-comm, mul-le-mul-right, mul-pos, mod-lt, mod-le, mul-div-cancel, mul-mod-left, add-zero, lt-of-mul-lt-mul-right, mul-lt-mul-of-pos-right}
 use native.Mathlib.Omega.{arith}
 use mathlib.Core.Bool.{Bool, true, false, not, _&&_, cond}
 use lib.Dec.{T, ltb, leb, eqb, eqb→eq, ltb→lt, nleb→lt, leb→le}
-use lib.Pow.{pow-add, pow-pos, pow-lt}
-use lib.Ieee.{Float, nan, inf, fin, binary64, up, down, round, Format, prec, emax, low, rem, fits}
-use lib.Ieee.Fits.{and-l, and-r, down-pos, up-pos}
+use lib.Pow.{pow-pos}
+use lib.Ieee.{Float, nan, inf, fin, binary64, up, down, round, Format, prec, low, rem, fits}
+use lib.Ieee.Fits.{and-l, and-r}
 use lib.Ieee.Scale.{finite}
 use lib.Ieee.Positive.{num, den, den-pos, first-pos}
 use Rattle.ieee.specs.Range.{sgn, Mag, In, holds}
 use Rattle.ieee.proofs.Range.Round.{value-cross, value-finite}
+use Rattle.ieee.proofs.Range.Values.{split-pow, Whole, whole}
 use Rattle.ieee.proofs.Range.Laws.{plus-finite, rep-small, round-rep}
 use lib.Arith.{mod-mul}
-use lib.IntN.{ℤ, pos, negsuc}
-use lib.Ieee.Digits.{back}
 use lib.Ieee.Exact.{HasValue, round-exact}
 
 -- ---- a remainder of multiples
@@ -26,65 +25,12 @@ mod-scale a m c M C =
     ∙ ap (λ (z : ℕ). a % m * c + z) (mul-mod-left a c)
     ∙ add-zero (a % m * c)
 
--- ---- a finite value that the format holds, as a whole number m * 2 ^ j of the format's smallest values
-pow-le-back : (a l : ℕ) → 2 ^ a ≤ 2 ^ l → a ≤ l
-pow-le-back a l h = le-of-suc-le-suc (lt-of-not-le (λ (g : suc l ≤ a). lt-irrefl (2 ^ l) (lt-of-lt-of-le (pow-lt g) h)))
-
-place : (l : ℕ) (e : ℤ) → down e ≤ 2 ^ l → (j : ℕ) × (up e * 2 ^ l ≡ 2 ^ j * down e)
-place l (pos a) h = (a + l, sym (pow-add 2 a l) ∙ sym (mul-one (2 ^ (a + l))))
-place l (negsuc a) h = (l - suc a, one-mul (2 ^ l) ∙ ap (λ (x : ℕ). 2 ^ x) (sym (back l (suc a) (pow-le-back (suc a) l h))) ∙ pow-add 2 (l - suc a) (suc a))
-
-pub record Whole (f : Format) (x : Float) : Type 0 where
-  pub m : ℕ
-  pub j : ℕ
-  pub few : m < 2 ^ prec f
-  pub is : num x * 2 ^ low f ≡ m * 2 ^ j * den x
-  pub under : m * 2 ^ j < 2 ^ (low f + suc (emax f))
-
-whole-at : (f : Format) (s : Bool) (m : ℕ) (e : ℤ) → m < 2 ^ prec f → down e ≤ 2 ^ low f → m * up e < 2 ^ suc (emax f) * down e → Whole f (fin s m e)
-whole-at f s m e a b c =
-    let pl = place (low f) e b in
-    let j = pl .0 in
-    let is : m * up e * 2 ^ low f ≡ m * 2 ^ j * down e = mul-assoc m (up e) (2 ^ low f) ∙ ap (λ (x : ℕ). m * x) (pl .1) ∙ sym (mul-assoc m (2 ^ j) (down e)) in
-    record {
-      m = m;
-      j = j;
-      few = a;
-      is = is;
-      under = lt-of-mul-lt-mul-right (down e)
-          (subst (λ (x : ℕ). x < 2 ^ (low f + suc (emax f)) * down e) is
-          (lt-of-lt-of-le (mul-lt-mul-of-pos-right c (pow-pos (low f)))
-          (le-of-eq (mul-right-comm (2 ^ suc (emax f)) (down e) (2 ^ low f) ∙ ap (λ (x : ℕ). x * down e) (mul-comm (2 ^ suc (emax f)) (2 ^ low f) ∙ sym (pow-add 2 (low f) (suc (emax f))))))));
-    }
-
-one-each : (u d l : ℕ) → 0 < u → u * d ≡ 1 → 0 < l → d ≤ l
-one-each u d l U e L = le-trans (le-trans (le-of-eq (sym (one-mul d))) (mul-le-mul-right d U)) (le-trans (le-of-eq e) L)
-
-pub whole : (f : Format) (x : Float) → T (finite x) → T (fits f x) → Whole f x
-unfolding fits
-whole f nan a t = absurd a
-whole f (inf s) a t = absurd a
-whole f (fin s zero e) a t =
-    whole-at f s 0 e (pow-pos (prec f)) (one-each (up e) (down e) (2 ^ low f) (up-pos e) (eqb→eq (up e * down e) 1 t) (pow-pos (low f)))
-    (rw (zero-mul (up e)) (mul-pos (pow-pos (suc (emax f))) (down-pos e)))
-whole f (fin s (suc m) e) a t =
-    let A : Bool = eqb (suc m % 2) 1 in
-    let B : Bool = ltb (suc m) (2 ^ prec f) in
-    let C : Bool = leb (down e) (2 ^ low f) in
-    let D : Bool = ltb (suc m * up e) (2 ^ suc (emax f) * down e) in
-    let t3 = and-l (A && B && C) D t in
-    let t2 = and-l (A && B) C t3 in
-    whole-at f s (suc m) e (ltb→lt (suc m) (2 ^ prec f) (and-r A B t2)) (leb→le (down e) (2 ^ low f) (and-r (A && B) C t3)) (ltb→lt (suc m * up e) (2 ^ suc (emax f) * down e) (and-r (A && B && C) D t))
-
 -- ---- the remainder of two whole numbers m * 2 ^ i and n * 2 ^ j is a number of no more digits, with one of the two powers
 pub record Left (p A B : ℕ) : Type 0 where
   pub q : ℕ
   pub j : ℕ
   pub few : q < 2 ^ p
   pub is : A % B ≡ q * 2 ^ j
-
-split-pow : (n i j : ℕ) → i ≤ j → n * 2 ^ j ≡ n * 2 ^ (j - i) * 2 ^ i
-split-pow n i j h = ap (λ (x : ℕ). n * 2 ^ x) (sym (back j i h)) ∙ ap (λ (x : ℕ). n * x) (pow-add 2 (j - i) i) ∙ sym (mul-assoc n (2 ^ (j - i)) (2 ^ i))
 
 left : (p m i n j : ℕ) → m < 2 ^ p → n < 2 ^ p → 0 < n → Left p (m * 2 ^ i) (n * 2 ^ j)
 left p m i n j M N P = go (leb i j) (leb→le i j) (nleb→lt i j)

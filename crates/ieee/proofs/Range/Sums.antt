@@ -1,36 +1,22 @@
 -- Sums and differences: `add-mag`, `sub-mag`, `add-in`, `sub-in`, and `opp-mag`, a sum of two values of unlike signs. Assumes nothing.
 use mathlib.Core.Path.{_≡_, refl, sym, ap, _∙_, subst}
 use Prim.Native.Nat.{ℕ, _+_, _-_, _*_, _^_, _≤_, _<_}
-use native.Mathlib.Nat.{le-refl, le-trans, le-of-eq, not-le-of-lt, mul-comm, mul-assoc, mul-left-comm, mul-le-mul-right, mul-pos, mul-sub, add-mul, add-le-add}
+use native.Mathlib.Nat.{le-trans, le-of-eq, not-le-of-lt, mul-comm, mul-assoc, mul-left-comm, mul-le-mul-right, mul-pos, mul-sub, add-mul, add-le-add}
 use native.Mathlib.Omega.{arith}
 use mathlib.Core.Bool.{Bool, true, false, not, _&&_, Bool·beq, cond}
 use lib.Dec.{T, ltb, ltb→lt, leb→le}
 use lib.Pow.{pow-pos}
 use lib.Ieee.{Float, nan, inf, fin, binary64, unlike, round, neg, sum, add, sub}
 use lib.Ieee.Fits.{and-l, and-r}
+use lib.Ieee.Bits.{is-true}
 use lib.Ieee.Scale.{finite}
 use lib.Ieee.Positive.{num, den, den-pos, through}
 use Rattle.ieee.specs.Range.{sgn, plus, Mag, In, Size, wider, tops, foot}
-use Rattle.ieee.proofs.Range.Laws.{plus-finite, plus-sgn, in-size, round-mag, round-in, add-is, sub-is, neg-mag, neg-size}
+use Rattle.ieee.proofs.Range.Laws.{sum-any, plus-finite, plus-sgn, in-size, round-mag, round-in, add-is, sub-is, neg-mag, neg-size}
 
--- ---- whatever the signs, ±a / c ± b / c is no more than (a + b) / c
+-- ---- sums of either sign
 sum-mag : (s : Bool) (a : ℕ) (t : Bool) (b c P Q p j : ℕ) → 0 < c → 0 < Q → (a + b) * Q ≤ P * c → T (tops P Q p j) → Mag p j (sum binary64 s a t b c)
-unfolding sum
-sum-mag s a t b c P Q p j C Q0 h k = go (Bool·beq s t) (ltb a b)
-  where
-    less : (a b : ℕ) → a - b ≤ a + b
-    less a b = omega arith
-
-    less' : (a b : ℕ) → b - a ≤ a + b
-    less' a b = omega arith
-
-    at : (s : Bool) (n : ℕ) → n ≤ a + b → Mag p j (round binary64 s n c)
-    at s n l = round-mag s n c P Q p j C Q0 (le-trans (mul-le-mul-right Q l) h) k
-
-    go : (u v : Bool) → Mag p j (cond u (round binary64 s (a + b) c) (cond v (round binary64 t (b - a) c) (round binary64 (s && ltb b a) (a - b) c)))
-    go true v = at s (a + b) (le-refl (a + b))
-    go false true = at t (b - a) (less' a b)
-    go false false = at (s && ltb b a) (a - b) (less a b)
+sum-mag s a t b c P Q p j C Q0 h k = sum-any (λ z. Mag p j z) s a t b c (λ s n l. round-mag s n c P Q p j C Q0 (le-trans (mul-le-mul-right Q l) h) k)
 
 ac-add : (X dx Y dy J p K q : ℕ) → X * J ≤ p * dx → Y * K ≤ q * dy → (X * dy + Y * dx) * (J * K) ≤ (p * K + q * J) * (dx * dy)
 ac-add X dx Y dy J p K q h g =
@@ -159,10 +145,6 @@ neg-minus (fin false m e) f p = absurd p
 
 signs : (s t s' t' : Bool) → s ≡ s' → t ≡ t' → T (unlike s' t') → T (unlike s t)
 signs s t s' t' p q h = subst (λ (b : Bool). T (unlike b t)) (sym p) (subst (λ (b : Bool). T (unlike s' b)) (sym q) h)
-
-is-true : (b : Bool) → T b → b ≡ true
-is-true true t = refl
-is-true false t = absurd t
 
 pub sub-gap : {a i p j b k q l r n : ℕ} {x y : Float} → In a i p j x → In b k q l y → T (tops (p * 2 ^ k - b * 2 ^ j) (2 ^ j * 2 ^ k) r n && tops (q * 2 ^ i - a * 2 ^ l) (2 ^ l * 2 ^ i) r n) → Mag r n (sub binary64 x y)
 sub-gap {r = r} {n = n} {x = x} {y = y} h g t =

@@ -121,22 +121,22 @@ clamp-in {a} {i} {p} {j} {b} {k} {q} {l} {d} {m} {x} {lo} {c} h g f w =
     (λ u. choose (λ z. In d m p j z) (lt c x) c x (λ t. record { sign = h .sign; least = through d a (num c) (2 ^ m) (2 ^ i) (den c) (pow-pos i) (leb→le (d * 2 ^ i) (a * 2 ^ m) w) (h .least); most = h .most }) (λ t. nlt-most h (nlt-in g f u) t))
 
 -- ---- the gate: lo ≤ x ≤ hi, for a lo above zero
+pub positive-plus : (x : Float) → T (positive x) → T (plus x)
+positive-plus nan p = absurd p
+positive-plus (inf s) p = absurd p
+positive-plus (fin true m e) p = absurd p
+positive-plus (fin false m e) p = tt
+
 pub gate-in : {a i b k c l p j : ℕ} (lo hi x : Float) → In a i b k lo → In c l p j hi → T (positive lo && positive hi) → T (le lo x) → T (le x hi) → In a i p j x
 gate-in {a} {i} {p = p} {j = j} lo hi x h g t u v =
     let L = and-l (positive lo) (positive hi) t in
     let H = and-r (positive lo) (positive hi) t in
     let P = between lo x hi L H u v in
     record {
-      sign = pos-plus x P;
+      sign = positive-plus x P;
       least = through a (num lo) (num x) (2 ^ i) (den lo) (den x) (den-pos lo) (h .least) (le→cross lo x L P u);
       most = through (num x) (num hi) p (den x) (den hi) (2 ^ j) (den-pos hi) (le→cross x hi P H v) (g .most);
     }
-  where
-    pos-plus : (x : Float) → T (positive x) → T (plus x)
-    pos-plus nan p = absurd p
-    pos-plus (inf s) p = absurd p
-    pos-plus (fin true m e) p = absurd p
-    pos-plus (fin false m e) p = tt
 
 -- ---- a test that the ranges decide: |x| ≤ p / 2 ^ j ≤ a / 2 ^ i ≤ c
 pub never-above : {a i b k p j : ℕ} {c x : Float} → In a i b k c → Mag p j x → T (wider p j a i) → T (not (lt c x))
@@ -196,16 +196,10 @@ max-keep {a} {i} {p} {j} {x = x} {c = c} h g t = choose (λ z. In a i p j z) (lt
 pub gate-least : {a i b k p j : ℕ} (lo x : Float) → In a i b k lo → Mag p j x → T (positive lo) → T (le lo x) → In a i p j x
 gate-least {a} {i} lo x h g L u =
     let P = go x (above-of-le lo x L u) (g .fine) in
-    record { sign = pos-plus x P; least = through a (num lo) (num x) (2 ^ i) (den lo) (den x) (den-pos lo) (h .least) (le→cross lo x L P u); most = g .most }
+    record { sign = positive-plus x P; least = through a (num lo) (num x) (2 ^ i) (den lo) (den x) (den-pos lo) (h .least) (le→cross lo x L P u); most = g .most }
   where
     go : (x : Float) → T (above x) → T (finite x) → T (positive x)
     go nan a f = absurd a
     go (inf s) a f = absurd f
     go (fin true m e) a f = absurd a
     go (fin false m e) a f = a
-
-    pos-plus : (x : Float) → T (positive x) → T (plus x)
-    pos-plus nan p = absurd p
-    pos-plus (inf s) p = absurd p
-    pos-plus (fin true m e) p = absurd p
-    pos-plus (fin false m e) p = tt

@@ -1,23 +1,21 @@
--- Zeros of either sign, `Mag 0 0 z`, and what is exact: a sum with a zero, and x - x. A value that an f64 holds is known by its sign and its size (`unique`). Assumes nothing.
+-- Zeros of either sign, `Mag 0 0 z`, and what is exact: a sum with a zero, and x - x. Assumes nothing.
 use mathlib.Core.Path.{_≡_, refl, sym, ap, _∙_, subst}
 use mathlib.Core.Logic.{_⊎_, inl, inr}
-use Prim.Native.Nat.{_/_, ℕ, zero, suc, _+_, _-_, _*_, _^_, _≤_, _<_}
-use native.Mathlib.Nat.{le-trans, le-of-eq, zero-mul, mul-comm, mul-assoc, mul-left-comm, mul-right-comm, mul-pos, add-zero, sub-zero}
+use Prim.Native.Nat.{ℕ, zero, suc, _+_, _-_, _*_, _≤_, _<_}
+use native.Mathlib.Nat.{le-trans, le-of-eq, zero-mul, mul-comm, mul-assoc, mul-left-comm, mul-pos, add-zero, sub-zero}
 use native.Mathlib.Omega.{arith}
 use mathlib.Core.Bool.{Bool, true, false, not, _&&_, Bool·beq, cond}
 use lib.Dec.{T, lt→ltb, ltb, ltb→lt}
 use lib.Pow.{pow-pos}
-use lib.Ieee.{Float, nan, inf, fin, binary64, unlike, up, down, round, sum, add, sub, mul, low, prec, size, fits, toBits, ofBits}
-use lib.Ieee.Fits.{and-l, and-r, down-pos, add-fits}
+use lib.Ieee.{Float, nan, inf, fin, binary64, unlike, up, down, round, sum, add, sub, mul, fits}
+use lib.Ieee.Fits.{and-l, and-r, down-pos}
 use lib.Ieee.Scale.{finite, round-same}
 use lib.Ieee.Positive.{num, den, den-pos}
 use Rattle.ieee.specs.Range.{sgn, plus, Mag, In, holds}
 use Rattle.ieee.proofs.Range.Round.{round-least, round-plus, value-cross, value-finite}
+use Rattle.ieee.proofs.Range.Values.{own-round, round-itself}
 use Rattle.ieee.proofs.Range.Laws.{plus-finite, plus-sgn, rep-small, round-rep, round-mag, mul-is, add-is, sub-is, neg-mag}
-use lib.Ieee.Bits.{ofBits-toBits}
-use lib.Ieee.Nearest.{div-same}
-use lib.Ieee.Exact.{HasValue, round-exact}
-use Rattle.ieee.proofs.Range.Rem.{whole}
+use lib.Ieee.Exact.{HasValue}
 
 -- ---- zeros
 pub zero-num : {z : Float} → Mag 0 0 z → num z ≡ 0
@@ -74,43 +72,11 @@ add-zero-is x z f h k =
     ∙ sum-zero (sgn x) (num x * den z) (sgn z) (den x * den z) k
     ∙ round-same binary64 (sgn x) (num x * den z) (den x * den z) (num x) (den x) (mul-pos (den-pos x) (den-pos z)) (den-pos x) (simp (mul-assoc, mul-comm, mul-left-comm))
 
--- ---- a value that the format holds is rounded to itself
-own-round : (x : Float) → T (finite x) → T (fits binary64 x) → HasValue (round binary64 (sgn x) (num x) (den x)) (sgn x) (num x) (den x)
-own-round x f h = let w = whole binary64 x f h in round-exact binary64 (sgn x) (num x) (den x) (w .m) (w .j) (den-pos x) (w .few) (w .under) (w .is)
-
-bits-same : (x y : Float) (s : Bool) (a c : ℕ) → 0 < c → HasValue x s a c → HasValue y s a c → toBits binary64 x ≡ toBits binary64 y
-unfolding toBits
-bits-same nan y s a c C h g = absurd h
-bits-same (inf t) y s a c C h g = absurd h
-bits-same (fin t m e) nan s a c C h g = absurd g
-bits-same (fin t m e) (inf u) s a c C h g = absurd g
-bits-same (fin t m e) (fin u n d) s a c C h g =
-    let L = 2 ^ low binary64 in
-    let k : m * up e * L * down d ≡ n * up d * L * down e =
-    mul-right-comm (m * up e) L (down d) ∙ ap (λ (z : ℕ). z * L) (cross (m * up e) (n * up d) (down e) (down d) a c C (h .1) (g .1)) ∙ mul-right-comm (n * up d) (down e) L in
-    ap (λ (z : Bool). at z (m * up e * L / down e)) (h .0 ∙ sym (g .0)) ∙ ap (λ (z : ℕ). at u z) (div-same (m * up e * L) (down e) (n * up d * L) (down d) (down-pos e) (down-pos d) k)
-  where
-    at : Bool → ℕ → ℕ
-    at s n = let k = size n - prec binary64 in cond s (lib.Ieee.top binary64) 0 + k * lib.Ieee.hid binary64 + n / 2 ^ k
-
-    cross : (X Y dx dy a c : ℕ) → 0 < c → X * c ≡ a * dx → Y * c ≡ a * dy → X * dy ≡ Y * dx
-    cross X Y dx dy a c C h g = native.Mathlib.Nat.eq-of-mul-eq-mul-right c C (X * dy) (Y * dx) (mul-right-comm X dy c ∙ ap (λ (z : ℕ). z * dy) h ∙ mul-right-comm a dx dy ∙ ap (λ (z : ℕ). z * dx) (sym g) ∙ mul-right-comm Y c dx)
-
-pub unique : (x y : Float) (s : Bool) (a c : ℕ) → 0 < c → T (fits binary64 x) → T (fits binary64 y) → HasValue x s a c → HasValue y s a c → x ≡ y
-unique x y s a c C p q h g = sym (ofBits-toBits binary64 x p) ∙ ap (ofBits binary64) (bits-same x y s a c C h g) ∙ ofBits-toBits binary64 y q
-
-self-value : (x : Float) → T (finite x) → HasValue x (sgn x) (num x) (den x)
-self-value nan f = absurd f
-self-value (inf s) f = absurd f
-self-value (fin s m e) f = (refl, refl)
-
--- x + 0 is x, for an x with a clear sign
+-- ---- x + 0 is x, for an x with a clear sign
 pub add-zero-same : {z : Float} (x : Float) → T (plus x) → T (fits binary64 x) → Mag 0 0 z → add binary64 x z ≡ x
 add-zero-same {z} x p h g =
     let f = plus-finite x p in
-    let e = add-zero-is x z f g (inr (subst (λ (b : Bool). T (not b)) (sym (plus-sgn x p)) tt)) in
-    unique (add binary64 x z) x (sgn x) (num x) (den x) (den-pos x) (add-fits binary64 x z) h
-    (subst (λ (w : Float). HasValue w (sgn x) (num x) (den x)) (sym e) (own-round x f h)) (self-value x f)
+    add-zero-is x z f g (inr (subst (λ (b : Bool). T (not b)) (sym (plus-sgn x p)) tt)) ∙ round-itself binary64 x f h
 
 -- ---- the same as ranges, whatever the bounds
 pub add-zero-in : {a i p j : ℕ} {x z : Float} → In a i p j x → Mag 0 0 z → T (holds a i && holds p j) → In a i p j (add binary64 x z)
@@ -124,39 +90,27 @@ pub sub-zero-in : {a i p j : ℕ} {x z : Float} → In a i p j x → Mag 0 0 z �
 sub-zero-in {a} {i} {p} {j} {x} {z} h g t = subst (λ (w : Float). In a i p j w) (sym (sub-is x z)) (add-zero-in h (neg-mag g) t)
 
 -- ---- x - x
-opposite : (s : Bool) (a c : ℕ) → Mag 0 0 (sum binary64 s a (not s) a c) ⊎ (c ≡ 0)
-opposite s a zero = inr refl
-opposite s a (suc c) = inl (at s (ltb a a) (ltb→lt a a))
+opposite : (s : Bool) (a c : ℕ) → 0 < c → Mag 0 0 (sum binary64 s a (not s) a c)
+unfolding sum
+opposite s a c C = go s (ltb a a)
   where
-    at : (s u : Bool) → (T u → a < a) → Mag 0 0 (sum binary64 s a (not s) a (suc c))
-    at s u f = unfold sum in go s (ltb a a) (ltb→lt a a)
-      where
-        none : (a d : ℕ) → (a - a) * 1 ≤ 0 * d
-        none a d = omega arith
+    none : (a d : ℕ) → (a - a) * 1 ≤ 0 * d
+    none a d = omega arith
 
-        one : (c : ℕ) → 0 < suc c
-        one c = omega arith
+    nought : (s : Bool) → Mag 0 0 (round binary64 s (a - a) c)
+    nought s = round-mag s (a - a) c 0 1 0 0 C (pow-pos 0) (none a c) tt
 
-        nought : (s : Bool) → Mag 0 0 (round binary64 s (a - a) (suc c))
-        nought s = round-mag s (a - a) (suc c) 0 1 0 0 (one c) (pow-pos 0) (none a (suc c)) tt
-
-        go : (s u : Bool) → (T u → a < a) → Mag 0 0 (cond (Bool·beq s (not s)) (round binary64 s (a + a) (suc c)) (cond u (round binary64 (not s) (a - a) (suc c)) (round binary64 (s && ltb a a) (a - a) (suc c))))
-        go true true k = nought false
-        go true false k = nought (true && ltb a a)
-        go false true k = nought true
-        go false false k = nought (false && ltb a a)
+    go : (s u : Bool) → Mag 0 0 (cond (Bool·beq s (not s)) (round binary64 s (a + a) c) (cond u (round binary64 (not s) (a - a) c) (round binary64 (s && ltb a a) (a - a) c)))
+    go true true = nought false
+    go true false = nought (true && ltb a a)
+    go false true = nought true
+    go false false = nought (false && ltb a a)
 
 pub sub-self-mag : (x : Float) → T (finite x) → Mag 0 0 (sub binary64 x x)
 unfolding sub
 sub-self-mag nan f = absurd f
 sub-self-mag (inf s) f = absurd f
-sub-self-mag (fin s m e) f = elim (opposite s (m * up e * down e) (down e * down e)) [
-  | inl h ↦ h
-  | inr q ↦ absurd (no (down e * down e) (mul-pos (down-pos e) (down-pos e)) q)
-]
-  where
-    no : (n : ℕ) → 0 < n → n ≡ 0 → ⊥
-    no n h e = omega arith
+sub-self-mag (fin s m e) f = opposite s (m * up e * down e) (down e * down e) (mul-pos (down-pos e) (down-pos e))
 
 -- ---- x plus a zero is no larger than x, of either sign
 pub add-zero-size : {z : Float} (x : Float) → T (finite x) → T (fits binary64 x) → Mag 0 0 z → T (finite (add binary64 x z)) × (num (add binary64 x z) * den x ≤ num x * den (add binary64 x z))
@@ -164,7 +118,7 @@ add-zero-size {z} x f h g = go (sgn x) refl (num x) refl
   where
     exact : (0 < num x * den z) ⊎ T (not (sgn x)) → T (finite (add binary64 x z)) × (num (add binary64 x z) * den x ≤ num x * den (add binary64 x z))
     exact k =
-        let v = subst (λ (w : Float). HasValue w (sgn x) (num x) (den x)) (sym (add-zero-is x z f g k)) (own-round x f h) in
+        let v = subst (λ (w : Float). HasValue w (sgn x) (num x) (den x)) (sym (add-zero-is x z f g k)) (own-round binary64 x f h) in
         (value-finite (add binary64 x z) (sgn x) (num x) (den x) v, le-of-eq (value-cross (add binary64 x z) (sgn x) (num x) (den x) v))
 
     both : num x ≡ 0 → Mag 0 0 (add binary64 x z)

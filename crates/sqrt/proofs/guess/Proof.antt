@@ -2,7 +2,7 @@
 use Prim.Native.Nat.{ℕ, _-_, _/_, _<_}
 use native.Mathlib.Omega.{arith}
 use borrow.Author.Needs.{needs}
-use Rattle.sqrt.proofs.Cases.{is-above, above-no-nan, no-nan}
+use Rattle.sqrt.proofs.Cases.{is-above, above-no-nan, below-no-nan}
 use Rattle.sqrt.proofs.guess.Statement.{statement}
 use Rattle.sqrt.proofs.guess.Tie as tie
 
@@ -13,13 +13,13 @@ less : (t : ℕ) → 0x5fe6_eb50_c7b5_37a9 - t / 2 < 0x7ff0_0000_0000_0000
 less t = omega arith
 
 float-from-bits-h : tie.Need-float-from-bits-h
-float-from-bits-h c = no-nan (c .args .t) (below (c .args .t) (c .pre))
+float-from-bits-h c = below-no-nan (c .args .t) (below (c .args .t) (c .pre))
 
 sub-y : tie.Need-sub-y
 sub-y c = search needs
 
 float-from-bits-y : tie.Need-float-from-bits-y
-float-from-bits-y c = no-nan (0x5fe6_eb50_c7b5_37a9 - c .args .t / 2) (less (c .args .t))
+float-from-bits-y c = below-no-nan (0x5fe6_eb50_c7b5_37a9 - c .args .t / 2) (less (c .args .t))
 
 float-to-bits-bits : tie.Need-float-to-bits-bits
 float-to-bits-bits c = above-no-nan _ (is-above _ (c .if1 .taken))

@@ -6,7 +6,7 @@ use lib.Ieee.Bits.{ofBits-toBits}
 use lib.Ieee.Positive.{above}
 use Rattle.sqrt.specs.Root.{squareRoot}
 use Rattle.sqrt.proofs.Patterns.{above-pos, above-inf}
-use Rattle.sqrt.proofs.Cases.{is-above, above-no-nan, no-nan, root-inf, root-zero, root-none}
+use Rattle.sqrt.proofs.Cases.{is-above, above-no-nan, below-no-nan, root-inf, root-zero, root-none}
 use Rattle.sqrt.proofs.sqrt.Statement.{statement}
 use Rattle.sqrt.proofs.sqrt.Tie as tie
 
@@ -29,7 +29,7 @@ root-bits-requires c κs =
     (above-pos (toBits binary64 x) (above-bits x (read-back (c .before .before)) (is-above x (c .before .if1 .taken))), c .if2 .taken)
 
 float-from-bits-result : tie.Need-float-from-bits-result
-float-from-bits-result c = no-nan (c .root-bits .result) (c .root-bits .ensures .1)
+float-from-bits-result c = below-no-nan (c .root-bits .result) (c .root-bits .ensures .1)
 
 returns : tie.Need-returns
 returns c = c .root-bits .ensures .0 ∙ ap (squareRoot binary64) (read-back (c .before .before .before))

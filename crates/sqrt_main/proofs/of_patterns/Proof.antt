@@ -1,0 +1,39 @@
+-- `sqrt_main::of_patterns` meets its contract. Assumes nothing.
+use Prim.Native.Nat.{_-_, _≤_}
+use native.Mathlib.Omega.{arith}
+use borrow.Author.Needs.{needs}
+use Rattle.sqrt_main.proofs.of_patterns.Statement.{statement}
+use Rattle.sqrt_main.proofs.of_patterns.Tie as tie
+
+abbrev Inv-loop : tie.InvT-loop
+Inv-loop s down state₀ sum₀ counter₀ state sum counter = counter ≤ 1000
+
+abbrev μ-loop : tie.MeasureT-loop
+μ-loop s down state₀ sum₀ counter₀ state sum counter = 1000 - counter
+
+loop-holds : tie.Need-loop-holds Inv-loop μ-loop
+loop-holds c = omega arith
+
+next-requires : tie.Need-next-requires Inv-loop μ-loop
+next-requires c κs = search needs
+
+shr-with-root : tie.Need-shr-with-root Inv-loop μ-loop
+shr-with-root c = omega arith
+
+with-root-requires : tie.Need-with-root-requires Inv-loop μ-loop
+with-root-requires c κs = search needs
+
+add-counter : tie.Need-add-counter Inv-loop μ-loop
+add-counter c = omega arith
+
+loop-less : tie.Need-loop-less Inv-loop μ-loop
+loop-less c = omega arith
+
+loop-again : tie.Need-loop-again Inv-loop μ-loop
+loop-again c = omega arith
+
+returns : tie.Need-returns Inv-loop μ-loop
+returns c = search needs
+
+pub of-patterns-spec : {M : Type 1} → statement M
+of-patterns-spec = tie.close (tie.spec Inv-loop μ-loop loop-holds next-requires shr-with-root with-root-requires add-counter loop-less loop-again returns)
