@@ -1,16 +1,15 @@
 -- What the source's tests say of a float: whether it is a NaN, an infinity or a zero, and its sign bit. Assumes nothing.
-use mathlib.Core.Path.{_≡_, refl, sym, ap, _∙_, subst}
+use mathlib.Core.Path.{_≡_, refl, sym, ap, _∙_}
 use Prim.Native.Nat.{ℕ, zero, suc, _+_, _*_, _%_, _/_, _^_, _≤_, _<_}
-use native.Mathlib.Nat.{mul-one, zero-mul, mul-pos, zero-lt-suc, lt-irrefl}
 use mathlib.Core.Bool.{Bool, true, false, _&&_, _||_, Bool·beq, cond, true≢false, false≢true}
 use borrow.Author.Tests.{lt-leb, le-leb, ne-eqb}
 use lib.Dec.{T, eqb, leb, eqb·suc-zero}
 use lib.IntN.{pos}
-use lib.Ieee.{Float, nan, inf, fin, Format, binary64, up, down, odd, ones, hid, top, prec, low, neg, eq, ne, level, fits, isNan, ofFields, ofBits, toBits}
+use lib.Ieee.{Float, nan, inf, fin, Format, binary64, up, down, odd, ones, hid, top, prec, low, neg, eq, ne, fits, isNan, ofFields, ofBits, toBits}
 use lib.Ieee.Bits.{ofBits-toBits}
 use lib.Ieee.Fits.{up-pos}
 use lib.Ieee.Compare.{differs-from-itself}
-use Rattle.ieee.proofs.Signs.{zero-is, of-true}
+use Rattle.ieee.proofs.Signs.{zero-is, of-true, zero-level, not-zero}
 use Rattle.elementary.proofs.Constants.{infinity, infinity-is}
 use Rattle.ieee.specs.Functions.{is-inf, is-zero}
 use Rattle.ieee.specs.Range.{sgn}
@@ -46,31 +45,16 @@ pub infinite-else : (x : Float) → eq x infinity ≡ false → eq x (neg infini
 infinite-else x e = rw infinity-is (else-infinity x (ap (eq x) (sym infinity-is) ∙ e))
 
 -- ---- x == 0.0
-none : (n : ℕ) → 0 * n * 1 ≡ 0
-none n = mul-one (0 * n) ∙ zero-mul n
-
-is-level : (s : Bool) (a b : ℕ) → a ≡ 0 → b ≡ 0 → level s a false b ≡ true
-is-level s a b p q = ap (λ (n : ℕ). level s n false b) p ∙ ap (level s 0 false) q ∙ at s
-  where
-    at : (s : Bool) → level s 0 false 0 ≡ true
-    at true = refl
-    at false = refl
-
-not-level : (s : Bool) (a b : ℕ) → 0 < a → b ≡ 0 → level s a false b ≡ false
-not-level s a b h q = ap (λ (t : Bool). t && (Bool·beq s false || eqb a 0)) (ne-eqb a b (λ e. lt-irrefl 0 (subst (λ (n : ℕ). 0 < n) (e ∙ q) h)))
-
-zero-test-at : (x : Float) → eq x (fin false 0 (pos 0)) ≡ is-zero x
+at-zero : (x : Float) → eq x (fin false 0 (pos 0)) ≡ is-zero x
 unfolding eq
-zero-test-at nan = refl
-zero-test-at (inf s) = refl
-zero-test-at (fin s zero d) = is-level s (0 * up d * 1) (0 * down d) (none (up d)) (zero-mul (down d))
-zero-test-at (fin s (suc m) d) = not-level s (suc m * up d * 1) (0 * down d) (more (suc m * up d) (mul-pos (zero-lt-suc m) (up-pos d))) (zero-mul (down d)) ∙ sym (eqb·suc-zero m)
-  where
-    more : (a : ℕ) → 0 < a → 0 < a * 1
-    more a h = subst (λ (n : ℕ). 0 < n) (sym (mul-one a)) h
+at-zero nan = refl
+at-zero (inf s) = refl
+at-zero (fin s zero d) = zero-level s (up d) (down d)
+at-zero (fin s (suc m) d) =
+    ap (λ (b : Bool). b && (Bool·beq s false || eqb (suc m * up d * 1) 0)) (ne-eqb (suc m * up d * 1) (0 * 1 * down d) (not-zero m (up d) (down d) (up-pos d))) ∙ sym (eqb·suc-zero m)
 
 pub zero-test : (x : Float) → eq x (ofBits binary64 0) ≡ is-zero x
-zero-test x = ap (eq x) zero-is ∙ zero-test-at x
+zero-test x = ap (eq x) zero-is ∙ at-zero x
 
 -- ---- the sign bit: the highest of the pattern
 odd-sign : (d : ℕ) (s : Bool) (q k l : ℕ) → sgn (odd d s q k l) ≡ s

@@ -112,11 +112,7 @@ struct Phase {
 fn exp_of(x: f64) -> f64
     ensures { λ r. ⌜ r ≡ exp x ⌝ }
 {
-    if x == 0.0 {
-        1.0
-    } else {
-        elementary::exp(x)
-    }
+    if x == 0.0 { 1.0 } else { elementary::exp(x) }
 }
 
 // Both exponentials from one sine and one cosine: -sin(x) stands for sin(-x). Where these differ,

@@ -7,9 +7,6 @@ use borrow.Author.Needs.{needs}
 use Rattle.transfer_matrix.proofs.exp_of.Statement.{statement}
 use Rattle.transfer_matrix.proofs.exp_of.Tie as tie
 
-
-
-
 exp-requires : tie.Need-exp-requires
 exp-requires c κs = search needs
 

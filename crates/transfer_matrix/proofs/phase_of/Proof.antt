@@ -45,7 +45,6 @@ module _ (d : Complex) where
   unfolding cos-delta sin-delta i-sin-delta
   parts y g h p n s x u w m i h1 h2 h3 h4 h5 h6 h7 h8 h9 h10 h11 = simp (h11, h10, h9, h8, h7, h6, h5, h4, h3, h2, h1, sums, differences)
 
-
 sin-cos-requires : tie.Need-sin-cos-requires
 sin-cos-requires c κs = search needs
 
@@ -80,7 +79,7 @@ new-requires-4 : tie.Need-new-requires-4
 new-requires-4 c κs = search needs
 
 returns : tie.Need-returns
-returns c = 
+returns c =
     parts _ _ _ _ _ _ _ _ _ _ _ _ (c .before .before .before .before .before .before .before .before .before .before .before .before .before .before .before .before .sin-cos .ensures) (c .before .before .before .before .before .before .before .before .before .before .before .before .before .before .exp-of .ensures) (c .before .before .before .before .before .before .before .before .before .before .before .before .before .exp-of2 .ensures) (c .before .before .before .before .before .before .before .before .before .before .new .ensures) (c .before .before .before .before .before .before .before .new2 .ensures) (c .before .before .before .before .before .before .add .ensures) (c .before .before .before .before .before .scale .ensures) (c .before .before .before .before .sub .ensures) (c .before .before .before .new3 .ensures) (c .before .before .mul .ensures) (c .new4 .ensures)
 
 pub phase-of-spec : {M : Type 1} → statement M
