@@ -1,0 +1,3 @@
+-- Facts on places and words, and the claim on the grammar.
+pub mod Places
+pub mod Scan
