@@ -1,2 +1,3 @@
 -- laws
 pub mod Entries
+pub mod Steps
