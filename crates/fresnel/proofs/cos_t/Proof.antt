@@ -12,7 +12,7 @@ sqrt-requires c κs = search needs
 
 returns : tie.Need-returns
 unfolding cos-t
-returns c = cc
+returns c = simp (c .sqrt .ensures, c .before .max .ensures)
 
 pub cos-t-spec : {M : Type 1} → statement M
 cos-t-spec = tie.close (tie.spec max-requires sqrt-requires returns)

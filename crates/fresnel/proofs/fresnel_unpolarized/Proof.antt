@@ -12,7 +12,7 @@ clamp-requires c κs = search needs
 
 returns : tie.Need-returns
 unfolding r-total fresnel-unpolarized
-returns c = cc
+returns c = simp (c .clamp .ensures, c .before .before .fresnel-dielectric .ensures)
 
 pub fresnel-unpolarized-spec : {M : Type 1} → statement M
 fresnel-unpolarized-spec = tie.close (tie.spec fresnel-dielectric-requires clamp-requires returns)

@@ -12,7 +12,7 @@ power-requires-2 c κs = search needs
 
 returns : tie.Need-returns
 unfolding refracted
-returns c = cc
+returns c = simp (c .power2 .ensures, c .before .power .ensures)
 
 pub refracted-spec : {M : Type 1} → statement M
 refracted-spec = tie.close (tie.spec power-requires power-requires-2 returns)

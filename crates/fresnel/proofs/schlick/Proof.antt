@@ -15,7 +15,7 @@ clamp-requires-2 c κs = search needs
 
 returns : tie.Need-returns
 unfolding schlick
-returns c = cc
+returns c = simp (c .clamp2 .ensures, c .before .powi5 .ensures, c .before .before .clamp .ensures)
 
 pub schlick-spec : {M : Type 1} → statement M
 schlick-spec = tie.close (tie.spec clamp-requires powi5-requires clamp-requires-2 returns)

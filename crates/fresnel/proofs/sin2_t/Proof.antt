@@ -9,7 +9,7 @@ max-requires c κs = search needs
 
 returns : tie.Need-returns
 unfolding sin2-t
-returns c = cc
+returns c = simp (c .max .ensures)
 
 pub sin2-t-spec : {M : Type 1} → statement M
 sin2-t-spec = tie.close (tie.spec max-requires returns)
