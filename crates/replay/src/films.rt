@@ -59,7 +59,7 @@ fn code_of(c: Coating) -> u64 {
 }
 
 // A coating as it is ordered, by its code, 1 to 8.
-fn surface(code: u32, design: f64) -> SurfaceCoating {
+pub fn surface(code: u32, design: f64) -> SurfaceCoating {
     match code {
         1 => SurfaceCoating::IdealAr,
         2 => SurfaceCoating::MgF2 {
@@ -144,7 +144,7 @@ fn mgf2_out(out: &mut [u64; 256], s: SurfaceCoating) -> usize {
 }
 
 // A text's length and its bytes.
-fn text_out(out: &mut [u64; 256], t: Text) -> usize {
+pub fn text_out(out: &mut [u64; 256], t: Text) -> usize {
     let b = t.bytes;
     let n = t.len;
     out[0] = n as u64;

@@ -2,6 +2,7 @@
 // and prints for each function how many answers agree, and the first that does not, whole.
 // README.md has the record format.
 mod films;
+mod names;
 mod polar;
 mod scalars;
 mod words;
@@ -56,8 +57,10 @@ fn call(f: usize, a: &[u64; 512], out: &mut [u64; 256]) -> usize {
         scalars::call(f, a, out)
     } else if f < 80 {
         films::call(f, a, out)
-    } else {
+    } else if f < 140 {
         polar::call(f, a, out)
+    } else {
+        names::call(f, a, out)
     }
 }
 
