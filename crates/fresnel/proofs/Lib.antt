@@ -1,0 +1,2 @@
+-- Answers of document 01 that are computed.
+pub mod Known

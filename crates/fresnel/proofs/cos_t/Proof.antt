@@ -1,0 +1,18 @@
+-- `fresnel::cos_t` meets its contract. Assumes nothing.
+use Rattle.fresnel.specs.Fresnel.{cos-t}
+use borrow.Author.Needs.{needs}
+use Rattle.fresnel.proofs.cos_t.Statement.{statement}
+use Rattle.fresnel.proofs.cos_t.Tie as tie
+
+max-requires : tie.Need-max-requires
+max-requires c κs = search needs
+
+sqrt-requires : tie.Need-sqrt-requires
+sqrt-requires c κs = search needs
+
+returns : tie.Need-returns
+unfolding cos-t
+returns c = simp (c .sqrt .ensures, c .before .max .ensures)
+
+pub cos-t-spec : {M : Type 1} → statement M
+cos-t-spec = tie.close (tie.spec max-requires sqrt-requires returns)

@@ -1,0 +1,2 @@
+-- fresnel.rs: the powers that a bare surface reflects.
+pub mod Fresnel
