@@ -1,5 +1,5 @@
 -- Two matrices are equal by their entries. Assumes nothing.
-use mathlib.Core.Path.{_≡_, refl}
+use mathlib.Core.Path.{_≡_}
 use mathlib.Core.List.{List, [], _∷_}
 use Rattle.complex.specs.declared.Complex.{Complex}
 

@@ -1,3 +1,4 @@
 -- laws
 pub mod Entries
 pub mod Exponentials
+pub mod Steps

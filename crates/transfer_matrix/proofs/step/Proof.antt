@@ -1,6 +1,6 @@
 -- `transfer_matrix::step` meets its contract. Assumes nothing.
-use mathlib.Core.Path.{_≡_, refl, sym, ap, _∙_}
-use lib.Ieee.{Float, neg}
+use mathlib.Core.Path.{_≡_, ap, _∙_}
+use lib.Ieee.{neg}
 use Rattle.ieee.specs.Operators.{_⊗_, _⊘_}
 use Rattle.ieee.specs.Functions.{two}
 use Rattle.elementary.specs.Angles.{pi}

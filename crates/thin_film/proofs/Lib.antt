@@ -1,0 +1,5 @@
+-- laws
+pub mod Order
+pub mod Repeat
+pub mod Answers
+pub mod Lent

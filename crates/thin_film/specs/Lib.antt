@@ -1,0 +1,4 @@
+-- Coatings of thin_film.rs.
+pub mod Coating
+pub mod Evaluate
+pub mod Walk
