@@ -14,3 +14,4 @@ pub mod FromZero
 pub mod Constants
 pub mod Plus
 pub mod AbsProduct
+pub mod Falls

@@ -29,10 +29,10 @@ abs-units f s q k = go (ltb (q * 2 ^ k) (2 ^ (low f + suc (emax f))))
     go true = abs-odd (suc (prec f)) s q k (low f)
     go false = inf-abs s
 
-abs-round : (f : Format) (s : Bool) (N D : ℕ) → abs (round f s N D) ≡ round f false N D
+pub abs-round : (f : Format) (s : Bool) (N D : ℕ) → abs (round f s N D) ≡ round f false N D
 abs-round f s N D = ap abs (round-is f s N D) ∙ abs-units f s (kept (prec f) (N * 2 ^ low f) D) (drop (prec f) (N * 2 ^ low f) D) ∙ sym (round-is f false N D)
 
-abs-parts : (x : Float) → T (finite x) → T (finite (abs x)) × (sgn (abs x) ≡ false) × (num (abs x) ≡ num x) × (den (abs x) ≡ den x)
+pub abs-parts : (x : Float) → T (finite x) → T (finite (abs x)) × (sgn (abs x) ≡ false) × (num (abs x) ≡ num x) × (den (abs x) ≡ den x)
 unfolding abs
 abs-parts nan f = absurd f
 abs-parts (inf s) f = absurd f

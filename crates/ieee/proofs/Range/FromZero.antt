@@ -1,18 +1,21 @@
 -- What the tests x == 0 and 0 <= x <= hi say of a range: a zero may have either sign. Assumes nothing.
-use mathlib.Core.Path.{_≡_, refl, sym, ap, _∙_, subst}
+use mathlib.Core.Path.{_≡_, sym, ap, _∙_, subst}
 use mathlib.Core.Logic.{_⊎_, inl, inr}
-use Prim.Native.Nat.{ℕ, _*_, _^_, _≤_}
-use native.Mathlib.Nat.{le-trans, le-of-eq, le-of-lt, zero-mul}
+use Prim.Native.Nat.{ℕ, _*_, _^_, _≤_, _<_}
+use native.Mathlib.Nat.{le-trans, le-of-eq, le-of-lt, not-le-of-lt, zero-mul, mul-pos}
 use native.Mathlib.Omega.{arith}
-use mathlib.Core.Bool.{Bool, true, false, _&&_, _||_, Bool·beq}
-use lib.Dec.{T, ltb, eqb, ltb→lt, eqb→eq}
+use mathlib.Core.Bool.{Bool, true, false, not, _&&_, _||_, Bool·beq}
+use lib.Dec.{T, ltb, eqb, ltb→lt, eqb→eq, not-T}
 use lib.IntN.{pos}
-use lib.Ieee.{Float, nan, inf, fin, binary64, up, down, le, eq, ofBits}
+use lib.Ieee.{Float, nan, inf, fin, up, down, le, eq}
 use lib.Ieee.Fits.{and-l, down-pos}
-use lib.Ieee.Positive.{num, den, through}
+use lib.Ieee.Positive.{num, den, den-pos, through}
 use Rattle.ieee.specs.Functions.{zero-f}
-use Rattle.ieee.specs.Range.{Mag, In, plus}
+use Rattle.ieee.specs.Range.{Mag, In, clear, plus}
 use Rattle.ieee.proofs.Signs.{zero-is}
+use Rattle.ieee.proofs.Range.Round.{le-cross}
+use Rattle.ieee.proofs.Range.Laws.{plus-finite}
+use Rattle.ieee.proofs.Range.Zero.{zero-num}
 
 or-split : (a b : Bool) → T (a || b) → T a ⊎ T b
 or-split true b t = inl tt
@@ -54,3 +57,18 @@ equals-zero x t = go x (subst (λ (z : Float). T (eq x z)) zero-is t)
     go nan t = absurd (unfold eq in t)
     go (inf s) t = absurd (unfold eq in t)
     go (fin s m e) t = record { fine = tt; most = nought (m * up e) (down e) (eqb→eq (m * up e * 1) (0 * down e) (and-l (eqb (m * up e * 1) (0 * down e)) (Bool·beq s false || eqb (m * up e * 1) 0) (unfold eq in t))) }
+
+-- ---- not x <= 0
+plus-clear : (x : Float) → T (plus x) → T (clear x)
+plus-clear nan p = absurd p
+plus-clear (inf s) p = absurd p
+plus-clear (fin s m e) p = p
+
+pub above-zero : {a i p j : ℕ} {x : Float} → In a i p j x → T (ltb 0 a) → T (not (le x zero-f))
+above-zero {a} {i} {p} {j} {x} h t = not-T (le x zero-f) (λ u. none (num x) (den x) a i (den-pos x) (h .least) (ltb→lt 0 a t) (zero-cross u))
+  where
+    zero-cross : T (le x zero-f) → num x ≡ 0
+    zero-cross u = zero-num {z = x} (record { fine = plus-finite x (h .sign); most = le-cross x (fin false 0 (pos 0)) (plus-clear x (h .sign)) tt (plus-finite x (h .sign)) tt (subst (λ (z : Float). T (le x z)) zero-is u) })
+
+    none : (n d a i : ℕ) → 0 < d → a * d ≤ n * 2 ^ i → 0 < a → n ≡ 0 → ⊥
+    none n d a i D h A e = not-le-of-lt (mul-pos A D) (le-trans h (le-of-eq (ap (λ (m : ℕ). m * 2 ^ i) e ∙ zero-mul (2 ^ i))))
