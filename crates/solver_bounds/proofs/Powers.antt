@@ -1,5 +1,5 @@
 -- Complex numbers and matrices up to a power of two: a layer's matrix with entries up to 2 ^ g raises the bound of a product by g + 2 doublings. Assumes nothing.
-use Prim.Native.Nat.{ℕ, suc, _+_, _*_, _^_, _≤_}
+use Prim.Native.Nat.{ℕ, suc, _+_, _*_, _^_, _≤_, zero-le}
 use native.Mathlib.Omega.{arith}
 use mathlib.Core.Bool.{Bool, true, false, not, cond}
 use lib.Dec.{T, leb}
@@ -18,9 +18,6 @@ use Rattle.solver_bounds.specs.Range.{CMag, CPow, Real, MPow}
 use Rattle.solver_bounds.proofs.Complex.{least-denom-in}
 
 -- ---- complex numbers
-low-end : (n : ℕ) → 0 ≤ n
-low-end n = omega arith
-
 pub cpow-up : {i k : ℕ} {z : Complex} → CPow i z → i ≤ k → CPow k z
 cpow-up h l = record { re = pow-up (h .re) l; im = pow-up (h .im) l }
 
@@ -28,10 +25,10 @@ pub cmag-pow : {p j : ℕ} (k : ℕ) {z : Complex} → CMag p j z → T (leb p (
 cmag-pow k h t = record { re = to-pow k (h .re) t; im = to-pow k (h .im) t }
 
 pub real-pow : {a i p j : ℕ} (k : ℕ) {z : Complex} → Real a i p j z → T (leb p (2 ^ k * 2 ^ j)) → CPow k z
-real-pow k h t = record { re = to-pow k (in-mag (h .re)) t; im = pow-up (to-pow 0 (h .im) tt) (low-end k) }
+real-pow k h t = record { re = to-pow k (in-mag (h .re)) t; im = pow-up (to-pow 0 (h .im) tt) zero-le }
 
 pub zero-pow : (k : ℕ) → CPow k zero
-zero-pow k = record { re = pow-up (to-pow 0 zero-mag tt) (low-end k); im = pow-up (to-pow 0 zero-mag tt) (low-end k) }
+zero-pow k = record { re = pow-up (to-pow 0 zero-mag tt) zero-le; im = pow-up (to-pow 0 zero-mag tt) zero-le }
 
 pub cadd-pow : {k : ℕ} {z w : Complex} → CPow k z → CPow k w → suc k ≤ 1023 → CPow (suc k) (add z w)
 unfolding add

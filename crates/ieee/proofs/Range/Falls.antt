@@ -1,33 +1,37 @@
 -- Values that are not below zero, a zero of either sign among them, by value: rounding keeps their order, a product with one that is at most 1 does not grow, and sums keep the order. Assumes nothing.
 use mathlib.Core.Path.{_≡_, refl, sym, ap, _∙_, subst}
-use Prim.Native.Nat.{ℕ, zero, suc, _+_, _-_, _*_, _≤_, _<_}
-use native.Mathlib.Nat.{le-trans, le-of-eq, eq-or-lt-of-le, zero-mul, mul-zero, zero-add, add-zero, sub-zero, mul-comm, mul-assoc, mul-le-mul-left, mul-le-mul-right, mul-pos}
+use Prim.Native.Nat.{ℕ, zero, suc, _+_, _-_, _*_, _^_, _≤_, _<_}
+use native.Mathlib.Nat.{le-trans, le-of-eq, eq-or-lt-of-le, eq-zero-or-pos, zero-mul, mul-zero, zero-add, add-zero, sub-zero, mul-comm, mul-assoc, mul-le-mul-left, mul-le-mul-right, mul-pos}
 use native.Mathlib.Omega.{arith}
 use mathlib.Core.Bool.{Bool, true, false, _&&_, _||_, cond}
 use mathlib.Core.Logic.{inl, inr}
-use lib.Dec.{T, ltb, eqb, eqb→eq, eqb-refl, lt→ltb, leb·zero, leb·suc-zero, leb·suc-suc, lit≤}
+use lib.Dec.{T, ltb, eqb, leb→le, eqb→eq, eqb-refl, lt→ltb, leb·zero, leb·suc-zero, leb·suc-suc, lit≤}
 use lib.IntN.{pos}
+use lib.Pow.{pow-pos}
 use lib.Ieee.{Float, nan, inf, fin, binary64, up, down, unlike, below, level, round, sum, le, fits, ofBits}
 use lib.Ieee.Fits.{and-l, and-r, and-i}
 use lib.Ieee.Scale.{finite}
 use lib.Ieee.Positive.{num, den, den-pos, through}
 use Rattle.ieee.specs.Operators.{_⊕_, _⊗_}
 use Rattle.ieee.specs.Functions.{zero-f, one, abs}
-use Rattle.ieee.specs.Range.{sgn, clear, Mag, In}
+use Rattle.ieee.specs.Range.{sgn, clear, plus, Mag, In, wider}
 use Rattle.ieee.proofs.Signs.{zero-is}
-use Rattle.ieee.proofs.Range.Round.{round-clear}
-use Rattle.ieee.proofs.Range.Laws.{plus-sgn, in-mag, rep-small, round-rep, mul-is, add-is, mul-mag}
+use Rattle.ieee.proofs.Range.Round.{round-clear, le-cross}
+use Rattle.ieee.proofs.Range.Laws.{plus-finite, plus-sgn, in-mag, rep-small, round-rep, mul-is, add-is, mul-mag}
 use Rattle.ieee.proofs.Range.Sums.{add-mag}
 use Rattle.ieee.proofs.Range.Ratio.{under-round}
 use Rattle.ieee.proofs.Range.Values.{round-itself}
 use Rattle.ieee.proofs.Range.Zero.{zero-num}
-use Rattle.ieee.proofs.Range.FromZero.{from-zero}
+use Rattle.ieee.proofs.Range.FromZero.{from-zero, plus-clear}
 use Rattle.ieee.proofs.Range.Constants.{zero-mag, one-in, one-mag}
 use Rattle.ieee.proofs.Range.AbsProduct.{abs-round, abs-parts}
 
 -- ---- not below zero: only a zero has its sign set
 abbrev pub Least0 : Float → Type 0
 Least0 x = T (sgn x) → num x ≡ 0
+
+plus-least0 : (x : Float) → T (plus x) → Least0 x
+plus-least0 x p s = absurd (subst T (plus-sgn x p) s)
 
 pub least0 : (x : Float) → T (le zero-f x) → Least0 x
 least0 x t = go x (subst (λ (z : Float). T (le z x)) zero-is t)
@@ -77,6 +81,37 @@ least0-le (fin s m e) nan f g p q h = absurd g
 least0-le (fin s m e) (inf t) f g p q h = absurd g
 least0-le (fin s m e) (fin t n d) f g p q h =
     order s (m * up e * down d) t (n * up d * down e) (λ u. ap (λ (x : ℕ). x * down d) (p u) ∙ zero-mul (down d)) (λ u. ap (λ (x : ℕ). x * down e) (q u) ∙ zero-mul (down e)) h
+
+-- what is at most c is at most d, for any x: c's range lies below d's
+pub le-up : {a i p j b k q l : ℕ} (x : Float) {c d : Float} → In a i p j c → In b k q l d → T (wider p j b k) → T (le x c) → T (le x d)
+unfolding le
+le-up {p = p} {j = j} {b = b} {k = k} x {c} {d} h g w = go x c d (h .sign) (g .sign) (through (num c) p (num d) (den c) (2 ^ j) (den d) (pow-pos j) (h .most) (through p b (num d) (2 ^ j) (2 ^ k) (den d) (pow-pos k) (leb→le (p * 2 ^ k) (b * 2 ^ j) w) (g .least)))
+  where
+    none : (a b : ℕ) → a + b ≡ 0 → T (eqb a b && eqb a 0)
+    none zero zero e = tt
+    none zero (suc b) e = let z : ⊥ = omega arith in absurd z
+    none (suc a) b e = let z : ⊥ = omega arith in absurd z
+
+    negative : (a b : ℕ) → T (ltb 0 (a + b) || (eqb a b && eqb a 0))
+    negative a b = elim (eq-zero-or-pos (a + b)) [ inl e ↦ or-r (ltb 0 (a + b)) (eqb a b && eqb a 0) (none a b e) | inr l ↦ or-l (ltb 0 (a + b)) (eqb a b && eqb a 0) (lt→ltb 0 (a + b) l) ]
+
+    go : (x c d : Float) → T (plus c) → T (plus d) → num c * den d ≤ num d * den c → T (le x c) → T (le x d)
+    go nan c d p q h t = absurd t
+    go (inf true) nan d p q h t = absurd p
+    go (inf true) (inf s) d p q h t = absurd p
+    go (inf true) (fin s n k) nan p q h t = absurd q
+    go (inf true) (fin s n k) (inf r) p q h t = absurd q
+    go (inf true) (fin s n k) (fin r m e) p q h t = tt
+    go (inf false) nan d p q h t = absurd p
+    go (inf false) (inf s) d p q h t = absurd p
+    go (inf false) (fin s n k) d p q h t = absurd t
+    go (fin true v u) c nan p q h t = absurd q
+    go (fin true v u) c (inf r) p q h t = absurd q
+    go (fin true v u) c (fin true m e) p q h t = absurd q
+    go (fin true v u) c (fin false m e) p q h t = negative (v * up u * down e) (m * up e * down u)
+    go (fin false v u) c d p q h t =
+        least0-le (fin false v u) d tt (plus-finite d q) (λ s. absurd s) (plus-least0 d q)
+        (through (v * up u) (num c) (num d) (down u) (den c) (den d) (den-pos c) (le-cross (fin false v u) c tt (plus-clear c p) tt (plus-finite c p) t) h)
 
 -- ---- N / D as rounded, where only a zero has its sign set
 record Rounds (x : Float) (N D : ℕ) : Type 0 where
@@ -175,21 +210,21 @@ one-most : (x : Float) → FromZeroToOne x → T (le x one)
 one-most x h = least0-le x one (h .mag .fine) (one-mag .fine) (h .least) one-least0 (through (num x) 1 (num one) (den x) 1 (den one) (lit≤ tt) (h .mag .most) (one-in .least))
 
 pub in-zero-to-one : {x : Float} → In 0 0 1 0 x → FromZeroToOne x
-in-zero-to-one {x} h = record { mag = in-mag h; least = λ t. absurd (subst T (plus-sgn x (h .sign)) t) }
+in-zero-to-one {x} h = record { mag = in-mag h; least = plus-least0 x (h .sign) }
 
 pub to-tests : {x : Float} → FromZeroToOne x → T (le zero-f x && le x one)
 to-tests {x} h = and-i (le zero-f x) (le x one) (least-zero x (h .mag .fine) (h .least)) (one-most x h)
 
 -- ---- a product with a number from 0 to 1 is at least 0 and does not grow
+product : (x y : Float) → FromZeroToOne x → FromZeroToOne y → Rounds (x ⊗ y) (num x * num y) (den x * den y)
+product x y X Y = mul-rounds x y (X .mag .fine) (Y .mag .fine) (X .least) (Y .least)
+
+pub product-unit : {x y : Float} → FromZeroToOne x → FromZeroToOne y → FromZeroToOne (x ⊗ y)
+product-unit {x} {y} X Y = record { mag = mul-mag (X .mag) (Y .mag) tt; least = rounds-least0 (mul-pos (den-pos x) (den-pos y)) (product x y X Y) }
+
 module _ (x y : Float) (held : T (fits binary64 x)) (X : FromZeroToOne x) (Y : FromZeroToOne y) where
-  product : Rounds (x ⊗ y) (num x * num y) (den x * den y)
-  product = mul-rounds x y (X .mag .fine) (Y .mag .fine) (X .least) (Y .least)
-
-  pub product-unit : FromZeroToOne (x ⊗ y)
-  product-unit = record { mag = mul-mag (X .mag) (Y .mag) tt; least = rounds-least0 (mul-pos (den-pos x) (den-pos y)) product }
-
   pub product-cross : num (x ⊗ y) * den x ≤ num x * den (x ⊗ y)
-  product-cross = rounds-cross product (self-rounds x held (X .mag .fine) (X .least)) (mul-pos (den-pos x) (den-pos y)) (den-pos x) (X .mag .fine) (shrinks (num x) (den x) (num y) (den y) (Y .mag .most)) .1
+  product-cross = rounds-cross (product x y X Y) (self-rounds x held (X .mag .fine) (X .least)) (mul-pos (den-pos x) (den-pos y)) (den-pos x) (X .mag .fine) (shrinks (num x) (den x) (num y) (den y) (Y .mag .most)) .1
     where
       shrinks : (a c b d : ℕ) → b * 1 ≤ 1 * d → a * b * c ≤ a * (c * d)
       shrinks a c b d h =
@@ -197,7 +232,7 @@ module _ (x y : Float) (held : T (fits binary64 x)) (X : FromZeroToOne x) (Y : F
           le-trans (le-of-eq (mul-assoc a b c)) (mul-le-mul-left a (le-trans (mul-le-mul-right c k) (le-of-eq (mul-comm d c))))
 
   pub product-falls : T (le (x ⊗ y) x)
-  product-falls = least0-le (x ⊗ y) x (product-unit .mag .fine) (X .mag .fine) (product-unit .least) (X .least) product-cross
+  product-falls = least0-le (x ⊗ y) x (product-unit X Y .mag .fine) (X .mag .fine) (product-unit X Y .least) (X .least) product-cross
 
 -- ---- and the sum of two such products is no more than the sum of what they were
 sum-unit : {x y : Float} → FromZeroToOne x → FromZeroToOne y → T (finite (x ⊕ y)) × Least0 (x ⊕ y)
