@@ -11,9 +11,10 @@ use lib.Ieee.Order.{drop, kept}
 use lib.Ieee.Scale.{finite}
 use lib.Ieee.Positive.{num}
 use Rattle.ieee.specs.Operators.{_⊕_, _⊖_, _⊗_, _⊘_}
-use Rattle.ieee.specs.Functions.{zero-f, one, two, is-inf, is-zero, abs}
+use Rattle.ieee.specs.Functions.{zero-f, one, is-inf, is-zero, abs}
 use Rattle.ieee.specs.Range.{Mag, In, sgn, wider, tops, inb}
 use Rattle.ieee.proofs.Range.Laws.{in-lit, in-mag, mag-lit, mag-up, mul-mag, sq-in, neg-mag, abs-in}
+use Rattle.ieee.proofs.Range.Constants.{zero-mag, one-in, two-in}
 use Rattle.ieee.proofs.Range.Sums.{add-mag, sub-mag, add-in, sub-in}
 use Rattle.ieee.proofs.Range.Quotients.{div-mag}
 use Rattle.ieee.proofs.Range.Tests.{choose, cond-mag, lt-in, nlt-most}
@@ -23,18 +24,6 @@ use Rattle.elementary.specs.Angles.{pi, half-pi, quarter-pi}
 use Rattle.elementary.specs.Atan.{three, four, with-sign, half-angle, atan-series, atan-poly, atan-abs, atan, asin, turned, atan2}
 
 -- ---- constants
-one-in : In 1 0 1 0 one
-unfolding ofBits
-one-in = in-lit one tt
-
-zero-mag : Mag 0 0 zero-f
-unfolding ofBits
-zero-mag = mag-lit zero-f tt
-
-two-mag : Mag 2 0 two
-unfolding ofBits
-two-mag = mag-lit two tt
-
 three-mag : Mag 3 0 three
 unfolding ofBits
 three-mag = mag-lit three tt
@@ -140,7 +129,7 @@ atan-mag (inf s) t = signed s at-infinity
 atan-mag (fin s m e) t = signed s (atan-abs-mag (abs-in (some-mag (fin s m e) tt)))
 
 -- ---- asin, for |x| ≤ 1
-finite-number : (x : Float) → T (finite x) → T (not (isNan x))
+pub finite-number : (x : Float) → T (finite x) → T (not (isNan x))
 unfolding isNan
 finite-number nan f = absurd f
 finite-number (inf s) f = absurd f
@@ -154,7 +143,7 @@ asin-mag x h =
     let r : In 0 0 1 0 (sqrt (one ⊖ x ⊗ x)) = sqrt-in a tt in
     let s : In 1 0 2 0 (one ⊕ sqrt (one ⊖ x ⊗ x)) = add-in one-in r tt in
     let q : Mag 1 0 (x ⊘ (one ⊕ sqrt (one ⊖ x ⊗ x))) = div-mag h s tt in
-    mul-mag two-mag (atan-mag (x ⊘ (one ⊕ sqrt (one ⊖ x ⊗ x))) (finite-number (x ⊘ (one ⊕ sqrt (one ⊖ x ⊗ x))) (q .fine))) tt
+    mul-mag (in-mag two-in) (atan-mag (x ⊘ (one ⊕ sqrt (one ⊖ x ⊗ x))) (finite-number (x ⊘ (one ⊕ sqrt (one ⊖ x ⊗ x))) (q .fine))) tt
 
 -- ---- what is rounded is no NaN
 units-number : (f : Format) (s : Bool) (q k : ℕ) → T (not (isNan (units f s q k)))

@@ -11,17 +11,14 @@ use lib.Ieee.Scale.{finite}
 use Rattle.ieee.specs.Operators.{_⊕_, _⊗_, _⊘_}
 use Rattle.ieee.specs.Functions.{zero-f, one}
 use Rattle.ieee.specs.Range.{Mag, In, plus, tops, inb}
-use Rattle.ieee.proofs.Range.Laws.{in-lit, in-up, mag-lit, mag-up, mul-mag, sq-in}
+use Rattle.ieee.proofs.Range.Laws.{in-lit, in-up, mag-up, mul-mag, sq-in}
+use Rattle.ieee.proofs.Range.Constants.{one-mag}
 use Rattle.ieee.proofs.Range.Sums.{add-mag}
 use Rattle.ieee.proofs.Range.Quotients.{div-mag}
 use Rattle.ieee.proofs.Range.Tests.{never-above, never-below}
 use Rattle.ieee.proofs.Range.Zero.{zero-mul-mag, add-zero-same}
 use Rattle.elementary.specs.Exp.{kilo, exp-most, exp-least, exp-series, squares, exp-at, exp}
 use Rattle.elementary.proofs.Constants.{minus-exp-least, exp-least-is}
-
-one-mag : Mag 1 0 one
-unfolding ofBits
-one-mag = mag-lit one tt
 
 kilo-in : In 1024 0 1024 0 kilo
 unfolding ofBits

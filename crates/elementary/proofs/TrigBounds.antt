@@ -10,6 +10,7 @@ use Rattle.ieee.specs.Operators.{_⊕_, _⊖_, _⊗_, _⊘_}
 use Rattle.ieee.specs.Functions.{one, abs, clamp}
 use Rattle.ieee.specs.Range.{Mag, In, inb}
 use Rattle.ieee.proofs.Range.Laws.{in-lit, in-mag, mag-up, neg-mag, abs-in, mul-mag}
+use Rattle.ieee.proofs.Range.Constants.{one-in}
 use Rattle.ieee.proofs.Range.Sums.{sub-mag, sub-gap, add-gap, neg-gap}
 use Rattle.ieee.proofs.Range.Quotients.{div-mag}
 use Rattle.ieee.proofs.Range.Tests.{choose, lt-in, lt-size, within, nlt-most, clamp-mag}
@@ -33,10 +34,6 @@ pi-in = in-lit pi tt
 half-pi-in : In P 52 P 52 half-pi
 unfolding ofBits
 half-pi-in = in-lit half-pi tt
-
-one-in : In 1 0 1 0 one
-unfolding ofBits
-one-in = in-lit one tt
 
 -- ---- the folds
 at-neg : (x lo c : Float) → lo ≡ neg c → T (lt x lo) → T (lt x (neg c))

@@ -11,3 +11,7 @@ pub mod Rem
 pub mod Zero
 pub mod Ratio
 pub mod FromZero
+pub mod Constants
+pub mod Plus
+pub mod AbsProduct
+pub mod Falls

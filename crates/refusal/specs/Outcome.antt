@@ -16,3 +16,8 @@ invalid-parameter = refusal 1 0
 -- 3: more than 64 explicit layers, or more than 31 pairs
 abbrev pub too-many-layers : {A : Type 0} → Outcome A
 too-many-layers = refusal 3 0
+
+-- an answer through f; a refusal as it is
+abbrev pub map : {A B : Type 0} → (A → B) → Outcome A → Outcome B
+map f (answer a) = answer (f a)
+map f (refusal number place) = refusal number place

@@ -1,11 +1,12 @@
 -- What a comparison says of a range, and the functions made of comparisons: `cond`, `max`, `clamp`. Assumes nothing.
-use mathlib.Core.Path.{_≡_, sym, subst}
+use mathlib.Core.Path.{_≡_, sym, _∙_, subst}
 use Prim.Native.Nat.{ℕ, _*_, _^_, _≤_}
 use native.Mathlib.Nat.{le-of-lt, not-le-of-lt}
 use mathlib.Core.Bool.{Bool, true, false, not, _&&_, cond}
 use lib.Dec.{T, ltb, ltb→lt, nltb→le, nleb→lt, leb→le, T-not, not-T}
 use lib.Pow.{pow-pos}
 use lib.Ieee.{Float, nan, inf, fin, up, down, neg, lt, le}
+use lib.Ieee.Bits.{cond-no}
 use lib.Ieee.Fits.{and-l, and-r, down-pos}
 use lib.Ieee.Scale.{finite}
 use lib.Ieee.Positive.{num, den, den-pos, through, positive, above, between, le→cross, above-of-le}
@@ -121,6 +122,11 @@ clamp-in {a} {i} {p} {j} {b} {k} {q} {l} {d} {m} {x} {lo} {c} h g f w =
     (λ u. choose (λ z. In d m p j z) (lt c x) c x (λ t. record { sign = h .sign; least = through d a (num c) (2 ^ m) (2 ^ i) (den c) (pow-pos i) (leb→le (d * 2 ^ i) (a * 2 ^ m) w) (h .least); most = h .most }) (λ t. nlt-most h (nlt-in g f u) t))
 
 -- ---- the gate: lo ≤ x ≤ hi, for a lo above zero
+-- what lies between the ends is left as it is
+pub clamp-same : (x lo hi : Float) → T (not (lt x lo)) → T (not (lt hi x)) → clamp x lo hi ≡ x
+unfolding clamp
+clamp-same x lo hi t u = cond-no (lt x lo) lo (cond (lt hi x) hi x) t ∙ cond-no (lt hi x) hi x u
+
 pub positive-plus : (x : Float) → T (positive x) → T (plus x)
 positive-plus nan p = absurd p
 positive-plus (inf s) p = absurd p

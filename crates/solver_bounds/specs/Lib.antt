@@ -1,0 +1,3 @@
+-- What is claimed of the solver's values.
+pub mod Range
+pub mod Solver

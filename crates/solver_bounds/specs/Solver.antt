@@ -1,0 +1,52 @@
+-- What a surface within the limits is to the solver, as ranges, and what holds of its response. Definitions only; proofs/Solve.antt shows the second of the first.
+use Prim.Native.Nat.{_≤_}
+use mathlib.Core.List.{List, [], _∷_}
+use lib.Dec.{T}
+use lib.ListN.{length}
+use lib.Ieee.{Float, le}
+use lib.Ieee.Scale.{finite}
+use Rattle.ieee.specs.Operators.{_⊗_}
+use Rattle.ieee.specs.Functions.{seven-eighths, abs}
+use Rattle.ieee.specs.Range.{Mag, In}
+use Rattle.elementary.specs.Trig.{sin, cos}
+use Rattle.transfer_matrix.specs.declared.ThinFilmLayer.{ThinFilmLayer}
+use Rattle.transfer_matrix.specs.declared.CoatingResponse.{CoatingResponse}
+use Rattle.solver_bounds.specs.Range.{CPow}
+
+-- the light bends by no more than 0.875 of what the medium n admits; `side` is n_incident * sin_theta0
+abbrev pub Bends : Float → Float → Type 0
+Bends side n = T (le (abs side) (seven-eighths ⊗ n))
+
+-- a lossless layer
+pub record AdmittedLayer (side : Float) (layer : ThinFilmLayer) : Type 0 where
+  pub index : In 1 0 4 0 (layer .n)
+  pub lossless : Mag 0 0 (layer .k)
+  pub thickness : Mag 100000 0 (layer .«thickness_nm»)
+  pub bends : Bends side (layer .n)
+
+abbrev pub AdmittedLayers : Float → List ThinFilmLayer → Type 0
+AdmittedLayers side [] = Unit {0}
+AdmittedLayers side (layer ∷ layers) = AdmittedLayer side layer × AdmittedLayers side layers
+
+pub record Admitted (n-incident n-substrate angle wavelength : Float) (layers : List ThinFilmLayer) : Type 0 where
+  pub incident : In 1 0 4 0 n-incident
+  pub substrate : In 1 0 4 0 n-substrate
+  pub finite-angle : T (finite angle)
+  pub cosine : In 1 2 1 0 (cos angle)
+  pub wavelength-in : In 100 0 10000 0 wavelength
+  pub bends : Bends (n-incident ⊗ sin angle) n-substrate
+  pub admitted : AdmittedLayers (n-incident ⊗ sin angle) layers
+  pub few : length layers ≤ 16
+
+-- every number of the response is finite, and the powers are from 0 to 1
+pub record Bounded (r : CoatingResponse) : Type 0 where
+  pub rs : CPow 411 (r .rs)
+  pub rp : CPow 411 (r .rp)
+  pub ts : CPow 259 (r .ts)
+  pub tp : CPow 259 (r .tp)
+  pub reflectance-s : In 0 0 1 0 (r .«reflectance_s»)
+  pub reflectance-p : In 0 0 1 0 (r .«reflectance_p»)
+  pub transmittance-s : In 0 0 1 0 (r .«transmittance_s»)
+  pub transmittance-p : In 0 0 1 0 (r .«transmittance_p»)
+  pub phase-rs : Mag 8 0 (r .«phase_rs_rad»)
+  pub phase-rp : Mag 8 0 (r .«phase_rp_rad»)

@@ -1,0 +1,204 @@
+-- A coated surface within the limits, with at most 16 layers: evaluate refuses nothing, and every number of its response is bounded. Assumes nothing.
+use mathlib.Core.Path.{_≡_}
+use Prim.Native.Nat.{ℕ, _≤_}
+use native.Mathlib.Nat.{le-trans}
+use mathlib.Core.Bool.{Bool, true, false, not}
+use mathlib.Core.List.{List, [], _∷_, reverseAux}
+use lib.Dec.{T, leb, le→leb, ltb, lit≤}
+use lib.ListN.{length, length-reverse}
+use lib.Ieee.{Float, lt, le, ofBits}
+use lib.Ieee.Bits.{is-true}
+use lib.Ieee.Fits.{and-i}
+use lib.Ieee.Scale.{finite}
+use Rattle.ieee.specs.Operators.{_⊗_}
+use Rattle.ieee.specs.Functions.{zero-f, half}
+use Rattle.ieee.specs.Range.{Mag, In}
+use Rattle.ieee.proofs.Range.Laws.{in-mag, in-up, mag-lit, mag-up, neg-mag, plus-finite}
+use Rattle.ieee.proofs.Range.FromZero.{above-zero}
+use Rattle.ieee.proofs.Range.Falls.{in-zero-to-one, to-tests}
+use Rattle.ieee.proofs.Range.Constants.{zero-in, zero-mag, half-in, one-in, one-mag}
+use Rattle.sqrt.specs.Root.{sqrt}
+use Rattle.sqrt.proofs.Range.{sqrt-in}
+use Rattle.elementary.specs.Angles.{pi}
+use Rattle.elementary.specs.Trig.{sin}
+use Rattle.refusal.specs.Outcome.{Outcome, answer}
+use Rattle.transfer_matrix.specs.declared.ThinFilmLayer.{ThinFilmLayer}
+use Rattle.transfer_matrix.specs.declared.CoatingResponse.{CoatingResponse}
+use Rattle.transfer_matrix.specs.Solve as Solve
+use Rattle.thin_film.specs.declared.Coating.{Coating}
+use Rattle.thin_film.specs.declared.Coating.the-variants as C
+use Rattle.thin_film.specs.declared.SurfaceCoating.{SurfaceCoating}
+use Rattle.thin_film.specs.declared.SurfaceCoating.the-variants as S
+use Rattle.thin_film.specs.Coating.{coating-of, layers-of, ordered, mgf2-layers, broadband-layers, mirror-layers, bragg-layers}
+use Rattle.thin_film.specs.Evaluate.{positive, valid, ideal-ar, ideal-mirror, ideal-beamsplitter, respond, evaluate-coating, evaluate-surface}
+use Rattle.polarization.specs.Surface.{surface-coating-jones}
+use Rattle.solver_bounds.specs.Solver.{AdmittedLayers, Bounded}
+use Rattle.solver_bounds.proofs.Powers.{zero-pow, cpow-up}
+use Rattle.solver_bounds.proofs.Solve.{evaluate-bounded}
+use Rattle.surface.specs.declared.Surface.{Surface}
+use Rattle.surface.specs.Answers.{coated-powers}
+use Rattle.surface.specs.Limits.{within, layers-pass}
+use Rattle.surface.specs.Finite.{UnitPowers, FiniteResponse}
+use Rattle.surface.proofs.Ranges.{layers-in, Inside}
+use Rattle.surface.proofs.Polarized.{PowerJones, cpow-finite, real-pow, diattenuator-pow}
+
+-- ---- the layers that a coating is evaluated with: they pass, there are 16 at most, and read from the far end they are the same ones
+chosen-pass : (n angle : Float) (coating : SurfaceCoating) (layers : List ThinFilmLayer) → T (layers-pass n angle (layers-of coating [])) → T (layers-pass n angle layers) → T (layers-pass n angle (layers-of coating layers))
+unfolding layers-of
+chosen-pass n angle S.IdealAr layers p t = p
+chosen-pass n angle (S.MgF2 design) layers p t = p
+chosen-pass n angle S.BroadbandAr layers p t = p
+chosen-pass n angle S.HighReflectanceMirror layers p t = p
+chosen-pass n angle (S.Custom C.Multilayer) layers p t = t
+chosen-pass n angle (S.Custom C.IdealAr) layers p t = p
+chosen-pass n angle (S.Custom C.IdealMirror) layers p t = p
+chosen-pass n angle (S.Custom C.IdealBeamsplitter) layers p t = p
+
+chosen-few : (coating : SurfaceCoating) (layers : List ThinFilmLayer) → length layers ≤ 16 → length (layers-of coating layers) ≤ 16
+unfolding layers-of mgf2-layers broadband-layers mirror-layers bragg-layers
+chosen-few S.IdealAr layers h = lit≤ tt
+chosen-few (S.MgF2 design) layers h = lit≤ tt
+chosen-few S.BroadbandAr layers h = lit≤ tt
+chosen-few S.HighReflectanceMirror layers h = lit≤ tt
+chosen-few (S.Custom C.Multilayer) layers h = h
+chosen-few (S.Custom C.IdealAr) layers h = lit≤ tt
+chosen-few (S.Custom C.IdealMirror) layers h = lit≤ tt
+chosen-few (S.Custom C.IdealBeamsplitter) layers h = lit≤ tt
+
+turned : (side : Float) (layers rest : List ThinFilmLayer) → AdmittedLayers side layers → AdmittedLayers side rest → AdmittedLayers side (reverseAux layers rest)
+turned side [] rest h g = g
+turned side (layer ∷ layers) rest h g = turned side layers (layer ∷ rest) (h .1) (h .0, g)
+
+ordered-in : (side : Float) (far : Bool) (layers : List ThinFilmLayer) → AdmittedLayers side layers → AdmittedLayers side (ordered far layers)
+unfolding ordered
+ordered-in side false layers h = h
+ordered-in side true layers h = turned side layers [] h tt
+
+ordered-few : (far : Bool) (layers : List ThinFilmLayer) → length layers ≤ 16 → length (ordered far layers) ≤ 16
+unfolding ordered
+ordered-few false layers h = h
+ordered-few true layers h = rw length-reverse h
+
+-- ---- the ideal coatings
+pi-mag : Mag 8 0 pi
+unfolding ofBits
+pi-mag = mag-lit pi tt
+
+root-half : In 1 1 1 0 (sqrt half)
+root-half = sqrt-in half-in tt
+
+zero-to-one : In 0 0 1 0 zero-f
+zero-to-one = in-up zero-in tt
+
+ideal-ar-bounded : Bounded ideal-ar
+ideal-ar-bounded = record {
+  rs = zero-pow 411;
+  rp = zero-pow 411;
+  ts = real-pow 259 one-mag tt;
+  tp = real-pow 259 one-mag tt;
+  reflectance-s = zero-to-one;
+  reflectance-p = zero-to-one;
+  transmittance-s = in-up one-in tt;
+  transmittance-p = in-up one-in tt;
+  phase-rs = mag-up zero-mag tt;
+  phase-rp = mag-up zero-mag tt;
+}
+
+ideal-mirror-bounded : Bounded ideal-mirror
+ideal-mirror-bounded = record {
+  rs = real-pow 411 (neg-mag one-mag) tt;
+  rp = real-pow 411 one-mag tt;
+  ts = zero-pow 259;
+  tp = zero-pow 259;
+  reflectance-s = in-up one-in tt;
+  reflectance-p = in-up one-in tt;
+  transmittance-s = zero-to-one;
+  transmittance-p = zero-to-one;
+  phase-rs = pi-mag;
+  phase-rp = mag-up zero-mag tt;
+}
+
+ideal-beamsplitter-bounded : Bounded ideal-beamsplitter
+ideal-beamsplitter-bounded = record {
+  rs = real-pow 411 (in-mag root-half) tt;
+  rp = real-pow 411 (in-mag root-half) tt;
+  ts = real-pow 259 (in-mag root-half) tt;
+  tp = real-pow 259 (in-mag root-half) tt;
+  reflectance-s = in-up half-in tt;
+  reflectance-p = in-up half-in tt;
+  transmittance-s = in-up half-in tt;
+  transmittance-p = in-up half-in tt;
+  phase-rs = mag-up zero-mag tt;
+  phase-rp = mag-up zero-mag tt;
+}
+
+-- ---- evaluate refuses nothing
+pub record Responds (o : Outcome CoatingResponse) : Type 0 where
+  pub value : CoatingResponse
+  pub is : o ≡ answer value
+  pub bounded : Bounded value
+
+index-positive : {a i p j : ℕ} {x : Float} → In a i p j x → T (ltb 0 a) → positive x ≡ true
+unfolding positive
+index-positive {x = x} h t = is-true _ (and-i (finite x) (not (le x zero-f)) (plus-finite x (h .sign)) (above-zero h t))
+
+module _ (n0 ns angle w : Float) (N : In 1 0 4 0 n0) (M : In 1 0 4 0 ns) (f : T (finite angle)) (W : In 100 0 10000 0 w) where
+  valid-here : valid n0 ns angle w ≡ true
+  unfolding valid
+  valid-here = simp (index-positive N tt, index-positive M tt, is-true (finite angle) f, index-positive W tt)
+
+  coating-responds : (coating : Coating) (layers : List ThinFilmLayer) → length layers ≤ 16 → Bounded (Solve.evaluate n0 ns angle w layers) → Responds (evaluate-coating coating layers n0 ns angle w)
+  unfolding evaluate-coating respond
+  coating-responds C.IdealAr layers few b = record { value = ideal-ar; is = rw valid-here; bounded = ideal-ar-bounded }
+  coating-responds C.IdealMirror layers few b = record { value = ideal-mirror; is = rw valid-here; bounded = ideal-mirror-bounded }
+  coating-responds C.IdealBeamsplitter layers few b = record { value = ideal-beamsplitter; is = rw valid-here; bounded = ideal-beamsplitter-bounded }
+  coating-responds C.Multilayer layers few b = record {
+    value = Solve.evaluate n0 ns angle w layers;
+    is = rw (valid-here, is-true (leb (length layers) 64) (le→leb (length layers) 64 (le-trans few (lit≤ tt))));
+    bounded = b;
+  }
+
+pub surface-responds : (s : Surface) (w : Float) (coating : SurfaceCoating) (layers : List ThinFilmLayer) → Inside s → In 100 0 10000 0 w
+    → T (layers-pass (s .«n_incident») (s .«angle_rad») (layers-of coating [])) → T (layers-pass (s .«n_incident») (s .«angle_rad») layers) → length layers ≤ 16
+    → Responds (evaluate-surface coating layers (s .«n_incident») (s .«n_substrate») (s .«angle_rad») w)
+unfolding evaluate-surface
+surface-responds s w coating layers h W p t few =
+    let n0 = s .«n_incident» in
+    let ns = s .«n_substrate» in
+    let angle = s .«angle_rad» in
+    let read = ordered (lt ns n0) (layers-of coating layers) in
+    let all : AdmittedLayers (n0 ⊗ sin angle) read = ordered-in (n0 ⊗ sin angle) (lt ns n0) (layers-of coating layers) (layers-in n0 angle (layers-of coating layers) (h .incident) (h .finite-angle) (chosen-pass n0 angle coating layers p t)) in
+    let short : length read ≤ 16 = ordered-few (lt ns n0) (layers-of coating layers) (chosen-few coating layers few) in
+    coating-responds n0 ns angle w (h .incident) (h .substrate) (h .finite-angle) W (coating-of coating) read short
+    (evaluate-bounded n0 ns angle w read (record { incident = h .incident; substrate = h .substrate; finite-angle = h .finite-angle; cosine = h .cosine; wavelength-in = W; bends = h .bent; admitted = all; few = short }))
+
+-- ---- what a bounded response gives
+pub bounded-powers : {r : CoatingResponse} → Bounded r → UnitPowers (coated-powers r)
+unfolding coated-powers within
+bounded-powers h = record {
+  reflectance-s = to-tests (in-zero-to-one (h .reflectance-s));
+  reflectance-p = to-tests (in-zero-to-one (h .reflectance-p));
+  transmittance-s = to-tests (in-zero-to-one (h .transmittance-s));
+  transmittance-p = to-tests (in-zero-to-one (h .transmittance-p));
+}
+
+pub bounded-finite : {r : CoatingResponse} → Bounded r → FiniteResponse r
+bounded-finite h = record {
+  rs = cpow-finite (h .rs);
+  rp = cpow-finite (h .rp);
+  ts = cpow-finite (h .ts);
+  tp = cpow-finite (h .tp);
+  reflectance-s = in-mag (h .reflectance-s) .fine;
+  reflectance-p = in-mag (h .reflectance-p) .fine;
+  transmittance-s = in-mag (h .transmittance-s) .fine;
+  transmittance-p = in-mag (h .transmittance-p) .fine;
+  phase-rs = h .phase-rs .fine;
+  phase-rp = h .phase-rp .fine;
+}
+
+pub bounded-jones : {r : CoatingResponse} → Bounded r → PowerJones (surface-coating-jones r)
+unfolding surface-coating-jones
+bounded-jones h = record {
+  reflection = diattenuator-pow (h .rs) (h .rp);
+  transmission = diattenuator-pow (cpow-up (h .ts) (lit≤ tt)) (cpow-up (h .tp) (lit≤ tt));
+}

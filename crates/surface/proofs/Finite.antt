@@ -1,0 +1,103 @@
+-- The claims of specs/Finite.antt. Assumes nothing.
+use mathlib.Core.Path.{_≡_, refl, ap, _∙_}
+use Prim.Native.Nat.{_≤_}
+use mathlib.Core.Bool.{Bool, true, false}
+use mathlib.Core.List.{List}
+use lib.Dec.{T}
+use lib.ListN.{length}
+use lib.Ieee.{Float, le}
+use lib.Ieee.Fits.{and-l, and-r, and-i}
+use Rattle.ieee.specs.Operators.{_⊗_}
+use Rattle.ieee.specs.Functions.{zero-f, one}
+use Rattle.ieee.specs.Range.{In}
+use Rattle.ieee.proofs.Range.Constants.{zero-mag}
+use Rattle.ieee.proofs.Range.Falls as Falls
+use Rattle.ieee.proofs.Range.Falls.{zero-to-one, product-unit, product-cross, sum-le, to-tests}
+use Rattle.complex.specs.Complex.{zero}
+use Rattle.refusal.specs.Outcome.{answer, map}
+use Rattle.transfer_matrix.specs.declared.ThinFilmLayer.{ThinFilmLayer}
+use Rattle.transfer_matrix.specs.declared.CoatingResponse.{CoatingResponse}
+use Rattle.polarization.specs.declared.SurfaceJones.{SurfaceJones}
+use Rattle.polarization.specs.Surface.{surface-coating-jones}
+use Rattle.surface.specs.declared.Surface.{Surface}
+use Rattle.surface.specs.declared.Interface.{Interface}
+use Rattle.surface.specs.declared.Interface.the-variants.{Bare, Coated}
+use Rattle.surface.specs.declared.Powers.{Powers}
+use Rattle.surface.specs.Coating.{interface, preset-layers}
+use Rattle.surface.specs.Limits.{within, layers-pass, surface-passes, passes}
+use Rattle.surface.specs.Answers.{assembled, coated-powers, coated-answers, bare-powers, no-response, bare-answers, answers-of, answers}
+use Rattle.surface.specs.Finite.{UnitPowers, FiniteComplex, FiniteResponse, Answered, EverySurfaceAnswered, ProductFalls, SumFalls}
+use Rattle.surface.proofs.Ranges.{wavelength-in, Inside, surface-in}
+use Rattle.surface.proofs.Polarized.{PowerJones, jones-finite, mueller-finite}
+use Rattle.surface.proofs.Bare.{bare-unit, bare-jones}
+use Rattle.surface.proofs.Coated.{surface-responds, bounded-powers, bounded-finite, bounded-jones}
+
+-- ---- from the parts of an answer
+assembled-answered : (w : Float) (s : Surface) (layers : List ThinFilmLayer) (coated : Bool) (powers : Powers) (response : CoatingResponse) (jones : SurfaceJones)
+    → answers w s layers ≡ answer (assembled coated powers response jones) → UnitPowers powers → FiniteResponse response → PowerJones jones → Answered w s layers
+unfolding assembled
+assembled-answered w s layers coated powers response jones e p r j = record {
+  value = assembled coated powers response jones;
+  is = e;
+  powers = p;
+  response = r;
+  reflection = jones-finite (j .reflection);
+  transmission = jones-finite (j .transmission);
+  reflection-mueller = mueller-finite (j .reflection);
+  transmission-mueller = mueller-finite (j .transmission);
+}
+
+-- a bare surface's response is zero throughout
+zero-finite : FiniteComplex zero
+zero-finite = record { re = zero-mag .fine; im = zero-mag .fine }
+
+none-finite : FiniteResponse no-response
+none-finite = record {
+  rs = zero-finite;
+  rp = zero-finite;
+  ts = zero-finite;
+  tp = zero-finite;
+  reflectance-s = zero-mag .fine;
+  reflectance-p = zero-mag .fine;
+  transmittance-s = zero-mag .fine;
+  transmittance-p = zero-mag .fine;
+  phase-rs = zero-mag .fine;
+  phase-rp = zero-mag .fine;
+}
+
+-- ---- by what lies between the media
+by-interface : (i : Interface) (w : Float) (s : Surface) (layers : List ThinFilmLayer) → interface (s .coating) ≡ i → Inside s → In 100 0 10000 0 w
+    → T (layers-pass (s .«n_incident») (s .«angle_rad») (preset-layers i)) → T (layers-pass (s .«n_incident») (s .«angle_rad») layers) → length layers ≤ 16 → Answered w s layers
+unfolding answers-of bare-answers coated-answers
+by-interface Bare w s layers e h W p t few =
+    let j = bare-jones s h in
+    assembled-answered w s layers false (bare-powers s) no-response (j .value) (ap (λ (i : Interface). answers-of i w s layers) e ∙ ap (map (assembled false (bare-powers s) no-response)) (j .is)) (bare-unit s h) none-finite (j .pow)
+by-interface (Coated coating) w s layers e h W p t few =
+    let r = surface-responds s w coating layers h W p t few in
+    assembled-answered w s layers true (coated-powers (r .value)) (r .value) (surface-coating-jones (r .value)) (ap (λ (i : Interface). answers-of i w s layers) e ∙ ap (map coated-answers) (r .is))
+    (bounded-powers (r .bounded)) (bounded-finite (r .bounded)) (bounded-jones (r .bounded))
+
+pub every-surface-answered : EverySurfaceAnswered
+unfolding passes
+every-surface-answered w s layers wave pass few =
+    let L = layers-pass (s .«n_incident») (s .«angle_rad») layers in
+    let h = surface-in s (and-l (surface-passes s) L pass) in
+    by-interface (interface (s .coating)) w s layers refl h (wavelength-in w wave) (h .presets) (and-r (surface-passes s) L pass) few
+
+-- ---- powers that are multiplied
+pub product-falls : ProductFalls
+unfolding within
+product-falls x y held p q =
+    let X = zero-to-one x p in
+    let Y = zero-to-one y q in
+    let z = x ⊗ y in
+    and-i (le zero-f z) (le z x) (and-l (le zero-f z) (le z one) (to-tests (product-unit X Y))) (Falls.product-falls x y held X Y)
+
+pub sum-falls : SumFalls
+unfolding within
+sum-falls x y u v held held′ p q r t =
+    let X = zero-to-one x p in
+    let Y = zero-to-one y q in
+    let U = zero-to-one u r in
+    let W = zero-to-one v t in
+    sum-le (product-unit X Y) (product-unit U W) X U (product-cross x y held X Y) (product-cross u v held′ U W)
