@@ -163,7 +163,7 @@ fn preset_layer(coating: SurfaceCoating, i: usize) -> ThinFilmLayer
 }
 
 // Where the i-th layer that is read stands, of n.
-pub fn place(far: bool, n: usize, i: usize) -> usize
+pub(crate) fn place(far: bool, n: usize, i: usize) -> usize
     requires { ⌜ i < n ⌝ }
     ensures { λ r. ⌜ r ≡ Walk.place far n i ⌝ }
 {
