@@ -13,11 +13,12 @@ pub mod thin_film;
 pub mod train;
 
 /// The groups, in the order of their numbers.
-pub const GROUPS: [&str; 9] = [
+pub const GROUPS: [&str; 10] = [
     "ieee",
     "elementary",
     "complex",
     "thin_film",
+    "evaluate",
     "fresnel",
     "polarization",
     "names",

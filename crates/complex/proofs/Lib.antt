@@ -1,2 +1,3 @@
 -- Laws of complex numbers.
 pub mod RealRoot
+pub mod Known

@@ -3,7 +3,7 @@ use mathlib.Core.Path.{_≡_, refl, sym, ap, _∙_}
 use Prim.Native.Nat.{zero, suc, _*_}
 use mathlib.Core.Bool.{Bool, true, false, not, cond}
 use lib.Dec.{eqb}
-use lib.IntN.{ℤ, pos, negsuc, negℤ, _+ℤ_, _-ℤ_, _*ℤ_, negℤ-negℤ, *ℤ-zero, *ℤ-negsuc, *ℤ-comm}
+use lib.IntN.{ℤ, pos, negsuc, negℤ, _+ℤ_, _*ℤ_, negℤ-negℤ, *ℤ-zero, *ℤ-negsuc, *ℤ-comm}
 use lib.Ieee.{Float, nan, inf, fin, binary64, unlike, up, down, round, neg, mul}
 use Rattle.ieee.specs.Operators.{_⊗_}
 use Rattle.ieee.proofs.Range.Laws.{sub-is}

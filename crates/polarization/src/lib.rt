@@ -4,7 +4,7 @@ ghost use mathlib.Core.Path.{_≡_};
 ghost use Rattle.complex.specs.Complex.{real};
 ghost use Rattle.transfer_matrix.specs.Matrix.{dot};
 ghost use Rattle.polarization.specs.Stokes.{unpolarized, degree-of-polarization, degree-of-linear-polarization, degree-of-circular-polarization, orientation-angle-rad, ellipticity-angle-rad};
-ghost use Rattle.polarization.specs.Jones.{linear-horizontal, linear-vertical, linear-45, circular-right, circular-left, intensity, normalize, to-stokes, identity, linear-polarizer, exp-pos, exp-neg, retarding, retarder, quarter-wave-plate, half-wave-plate, diattenuator, apply, mul};
+ghost use Rattle.polarization.specs.Jones.{linear-horizontal, linear-vertical, linear-45, circular-right, circular-left, intensity, normalize, to-stokes, identity, linear-polarizer, retarding, retarder, quarter-wave-plate, half-wave-plate, diattenuator, apply, mul};
 ghost use Rattle.polarization.specs.Mueller as M;
 ghost use Rattle.polarization.specs.Surface.{surface-coating-jones, no-index, invalid, excess, turned, totally-reflected, cos-t, refracted, bare, surface-fresnel-jones, returned};
 use complex::Complex;

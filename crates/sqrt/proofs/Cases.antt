@@ -10,6 +10,7 @@ use lib.Ieee.{Float, nan, inf, fin, binary64, up, down, lt, eq, div, isNan, nanB
 use lib.Ieee.Bits.{is-true}
 use lib.Ieee.Fits.{up-pos}
 use lib.Ieee.Positive.{above, first-pos}
+use Rattle.ieee.specs.Range.{clear}
 use Rattle.ieee.proofs.Signs.{zero-is, of-true, and-true, not-zero, nothing′, zero-level}
 use Rattle.ieee.proofs.Patterns.{nan-is, no-nan}
 use Rattle.sqrt.specs.Root.{squareRoot}
@@ -35,6 +36,12 @@ unfolding isNan
 above-no-nan nan a = absurd a
 above-no-nan (inf s) a = tt
 above-no-nan (fin s m e) a = tt
+
+pub clear-no-nan : (x : Float) → T (clear x) → T (not (isNan x))
+unfolding isNan
+clear-no-nan nan t = absurd t
+clear-no-nan (inf s) t = tt
+clear-no-nan (fin s m e) t = tt
 
 -- a pattern below the infinity's is no NaN's
 pub below-no-nan : (r : ℕ) → r < 0x7ff0_0000_0000_0000 → T (not (nanBits binary64 r))

@@ -3,6 +3,7 @@ use mathlib.Core.Path.{_≡_, refl, sym, ap, _∙_, subst}
 use mathlib.Core.Logic.{inl, inr}
 use Prim.Native.Nat.{ℕ, zero, suc, _+_, _-_, _*_, _/_, _%_, _≤_, _<_, compare, Ordering, Ordering·lt, Ordering·eq, Ordering·gt}
 use native.Mathlib.Nat.{le-refl, le-trans, le-of-eq, le-of-lt, le-antisymm, le-of-suc-le-suc, lt-of-not-le, not-le-of-lt, eq-or-lt-of-le, mul-right-comm, mul-le-mul, mul-le-mul-right, mul-lt-mul-of-pos-right, div-one, le-div-iff-mul-le, div-lt-iff-lt-mul}
+use native.Mathlib.Decide.{decLe}
 use native.Mathlib.Omega.{arith}
 use lib.Ieee.{nearest}
 use lib.Ieee.Fits.{nearest-le}
@@ -127,6 +128,36 @@ closestRoot-up q r h k =
     closestRoot-is n 1
     ∙ ap (λ (w : ℕ). nearest w (compare (4 * n) (midSquare w * 1))) (root-of q r k)
     ∙ pick-gt q (compare (4 * n) (midSquare q * 1)) (4 * n) (midSquare q * 1) (cmp (4 * n) (midSquare q * 1)) (above-half q r h)
+
+-- the number q is nearest where n is above q * (q - 1) and not above q * (q + 1)
+pub closestRoot-at : (n q : ℕ) → q * q < n + q → n ≤ q * q + q → closestRoot n 1 ≡ q
+closestRoot-at n q lo hi = go (decLe (q * q) n)
+  where
+    down : (n s q : ℕ) → s ≤ n → n ≤ s + q → n - s ≤ q
+    down n s q h k = omega arith
+
+    whole : (n s : ℕ) → s ≤ n → n ≡ s + (n - s)
+    whole n s h = omega arith
+
+    go : Dec (q * q ≤ n) → closestRoot n 1 ≡ q
+    go (yes p) = ap (λ (x : ℕ). closestRoot x 1) (whole n (q * q) p) ∙ closestRoot-down q (n - q * q) (down n (q * q) q p hi)
+    go (no f) = under n q (lt-of-not-le f) lo
+      where
+        above : (n p : ℕ) → n < suc p * suc p → suc p * suc p < n + suc p → p < n - p * p
+        above n p h k = omega arith
+
+        most : (n p : ℕ) → n < suc p * suc p → n - p * p ≤ 2 * p
+        most n p h = omega arith
+
+        least : (n p : ℕ) → suc p * suc p < n + suc p → p * p ≤ n
+        least n p k = omega arith
+
+        none : (n : ℕ) → n < 0 * 0 → ⊥
+        none n h = omega arith
+
+        under : (n q : ℕ) → n < q * q → q * q < n + q → closestRoot n 1 ≡ q
+        under n zero h k = absurd (none n h)
+        under n (suc p) h k = ap (λ (x : ℕ). closestRoot x 1) (whole n (p * p) (least n p k)) ∙ closestRoot-up p (n - p * p) (above n p h k) (most n p h)
 
 -- a square
 pub closestRoot-square : (q : ℕ) → closestRoot (q * q) 1 ≡ q

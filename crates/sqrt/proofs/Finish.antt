@@ -6,6 +6,7 @@ use native.Mathlib.Nat.{le-refl, le-trans, le-of-eq, le-of-lt, le-antisymm, lt-o
 use native.Mathlib.Omega.{arith}
 use mathlib.Core.Bool.{true, false, true≢false}
 use lib.Dec.{lit<}
+use lib.Count.{leadingZeros}
 use lib.Pow.{pow-add, pow-pos, pow-mono, pow-lt, shl-lt}
 use lib.Ieee.{Float, nan, inf, fin, Format, binary64, prec, emax, low, down, size, units, hid, top, toBits, ofBits}
 use lib.Ieee.Digits.{size-le}
@@ -14,11 +15,12 @@ use lib.Ieee.Fits.{down-pos}
 use lib.Ieee.Exact.{HasValue, units-val}
 use lib.Ieee.Scale.{overflow}
 use lib.Ieee.Positive.{num, den, den-pos, value→cross, positive-of-value}
-use Rattle.sqrt.specs.Root.{isqrt, closestRoot, roundRoot, squareRoot}
-use Rattle.sqrt.proofs.Closest.{isqrt-ge, isqrt-below, isqrt-unique, closestRoot-down, closestRoot-up}
+use Rattle.sqrt.specs.Root.{closestRoot, roundRoot, squareRoot}
+use Rattle.sqrt.proofs.Closest.{closestRoot-mono, closestRoot-square}
 use Rattle.sqrt.proofs.Grid.{size-gt, roundRoot-same, roundRoot-at}
 use Rattle.sqrt.proofs.Laws.{squareRoot-is, units-fits}
-use Rattle.sqrt.specs.Steps.{Normal, Rooted}
+use Rattle.sqrt.specs.Steps.{radicand, rootBits}
+use Rattle.sqrt.proofs.Lift.{Normal, lifted, from-subnormal, from-normal}
 
 -- ---- the pattern of q * 2 ^ k smallest values
 
@@ -78,7 +80,7 @@ bits-at k =
 no-overflow : (q k : ℕ) → q ≤ 2 ^ 53 → k ≤ 1533 → q * 2 ^ k < overflow binary64
 no-overflow q k h l = lt-of-le-of-lt (mul-le-mul h (pow-mono l)) (lt-of-le-of-lt (le-of-eq (sym (pow-add 2 53 1533))) (pow-lt {i = 53 + 1533} {j = low binary64 + suc (emax binary64)} (lit< tt)))
 
-pub pattern : (q k : ℕ) → 2 ^ 52 ≤ q → q ≤ 2 ^ 53 → k ≤ 1533 → ofBits binary64 (k * 2 ^ 52 + q) ≡ units binary64 false q k
+pattern : (q k : ℕ) → 2 ^ 52 ≤ q → q ≤ 2 ^ 53 → k ≤ 1533 → ofBits binary64 (k * 2 ^ 52 + q) ≡ units binary64 false q k
 pattern q k lo hi top =
     let v = units binary64 false q k in
     ap (ofBits binary64) (sym (toBits-of binary64 v (q * 2 ^ k) (units-val binary64 false q k (no-overflow q k hi top)) ∙ go (eq-or-lt-of-le hi)))
@@ -113,14 +115,14 @@ last-digit f = go (f % 2) (small f)
         no : (t : ℕ) → suc (suc t) < 2 → ⊥
         no t h = omega arith
 
--- the radicand: d * 2 ^ f is R * 4 ^ k
-abbrev pub radicand : ℕ → ℕ → ℕ
-radicand d f = d * (1 + f % 2) * 2 ^ 52
+-- d * 2 ^ f is R * 4 ^ k, and this is R
+abbrev evened : ℕ → ℕ → ℕ
+evened d f = d * (1 + f % 2) * 2 ^ 52
 
-abbrev pub half : ℕ → ℕ
+abbrev half : ℕ → ℕ
 half f = (f - 52) / 2
 
-even-part : (d f : ℕ) → 1022 ≤ f → d * 2 ^ f ≡ radicand d f * (2 ^ half f * 2 ^ half f)
+even-part : (d f : ℕ) → 1022 ≤ f → d * 2 ^ f ≡ evened d f * (2 ^ half f * 2 ^ half f)
 even-part d f h =
     let k = half f in
     ap (λ (x : ℕ). d * 2 ^ x) (halved f h)
@@ -131,14 +133,14 @@ even-part d f h =
     turn : (d a k t : ℕ) → d * (a * k * k * t) ≡ d * t * a * (k * k)
     turn d a k t = simp (mul-assoc, mul-comm, mul-left-comm)
 
-radicand-ge : (d t : ℕ) → 2 ^ 52 ≤ d → 2 ^ 52 * 2 ^ 52 ≤ d * (1 + t) * 2 ^ 52
-radicand-ge d t h = mul-le-mul-right (2 ^ 52) (le-trans h (more d t))
+evened-ge : (d t : ℕ) → 2 ^ 52 ≤ d → 2 ^ 52 * 2 ^ 52 ≤ d * (1 + t) * 2 ^ 52
+evened-ge d t h = mul-le-mul-right (2 ^ 52) (le-trans h (more d t))
   where
     more : (d t : ℕ) → d ≤ d * (1 + t)
     more d t = omega arith
 
-radicand-lt : (d t : ℕ) → d < 2 ^ 53 → t < 2 → d * (1 + t) * 2 ^ 52 < 2 ^ 53 * 2 ^ 53
-radicand-lt d t h l = lt-of-le-of-lt (mul-le-mul-right (2 ^ 52) (mul-le-mul (le-refl d) (two t l))) (double d h)
+evened-lt : (d t : ℕ) → d < 2 ^ 53 → t < 2 → d * (1 + t) * 2 ^ 52 < 2 ^ 53 * 2 ^ 53
+evened-lt d t h l = lt-of-le-of-lt (mul-le-mul-right (2 ^ 52) (mul-le-mul (le-refl d) (two t l))) (double d h)
   where
     two : (t : ℕ) → t < 2 → 1 + t ≤ 2
     two t l = omega arith
@@ -146,15 +148,15 @@ radicand-lt d t h l = lt-of-le-of-lt (mul-le-mul-right (2 ^ 52) (mul-le-mul (le-
     double : (d : ℕ) → d < 2 ^ 53 → d * 2 * 2 ^ 52 < 2 ^ 53 * 2 ^ 53
     double d h = omega arith
 
--- what the root of the radicand says of the root of the value
-pub root-is : (b d f : ℕ) → Normal b d f → squareRoot binary64 (ofBits binary64 b) ≡ units binary64 false (closestRoot (radicand d f) 1) (half f)
+-- what the root of R says of the root of the value
+root-is : (b d f : ℕ) → Normal b d f → squareRoot binary64 (ofBits binary64 b) ≡ units binary64 false (closestRoot (evened d f) 1) (half f)
 root-is b d f v =
     let L = 2 ^ low binary64 in
     let k = half f in
     squareRoot-at binary64 (ofBits binary64 b) (d * 2 ^ f) (L * L) (mul-pos (positive-d d (v .least)) (pow-pos f)) (mul-pos (pow-pos (low binary64)) (pow-pos (low binary64))) (v .value)
-    ∙ roundRoot-at binary64 (d * 2 ^ f) (L * L) k (radicand d f) (mul-pos (pow-pos (low binary64)) (pow-pos (low binary64)))
-    (ap (λ (x : ℕ). x * L * L) (even-part d f (v .from)) ∙ turn (radicand d f) (2 ^ k) L)
-    (radicand-ge d (f % 2) (v .least)) (radicand-lt d (f % 2) (v .below) (small f))
+    ∙ roundRoot-at binary64 (d * 2 ^ f) (L * L) k (evened d f) (mul-pos (pow-pos (low binary64)) (pow-pos (low binary64)))
+    (ap (λ (x : ℕ). x * L * L) (even-part d f (v .from)) ∙ turn (evened d f) (2 ^ k) L)
+    (evened-ge d (f % 2) (v .least)) (evened-lt d (f % 2) (v .below) (small f))
   where
     positive-d : (d : ℕ) → 2 ^ 52 ≤ d → 0 < d
     positive-d d h = omega arith
@@ -165,50 +167,84 @@ root-is b d f v =
     turn : (R k L : ℕ) → R * (k * k) * L * L ≡ R * (L * L * k * k)
     turn R k L = simp (mul-assoc, mul-comm, mul-left-comm)
 
--- the root of the radicand has 53 digits
-pub record Fifty (q : ℕ) : Type 0 where
-  pub least : 2 ^ 52 ≤ q
-  pub below : q < 2 ^ 53
+-- the root of R has 53 digits, or is 2 ^ 53
+root-least : (d f : ℕ) → 2 ^ 52 ≤ d → 2 ^ 52 ≤ closestRoot (evened d f) 1
+root-least d f h = le-trans (le-of-eq (sym (closestRoot-square (2 ^ 52)))) (closestRoot-mono (2 ^ 52 * 2 ^ 52) 1 (evened d f) 1 (lit< tt) (lit< tt) (mul-le-mul-right 1 (evened-ge d (f % 2) h)))
 
-pub fifty : (b d f q r : ℕ) → Normal b d f → Rooted (radicand d f) q r → Fifty q
-fifty b d f q r v w =
-    let R = radicand d f in
-    let e : isqrt R ≡ q = isqrt-unique R q (le-trans (at-most (q * q) r) (le-of-eq (w .sum))) (lt-of-le-of-lt (le-of-eq (sym (w .sum))) (under q r (w .small))) in
-    record {
-      least = subst (λ (x : ℕ). 2 ^ 52 ≤ x) e (isqrt-ge R (2 ^ 52) (radicand-ge d (f % 2) (v .least)));
-      below = subst (λ (x : ℕ). x < 2 ^ 53) e (isqrt-below R (2 ^ 53) (radicand-lt d (f % 2) (v .below) (small f)));
-    }
+root-most : (d f : ℕ) → d < 2 ^ 53 → closestRoot (evened d f) 1 ≤ 2 ^ 53
+root-most d f h = le-trans (closestRoot-mono (evened d f) 1 (2 ^ 53 * 2 ^ 53) 1 (lit< tt) (lit< tt) (mul-le-mul-right 1 (le-of-lt (evened-lt d (f % 2) h (small f))))) (le-of-eq (closestRoot-square (2 ^ 53)))
   where
-    at-most : (x r : ℕ) → x ≤ x + r
-    at-most x r = omega arith
-
-    under : (q r : ℕ) → r ≤ 2 * q → q * q + r < suc q * suc q
-    under q r h = omega arith
-
     small : (f : ℕ) → f % 2 < 2
     small f = omega arith
 
-half-le : (f : ℕ) → f ≤ 3119 → half f ≤ 1533
-half-le f h = omega arith
-
--- the pattern where the root is rounded down, and where it is rounded up
-pub finish-down : (b d f q r : ℕ) → Normal b d f → Rooted (radicand d f) q r → r ≤ q → ofBits binary64 (half f * 2 ^ 52 + q) ≡ squareRoot binary64 (ofBits binary64 b)
-finish-down b d f q r v w h =
-    let t = fifty b d f q r v w in
-    pattern q (half f) (t .least) (le-of-lt (t .below)) (half-le f (v .to))
-    ∙ ap (λ (x : ℕ). units binary64 false x (half f)) (sym (closestRoot-down q r h) ∙ ap (λ (n : ℕ). closestRoot n 1) (w .sum))
-    ∙ sym (root-is b d f v)
-
-pub finish-up : (b d f q r : ℕ) → Normal b d f → Rooted (radicand d f) q r → q < r → ofBits binary64 (half f * 2 ^ 52 + q + 1) ≡ squareRoot binary64 (ofBits binary64 b)
-finish-up b d f q r v w h =
-    let t = fifty b d f q r v w in
-    ap (ofBits binary64) (regroup (half f * 2 ^ 52) q)
-    ∙ pattern (suc q) (half f) (more q (t .least)) (t .below) (half-le f (v .to))
-    ∙ ap (λ (x : ℕ). units binary64 false x (half f)) (sym (closestRoot-up q r h (w .small)) ∙ ap (λ (n : ℕ). closestRoot n 1) (w .sum))
-    ∙ sym (root-is b d f v)
+-- the pattern of the root
+finish : (b d f : ℕ) → Normal b d f → ofBits binary64 (half f * 2 ^ 52 + closestRoot (evened d f) 1) ≡ squareRoot binary64 (ofBits binary64 b)
+finish b d f v = pattern (closestRoot (evened d f) 1) (half f) (root-least d f (v .least)) (root-most d f (v .below)) (half-le f (v .to)) ∙ sym (root-is b d f v)
   where
-    regroup : (a q : ℕ) → a + q + 1 ≡ a + suc q
-    regroup a q = omega arith
+    half-le : (f : ℕ) → f ≤ 3119 → half f ≤ 1533
+    half-le f h = omega arith
 
-    more : (q : ℕ) → 2 ^ 52 ≤ q → 2 ^ 52 ≤ suc q
-    more q h = omega arith
+-- it is below the infinity's
+finish-lt : (b d f : ℕ) → Normal b d f → half f * 2 ^ 52 + closestRoot (evened d f) 1 < 0x7ff0_0000_0000_0000
+finish-lt b d f v = go (half f) (closestRoot (evened d f) 1) (half-le f (v .to)) (root-most d f (v .below))
+  where
+    half-le : (f : ℕ) → f ≤ 3119 → half f ≤ 1533
+    half-le f h = omega arith
+
+    go : (k q : ℕ) → k ≤ 1533 → q ≤ 2 ^ 53 → k * 2 ^ 52 + q < 0x7ff0_0000_0000_0000
+    go k q h l = omega arith
+
+-- ---- a normal number's own
+own : (b : ℕ) → radicand b ≡ evened (b % 2 ^ 52 + 2 ^ 52) (b / 2 ^ 52 + 1073)
+own b = ap (λ (t : ℕ). (b % 2 ^ 52 + 2 ^ 52) * t * 2 ^ 52) (even b)
+  where
+    even : (b : ℕ) → 2 - b / 2 ^ 52 % 2 ≡ 1 + (b / 2 ^ 52 + 1073) % 2
+    even b = omega arith
+
+pub own-most : (b : ℕ) → closestRoot (radicand b) 1 ≤ 2 ^ 53
+own-most b = le-trans (le-of-eq (ap (λ (n : ℕ). closestRoot n 1) (own b))) (root-most (b % 2 ^ 52 + 2 ^ 52) (b / 2 ^ 52 + 1073) (below b))
+  where
+    below : (b : ℕ) → b % 2 ^ 52 + 2 ^ 52 < 2 ^ 53
+    below b = omega arith
+
+own-root : (b : ℕ) → rootBits b ≡ half (b / 2 ^ 52 + 1073) * 2 ^ 52 + closestRoot (evened (b % 2 ^ 52 + 2 ^ 52) (b / 2 ^ 52 + 1073)) 1
+own-root b = ap (λ (k : ℕ). k * 2 ^ 52 + closestRoot (radicand b) 1) (halved b) ∙ ap (λ (n : ℕ). half (b / 2 ^ 52 + 1073) * 2 ^ 52 + closestRoot n 1) (own b)
+  where
+    halved : (b : ℕ) → (b / 2 ^ 52 + 1021) / 2 ≡ half (b / 2 ^ 52 + 1073)
+    halved b = omega arith
+
+pub normal-root : (b : ℕ) → 2 ^ 52 ≤ b → b < 0x7ff0_0000_0000_0000 → ofBits binary64 (rootBits b) ≡ squareRoot binary64 (ofBits binary64 b)
+normal-root b l h = ap (ofBits binary64) (own-root b) ∙ finish b (b % 2 ^ 52 + 2 ^ 52) (b / 2 ^ 52 + 1073) (from-normal b l h)
+
+pub normal-root-lt : (b : ℕ) → 2 ^ 52 ≤ b → b < 0x7ff0_0000_0000_0000 → rootBits b < 0x7ff0_0000_0000_0000
+normal-root-lt b l h = lt-of-le-of-lt (le-of-eq (own-root b)) (finish-lt b (b % 2 ^ 52 + 2 ^ 52) (b / 2 ^ 52 + 1073) (from-normal b l h))
+
+-- ---- a subnormal's, whose digits d were moved up by u places and made those of a normal number
+
+abbrev raised : ℕ → ℕ → ℕ
+raised d u = d + (108 - u) * 2 ^ 52
+
+raised-root : (d u : ℕ) → 2 ^ 52 ≤ d → d < 2 ^ 53 → u ≤ 52 → rootBits (raised d u) - 54 * 2 ^ 52 ≡ half (1074 - u) * 2 ^ 52 + closestRoot (evened d (1074 - u)) 1
+raised-root d u l h k =
+    ap (λ (q : ℕ). (raised d u / 2 ^ 52 + 1021) / 2 * 2 ^ 52 + closestRoot q 1 - 54 * 2 ^ 52) (ap (λ (x : ℕ). x * (2 - raised d u / 2 ^ 52 % 2) * 2 ^ 52) (digits d u l h k) ∙ ap (λ (t : ℕ). d * t * 2 ^ 52) (parity d u l h k))
+    ∙ lower d u (closestRoot (evened d (1074 - u)) 1) l h k
+  where
+    digits : (d u : ℕ) → 2 ^ 52 ≤ d → d < 2 ^ 53 → u ≤ 52 → raised d u % 2 ^ 52 + 2 ^ 52 ≡ d
+    digits d u l h k = omega arith
+
+    parity : (d u : ℕ) → 2 ^ 52 ≤ d → d < 2 ^ 53 → u ≤ 52 → 2 - raised d u / 2 ^ 52 % 2 ≡ 1 + (1074 - u) % 2
+    parity d u l h k = omega arith
+
+    lower : (d u q : ℕ) → 2 ^ 52 ≤ d → d < 2 ^ 53 → u ≤ 52 → (raised d u / 2 ^ 52 + 1021) / 2 * 2 ^ 52 + q - 54 * 2 ^ 52 ≡ half (1074 - u) * 2 ^ 52 + q
+    lower d u q l h k = omega arith
+
+-- a subnormal's digits, moved up by their leading zeros
+abbrev pub lift : ℕ → ℕ
+lift b = raised (b * 2 ^ (leadingZeros 64 b - 11) % 2 ^ 64) (leadingZeros 64 b - 11)
+
+pub subnormal-root : (b : ℕ) → 0 < b → b < 2 ^ 52 → ofBits binary64 (rootBits (lift b) - 54 * 2 ^ 52) ≡ squareRoot binary64 (ofBits binary64 b)
+subnormal-root b l h =
+    let u = leadingZeros 64 b - 11 in
+    let d = b * 2 ^ u % 2 ^ 64 in
+    let v = from-subnormal b l h in
+    ap (ofBits binary64) (raised-root d u (v .least) (v .below) (lifted b l h .to)) ∙ finish b d (1074 - u) v

@@ -8,7 +8,7 @@ pub mod Nearest
 pub mod Range
 pub mod Known
 mod Digits
-mod Halves
+mod Product
 mod Patterns
 mod Lift
 mod Finish

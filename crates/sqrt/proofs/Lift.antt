@@ -9,8 +9,15 @@ use lib.Count.{leadingZeros, leading-top}
 use lib.Ieee.{Float, nan, inf, fin, binary64, low, up, down, ofBits}
 use lib.Ieee.Exact.{HasValue}
 use Rattle.ieee.proofs.Range.Values.{pow-lt-back}
-use Rattle.sqrt.specs.Steps.{Normal}
 use Rattle.sqrt.proofs.Patterns.{subnormal, normal}
+
+-- The pattern b stands for d * 2 ^ f / 2 ^ 2148, and d has 53 binary digits. 2 ^ -1074 is the smallest positive value, and 2148 is twice 1074.
+pub record Normal (b d f : ℕ) : Type 0 where
+  pub least : 2 ^ 52 ≤ d
+  pub below : d < 2 ^ 53
+  pub from : 1022 ≤ f
+  pub to : f ≤ 3119
+  pub value : HasValue (ofBits binary64 b) false (d * 2 ^ f) (2 ^ low binary64 * 2 ^ low binary64)
 
 -- a fraction with both parts multiplied by d
 pub rescale : (x : Float) (s : Bool) (a c d : ℕ) → HasValue x s a c → HasValue x s (a * d) (c * d)

@@ -14,7 +14,7 @@ use Rattle.transfer_matrix.proofs.Steps.{evaluates}
 use Rattle.thin_film.specs.declared.Coating.{Coating}
 use Rattle.thin_film.specs.declared.Coating.the-variants as C
 use Rattle.thin_film.specs.declared.Evaluation.{Evaluation}
-use Rattle.thin_film.specs.declared.Pending.{Pending}
+use Rattle.thin_film.specs.declared.reading.Pending.{Pending}
 use Rattle.thin_film.specs.Coating.{ordered}
 use Rattle.thin_film.specs.Evaluate.{outcome, valid, respond, evaluate-coating}
 use Rattle.thin_film.specs.Walk.{reading, steps, through, conclude, settled, all}

@@ -24,13 +24,13 @@ use denote.Triple.Spec.{tripleOf}
 use denote.Triple.Clauses.{ensured, lasts}
 use Rattle.transfer_matrix.specs.declared.ThinFilmLayer.{ThinFilmLayer}
 use Rattle.transfer_matrix.proofs.ThinFilmLayer as L
-use Rattle.thin_film.specs.declared.Pending.{Pending}
+use Rattle.thin_film.specs.declared.reading.Pending.{Pending}
 use Rattle.thin_film.specs.declared.Evaluation.{Evaluation}
 use Rattle.thin_film.specs.Walk as Walk
-use Rattle.thin_film.proofs.Pending as S
-use Rattle.thin_film.proofs.Pending.Laws as S′
-use Rattle.thin_film.proofs.through as through
-use Rattle.thin_film.proofs.conclude as conclude
+use Rattle.thin_film.proofs.reading.Pending as S
+use Rattle.thin_film.proofs.reading.Pending.Laws as S′
+use Rattle.thin_film.proofs.reading.through as through
+use Rattle.thin_film.proofs.reading.conclude as conclude
 
 module _ {M : Type 1} (𝓤 : URA M) (H : Heap 𝓤) (A : Atoms 𝓤) (mem : Memory → SProp 𝓤) (run : Routine → Fun 𝓤) where
   abbrev pub Through : Contract 𝓤

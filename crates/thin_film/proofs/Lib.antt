@@ -3,3 +3,4 @@ pub mod Order
 pub mod Repeat
 pub mod Answers
 pub mod Lent
+pub mod Known

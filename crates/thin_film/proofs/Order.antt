@@ -1,6 +1,6 @@
 -- Facts on lists of layers that the two loops cite: a stack takes one layer more, and the i-th layer that is read stands where `place` says.
---     done, as-long, within, goes-on           where every layer is read, from either end
---     at-most, inside, starts, turns, ends     where all or none of a lent list are
+--     front, done, as-long, within, goes-on                 where every layer is read, from either end
+--     at-most, inside, starts, turns, ends, none-lent       where all or none of a lent list are
 -- Assumes nothing.
 use mathlib.Core.Path.{_≡_, refl, sym, _∙_, ap}
 use Prim.Native.Nat.{ℕ, suc, _+_, _-_, _<_, _≤_, zero-le}
@@ -16,7 +16,7 @@ use Rattle.transfer_matrix.specs.declared.ThinFilmLayer.{ThinFilmLayer}
 use Rattle.transfer_matrix.specs.declared.Stack.{Stack}
 use Rattle.transfer_matrix.specs.Stack.{step, steps}
 use Rattle.thin_film.specs.Coating.{ordered}
-use Rattle.thin_film.specs.declared.Pending.{Pending}
+use Rattle.thin_film.specs.declared.reading.Pending.{Pending}
 use Rattle.thin_film.specs.Walk as Walk
 use Rattle.thin_film.specs.Walk.{count, place, reading, through}
 
@@ -106,3 +106,7 @@ module _ (p : Pending) (ys : List ThinFilmLayer) where
   pub ends : (a : Pending) (i : ℕ) → i ≡ count p (length ys) → Walk.steps a (drop i (reading p ys)) ≡ a
   unfolding Walk.steps reading
   ends a i e = ap (λ (k : Stack). record { read = a .read; far = a .far; stack = k; settled = a .settled }) (done (a .stack) _ i (e ∙ sym (listed (p .far) ys (p .read))))
+
+-- an empty list leaves all as it is
+pub none-lent : (p : Pending) → through p [] ≡ p
+none-lent p = sym (starts p []) ∙ ends p [] p 0 (omega (arith, at-most p []))

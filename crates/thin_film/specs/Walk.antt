@@ -2,7 +2,7 @@
 use Prim.Native.Nat.{ℕ, _-_}
 use mathlib.Core.Bool.{Bool, true, false, cond}
 use mathlib.Core.List.{List, []}
-use lib.Ieee.{Float, nan}
+use lib.Ieee.{Float}
 use Rattle.ieee.specs.Functions.{zero-f}
 use Rattle.complex.specs.Complex.{zero}
 use Rattle.transfer_matrix.specs.declared.Product.{Product}
@@ -11,12 +11,8 @@ use Rattle.transfer_matrix.specs.declared.ThinFilmLayer.{ThinFilmLayer}
 use Rattle.transfer_matrix.specs.Stack as Stack
 use Rattle.thin_film.specs.declared.Evaluation.{Evaluation}
 use Rattle.thin_film.specs.declared.Evaluation.the-variants as E
-use Rattle.thin_film.specs.declared.Pending.{Pending}
+use Rattle.thin_film.specs.declared.reading.Pending.{Pending}
 use Rattle.thin_film.specs.Coating.{ordered}
-
--- what a list gives past its end
-abbrev pub no-layer : ThinFilmLayer
-no-layer = record { n = nan; k = nan; «thickness_nm» = nan }
 
 -- a stack that nothing reads
 abbrev pub no-product : Product

@@ -1,4 +1,7 @@
 -- `complex::half_root` meets its contract. Assumes nothing.
+use mathlib.Core.Path.{_∙_, ap}
+use lib.Ieee.{binary64}
+use Rattle.sqrt.specs.Root.{squareRoot}
 use Rattle.complex.specs.Complex.{half-root}
 use borrow.Author.Needs.{needs}
 use Rattle.complex.proofs.half_root.Statement.{statement}
@@ -12,7 +15,7 @@ sqrt-requires c κs = search needs
 
 returns : tie.Need-returns
 unfolding half-root
-returns c = cc
+returns c = c .sqrt .ensures ∙ ap (squareRoot binary64) (c .before .max .ensures)
 
 pub half-root-spec : {M : Type 1} → statement M
 half-root-spec = tie.close (tie.spec max-requires sqrt-requires returns)

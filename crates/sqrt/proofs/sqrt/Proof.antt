@@ -1,12 +1,14 @@
 -- `sqrt::sqrt` meets its contract. Assumes nothing.
 use mathlib.Core.Path.{_≡_, sym, ap, _∙_, subst}
+use borrow.Author.Needs.{needs}
 use lib.Dec.{T}
 use lib.Ieee.{Float, binary64, fits, toBits, ofBits}
 use lib.Ieee.Bits.{ofBits-toBits}
 use lib.Ieee.Positive.{above}
 use Rattle.sqrt.specs.Root.{squareRoot}
 use Rattle.sqrt.proofs.Patterns.{above-pos, above-inf}
-use Rattle.sqrt.proofs.Cases.{is-above, above-no-nan, below-no-nan, root-inf, root-zero, root-none}
+use Rattle.sqrt.proofs.Cases.{is-above, above-no-nan, root-inf, root-zero, root-none}
+use Rattle.sqrt.proofs.Finish.{normal-root}
 use Rattle.sqrt.proofs.sqrt.Statement.{statement}
 use Rattle.sqrt.proofs.sqrt.Tie as tie
 
@@ -23,30 +25,36 @@ above-bits x e a = subst (λ (z : Float). T (above z)) (sym e) a
 float-to-bits-bits : tie.Need-float-to-bits-bits
 float-to-bits-bits c = above-no-nan (c .before .args .x) (is-above (c .before .args .x) (c .if1 .taken))
 
-root-bits-requires : tie.Need-root-bits-requires
-root-bits-requires c κs =
+subnormal-sqrt-requires : tie.Need-subnormal-sqrt-requires
+subnormal-sqrt-requires c κs =
     let x = c .before .before .args .x in
     (above-pos (toBits binary64 x) (above-bits x (read-back (c .before .before)) (is-above x (c .before .if1 .taken))), c .if2 .taken)
 
-float-from-bits-result : tie.Need-float-from-bits-result
-float-from-bits-result c = below-no-nan (c .root-bits .result) (c .root-bits .ensures .1)
+normal-sqrt-requires : tie.Need-normal-sqrt-requires
+normal-sqrt-requires c κs = search needs
 
 returns : tie.Need-returns
-returns c = c .root-bits .ensures .0 ∙ ap (squareRoot binary64) (read-back (c .before .before .before))
+returns c = c .subnormal-sqrt .ensures ∙ ap (squareRoot binary64) (read-back (c .before .before .before))
 
 returns-2 : tie.Need-returns-2
 returns-2 c =
-    let x = c .before .before .args .x in
-    let e = read-back (c .before .before) in
-    root-inf x (sym e ∙ above-inf (toBits binary64 x) (above-bits x e (is-above x (c .before .if1 .taken))) (c .if2 .left))
+    let s = c .before .before .before .before in
+    c .normal-sqrt .ensures ∙ normal-root (toBits binary64 (s .args .x)) (c .before .before .if2 .left) (c .before .if3 .taken) ∙ ap (squareRoot binary64) (read-back s)
 
 returns-3 : tie.Need-returns-3
-returns-3 c = root-zero (c .before .before .args .x) (c .if3 .taken)
+returns-3 c =
+    let s = c .before .before .before in
+    let x = s .args .x in
+    let e = read-back s in
+    root-inf x (sym e ∙ above-inf (toBits binary64 x) (above-bits x e (is-above x (c .before .before .if1 .taken))) (c .if3 .left))
 
 returns-4 : tie.Need-returns-4
-returns-4 c = root-none (c .before .before .args .x) (c .before .if1 .left) (c .if3 .left)
+returns-4 c = root-zero (c .before .before .args .x) (c .if4 .taken)
+
+returns-5 : tie.Need-returns-5
+returns-5 c = root-none (c .before .before .args .x) (c .before .if1 .left) (c .if4 .left)
 
 pub sqrt-spec : {M : Type 1} → statement M
 sqrt-spec =
     tie.close
-    (tie.spec float-to-bits-bits root-bits-requires float-from-bits-result returns returns-2 returns-3 returns-4)
+    (tie.spec float-to-bits-bits subnormal-sqrt-requires normal-sqrt-requires returns returns-2 returns-3 returns-4 returns-5)

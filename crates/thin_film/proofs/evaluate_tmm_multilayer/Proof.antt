@@ -41,24 +41,24 @@ use Rattle.transfer_matrix.specs.Stack as Stack
 use Rattle.transfer_matrix.proofs.ThinFilmLayer as L
 use Rattle.transfer_matrix.proofs.CoatingResponse as R
 use Rattle.transfer_matrix.proofs.CoatingResponse.Laws as R′
-use Rattle.thin_film.specs.declared.Pending.{Pending}
+use Rattle.thin_film.specs.declared.reading.Pending.{Pending}
 use Rattle.thin_film.specs.Walk as Walk
 use Rattle.thin_film.proofs.Answers.{every}
 use Rattle.thin_film.proofs.Lent.{Through, v, to-through, goes-through, through-said}
-use Rattle.thin_film.proofs.Pending as S
-use Rattle.thin_film.proofs.Pending.Laws as S′
-use Rattle.thin_film.proofs.all as all
-use Rattle.thin_film.proofs.all.Symbol as all-def
-use Rattle.thin_film.proofs.all.Symbol.{name as #thin-film·all}
-use Rattle.thin_film.proofs.all.Met as all-thm
-use Rattle.thin_film.proofs.through as through
-use Rattle.thin_film.proofs.through.Symbol as through-def
-use Rattle.thin_film.proofs.through.Symbol.{name as #thin-film·through}
-use Rattle.thin_film.proofs.through.Met as through-thm
-use Rattle.thin_film.proofs.finish as finish
-use Rattle.thin_film.proofs.finish.Symbol as finish-def
-use Rattle.thin_film.proofs.finish.Symbol.{name as #thin-film·finish}
-use Rattle.thin_film.proofs.finish.Met as finish-thm
+use Rattle.thin_film.proofs.reading.Pending as S
+use Rattle.thin_film.proofs.reading.Pending.Laws as S′
+use Rattle.thin_film.proofs.reading.all as all
+use Rattle.thin_film.proofs.reading.all.Symbol as all-def
+use Rattle.thin_film.proofs.reading.all.Symbol.{name as #thin-film·all}
+use Rattle.thin_film.proofs.reading.all.Met as all-thm
+use Rattle.thin_film.proofs.reading.through as through
+use Rattle.thin_film.proofs.reading.through.Symbol as through-def
+use Rattle.thin_film.proofs.reading.through.Symbol.{name as #thin-film·through}
+use Rattle.thin_film.proofs.reading.through.Met as through-thm
+use Rattle.thin_film.proofs.reading.finish as finish
+use Rattle.thin_film.proofs.reading.finish.Symbol as finish-def
+use Rattle.thin_film.proofs.reading.finish.Symbol.{name as #thin-film·finish}
+use Rattle.thin_film.proofs.reading.finish.Met as finish-thm
 use Rattle.thin_film.proofs.evaluate_tmm_multilayer.Key.{name as #thin-film·evaluate-tmm-multilayer}
 use Rattle.thin_film.proofs.evaluate_tmm_multilayer as f
 use Rattle.thin_film.proofs.evaluate_tmm_multilayer.Statement as stated
@@ -180,6 +180,6 @@ evaluate-tmm-multilayer-spec 𝓤 H 𝓜 𝓖 𝓡 =
     entered 𝓤 H (tripleOf 𝓤 H (𝓖 .A) f.signature (f.spec 𝓤 H (𝓖 .A) (𝓜 .mem) (𝓡 .run)))
     (tables 𝓤 H 𝓜 𝓡 code.env .C) (tables 𝓤 H 𝓜 𝓡 code.env .Λ) #thin-film·evaluate-tmm-multilayer code.function (code.unfolded 𝓤 H 𝓜 𝓡)
     (meets 𝓤 H (𝓖 .A) (givenOf 𝓤 H 𝓜 𝓖) (𝓜 .mem) (𝓡 .run) (tablesOf 𝓤 H 𝓜 (tables 𝓤 H 𝓜 𝓡 code.env))
-    (cited 𝓤 H (All 𝓤 H (𝓖 .A) (𝓜 .mem) (𝓡 .run)) 𝓜 𝓡 code.env #thin-film·all all-def.routine code.calls-thin-film·all (all-thm.met 𝓤 H 𝓜 𝓖 𝓡))
-    (cited 𝓤 H (Through 𝓤 H (𝓖 .A) (𝓜 .mem) (𝓡 .run)) 𝓜 𝓡 code.env #thin-film·through through-def.routine code.calls-thin-film·through (through-thm.met 𝓤 H 𝓜 𝓖 𝓡))
-    (cited 𝓤 H (Finish 𝓤 H (𝓖 .A) (𝓜 .mem) (𝓡 .run)) 𝓜 𝓡 code.env #thin-film·finish finish-def.routine code.calls-thin-film·finish (finish-thm.met 𝓤 H 𝓜 𝓖 𝓡)))
+    (cited 𝓤 H (All 𝓤 H (𝓖 .A) (𝓜 .mem) (𝓡 .run)) 𝓜 𝓡 code.env #thin-film·all all-def.routine code.calls-thin-film·reading·all (all-thm.met 𝓤 H 𝓜 𝓖 𝓡))
+    (cited 𝓤 H (Through 𝓤 H (𝓖 .A) (𝓜 .mem) (𝓡 .run)) 𝓜 𝓡 code.env #thin-film·through through-def.routine code.calls-thin-film·reading·through (through-thm.met 𝓤 H 𝓜 𝓖 𝓡))
+    (cited 𝓤 H (Finish 𝓤 H (𝓖 .A) (𝓜 .mem) (𝓡 .run)) 𝓜 𝓡 code.env #thin-film·finish finish-def.routine code.calls-thin-film·reading·finish (finish-thm.met 𝓤 H 𝓜 𝓖 𝓡)))

@@ -1,4 +1,6 @@
 -- `transfer_matrix::times` meets its contract. Assumes nothing.
+use mathlib.Core.Path.{ap}
+use Rattle.transfer_matrix.specs.Stack.{product}
 use borrow.Author.Needs.{needs}
 use Rattle.transfer_matrix.proofs.times.Statement.{statement}
 use Rattle.transfer_matrix.proofs.times.Tie as tie
@@ -31,7 +33,7 @@ index-2-t31 : tie.Need-index-2-t31
 index-2-t31 c = search needs
 
 returns : tie.Need-returns
-returns c = cc
+returns c = ap product (c .before .before .before .before .mat-mul-2x2 .ensures)
 
 pub times-spec : {M : Type 1} → statement M
 times-spec =

@@ -43,7 +43,7 @@ use denote.Exit.{yes}
 use Rattle.transfer_matrix.specs.declared.ThinFilmLayer.{ThinFilmLayer}
 use Rattle.transfer_matrix.proofs.ThinFilmLayer as L
 use Rattle.thin_film.specs.declared.Coating.{Coating}
-use Rattle.thin_film.specs.declared.Pending.{Pending}
+use Rattle.thin_film.specs.declared.reading.Pending.{Pending}
 use Rattle.thin_film.specs.declared.Evaluation.{Evaluation}
 use Rattle.thin_film.specs.Coating.{ordered}
 use Rattle.thin_film.specs.Evaluate.{outcome, evaluate-coating}
@@ -54,20 +54,20 @@ use Rattle.thin_film.proofs.Coating as T
 use Rattle.thin_film.proofs.Coating.Laws as T′
 use Rattle.thin_film.proofs.Evaluation as E
 use Rattle.thin_film.proofs.Evaluation.Laws as E′
-use Rattle.thin_film.proofs.Pending as S
-use Rattle.thin_film.proofs.Pending.Laws as S′
-use Rattle.thin_film.proofs.prepare as prepare
-use Rattle.thin_film.proofs.prepare.Symbol as prepare-def
-use Rattle.thin_film.proofs.prepare.Symbol.{name as #thin-film·prepare}
-use Rattle.thin_film.proofs.prepare.Met as prepare-thm
-use Rattle.thin_film.proofs.through as through
-use Rattle.thin_film.proofs.through.Symbol as through-def
-use Rattle.thin_film.proofs.through.Symbol.{name as #thin-film·through}
-use Rattle.thin_film.proofs.through.Met as through-thm
-use Rattle.thin_film.proofs.conclude as conclude
-use Rattle.thin_film.proofs.conclude.Symbol as conclude-def
-use Rattle.thin_film.proofs.conclude.Symbol.{name as #thin-film·conclude}
-use Rattle.thin_film.proofs.conclude.Met as conclude-thm
+use Rattle.thin_film.proofs.reading.Pending as S
+use Rattle.thin_film.proofs.reading.Pending.Laws as S′
+use Rattle.thin_film.proofs.reading.prepare as prepare
+use Rattle.thin_film.proofs.reading.prepare.Symbol as prepare-def
+use Rattle.thin_film.proofs.reading.prepare.Symbol.{name as #thin-film·prepare}
+use Rattle.thin_film.proofs.reading.prepare.Met as prepare-thm
+use Rattle.thin_film.proofs.reading.through as through
+use Rattle.thin_film.proofs.reading.through.Symbol as through-def
+use Rattle.thin_film.proofs.reading.through.Symbol.{name as #thin-film·through}
+use Rattle.thin_film.proofs.reading.through.Met as through-thm
+use Rattle.thin_film.proofs.reading.conclude as conclude
+use Rattle.thin_film.proofs.reading.conclude.Symbol as conclude-def
+use Rattle.thin_film.proofs.reading.conclude.Symbol.{name as #thin-film·conclude}
+use Rattle.thin_film.proofs.reading.conclude.Met as conclude-thm
 use Rattle.thin_film.proofs.Coating.evaluate.Key.{name as #thin-film·evaluate}
 use Rattle.thin_film.proofs.Coating.evaluate as f
 use Rattle.thin_film.proofs.Coating.evaluate.Statement as stated
@@ -192,6 +192,6 @@ evaluate-spec 𝓤 H 𝓜 𝓖 𝓡 =
     entered 𝓤 H (tripleOf 𝓤 H (𝓖 .A) f.signature (f.spec 𝓤 H (𝓖 .A) (𝓜 .mem) (𝓡 .run)))
     (tables 𝓤 H 𝓜 𝓡 code.env .C) (tables 𝓤 H 𝓜 𝓡 code.env .Λ) #thin-film·evaluate code.function (code.unfolded 𝓤 H 𝓜 𝓡)
     (meets 𝓤 H (𝓖 .A) (givenOf 𝓤 H 𝓜 𝓖) (𝓜 .mem) (𝓡 .run) (tablesOf 𝓤 H 𝓜 (tables 𝓤 H 𝓜 𝓡 code.env))
-    (cited 𝓤 H (Prepare 𝓤 H (𝓖 .A) (𝓜 .mem) (𝓡 .run)) 𝓜 𝓡 code.env #thin-film·prepare prepare-def.routine code.calls-thin-film·prepare (prepare-thm.met 𝓤 H 𝓜 𝓖 𝓡))
-    (cited 𝓤 H (Through 𝓤 H (𝓖 .A) (𝓜 .mem) (𝓡 .run)) 𝓜 𝓡 code.env #thin-film·through through-def.routine code.calls-thin-film·through (through-thm.met 𝓤 H 𝓜 𝓖 𝓡))
-    (cited 𝓤 H (Conclude 𝓤 H (𝓖 .A) (𝓜 .mem) (𝓡 .run)) 𝓜 𝓡 code.env #thin-film·conclude conclude-def.routine code.calls-thin-film·conclude (conclude-thm.met 𝓤 H 𝓜 𝓖 𝓡)))
+    (cited 𝓤 H (Prepare 𝓤 H (𝓖 .A) (𝓜 .mem) (𝓡 .run)) 𝓜 𝓡 code.env #thin-film·prepare prepare-def.routine code.calls-thin-film·reading·prepare (prepare-thm.met 𝓤 H 𝓜 𝓖 𝓡))
+    (cited 𝓤 H (Through 𝓤 H (𝓖 .A) (𝓜 .mem) (𝓡 .run)) 𝓜 𝓡 code.env #thin-film·through through-def.routine code.calls-thin-film·reading·through (through-thm.met 𝓤 H 𝓜 𝓖 𝓡))
+    (cited 𝓤 H (Conclude 𝓤 H (𝓖 .A) (𝓜 .mem) (𝓡 .run)) 𝓜 𝓡 code.env #thin-film·conclude conclude-def.routine code.calls-thin-film·reading·conclude (conclude-thm.met 𝓤 H 𝓜 𝓖 𝓡)))

@@ -1,0 +1,2 @@
+-- The starred known answers, computed.
+pub mod Known

@@ -1,0 +1,2 @@
+-- The starred known answers.
+pub mod Known

@@ -1,0 +1,4 @@
+-- Facts on places and words, and the claim on the grammar.
+pub mod Places
+pub mod Scan
+pub mod Claim

@@ -1,0 +1,118 @@
+-- `sheet::grammar` meets its contract. The loop's invariant: what is left from this place on, with the SURFACEs done, tallies to the whole sheet's count.
+-- The measure is what is left of the words. Assumes nothing.
+use mathlib.Core.Path.{_≡_, sym, ap, _∙_}
+use Prim.Native.Nat.{ℕ, _+_, _-_, _≤_, _<_}
+use native.Mathlib.Omega.{arith}
+use borrow.Author.Needs.{needs}
+use borrow.Author.Tests.{eq-eqb, ne-eqb}
+use Rattle.sheet.specs.Words.{count, word}
+use Rattle.sheet.specs.Read.{decode}
+use Rattle.sheet.specs.Scan.{block-of, counted}
+use Rattle.sheet.proofs.Scan.{surface-room, layer-room, left, tally, scan-surface, scan-layer, scan-end, scan-wrong, counted-left, not-open, not-beam}
+use Rattle.sheet.proofs.grammar.Statement.{statement}
+use Rattle.sheet.proofs.grammar.Tie as tie
+
+abbrev Inv-loop : tie.InvT-loop
+Inv-loop src at₀ done₀ room₀ at done room = (at ≤ count src + 8) × ((done ≤ 64) × (tally done (left src at done room) ≡ counted (decode src)))
+
+abbrev μ-loop : tie.MeasureT-loop
+μ-loop src at₀ done₀ room₀ at done room = count src + 8 - at
+
+word-from-requires : tie.Need-word-from-requires Inv-loop μ-loop
+word-from-requires c κs = search needs
+
+returns : tie.Need-returns Inv-loop μ-loop
+returns c = not-open _ (ne-eqb _ _ (λ e. c .if1 .taken (c .before .word-from .ensures ∙ e)))
+
+word-from-requires-2 : tie.Need-word-from-requires-2 Inv-loop μ-loop
+word-from-requires-2 c κs = search needs
+
+returns-2 : tie.Need-returns-2 Inv-loop μ-loop
+returns-2 c = not-beam _ (eq-eqb _ _ (sym (c .before .before .before .word-from .ensures) ∙ c .before .before .if1 .left)) (ne-eqb _ _ (λ e. c .if2 .taken (c .before .word-from2 .ensures ∙ e)))
+
+loop-holds : tie.Need-loop-holds Inv-loop μ-loop
+loop-holds c = (omega arith, (omega arith, sym (counted-left _ (eq-eqb _ _ (sym (c .before .before .before .word-from .ensures) ∙ c .before .before .if1 .left)) (eq-eqb _ _ (sym (c .before .word-from2 .ensures) ∙ c .if2 .left)))))
+
+found-requires : tie.Need-found-requires Inv-loop μ-loop
+found-requires c κs = search needs
+
+enum-told : tie.Need-enum-told Inv-loop μ-loop
+enum-told c = search needs
+
+word-from-requires-3 : tie.Need-word-from-requires-3 Inv-loop μ-loop
+word-from-requires-3 c κs = search needs
+
+room-after-requires : tie.Need-room-after-requires Inv-loop μ-loop
+room-after-requires c κs = search needs
+
+add-done : tie.Need-add-done Inv-loop μ-loop
+add-done c = search needs
+
+add-at : tie.Need-add-at Inv-loop μ-loop
+add-at c = search needs
+
+loop-less : tie.Need-loop-less Inv-loop μ-loop
+loop-less c = omega (arith, surface-room _ _ _ _ (sym (c .before .before .before .before .found .ensures) ∙ ap block-of (c .before .before .enum-told .given .1)) .1)
+
+loop-again : tie.Need-loop-again Inv-loop μ-loop
+loop-again c =
+    let h = surface-room _ _ _ _ (sym (c .before .before .before .before .found .ensures) ∙ ap block-of (c .before .before .enum-told .given .1)) in
+    (omega (arith, h .1), (omega (arith, h .0), scan-surface _ _ _ _ _ _ (sym (c .before .before .before .before .found .ensures) ∙ ap block-of (c .before .before .enum-told .given .1)) (c .before .word-from3 .ensures) (c .room-after .ensures) ∙ c .before .before .before .before .before .loop .inv .1 .1))
+
+enum-told-2 : tie.Need-enum-told-2 Inv-loop μ-loop
+enum-told-2 c = search needs
+
+sub-room : tie.Need-sub-room Inv-loop μ-loop
+sub-room c = omega (arith, layer-room _ _ _ _ (sym (c .before .before .found .ensures) ∙ ap block-of (c .enum-told2 .given .1)) .0)
+
+add-at-2 : tie.Need-add-at-2 Inv-loop μ-loop
+add-at-2 c = search needs
+
+loop-less-2 : tie.Need-loop-less-2 Inv-loop μ-loop
+loop-less-2 c = omega (arith, layer-room _ _ _ _ (sym (c .before .before .found .ensures) ∙ ap block-of (c .enum-told2 .given .1)) .1)
+
+loop-again-2 : tie.Need-loop-again-2 Inv-loop μ-loop
+loop-again-2 c =
+    let h = layer-room _ _ _ _ (sym (c .before .before .found .ensures) ∙ ap block-of (c .enum-told2 .given .1)) in
+    (omega (arith, h .1), (c .before .before .before .loop .inv .1 .0, scan-layer _ _ _ _ (sym (c .before .before .found .ensures) ∙ ap block-of (c .enum-told2 .given .1)) ∙ c .before .before .before .loop .inv .1 .1))
+
+enum-told-3 : tie.Need-enum-told-3 Inv-loop μ-loop
+enum-told-3 c = search needs
+
+returns-3 : tie.Need-returns-3 Inv-loop μ-loop
+returns-3 c = scan-end _ _ _ _ (sym (c .before .before .found .ensures) ∙ ap block-of (c .enum-told3 .given .1)) ∙ c .before .before .before .loop .inv .1 .1
+
+enum-known-place : tie.Need-enum-known-place Inv-loop μ-loop
+enum-known-place c = search needs
+
+returns-4 : tie.Need-returns-4 Inv-loop μ-loop
+returns-4 c = scan-wrong _ _ _ _ _ (sym (c .before .before .before .found .ensures) ∙ ap block-of (c .before .place .given .1)) ∙ c .before .before .before .before .loop .inv .1 .1
+
+pub grammar-spec : {M : Type 1} → statement M
+grammar-spec =
+    tie.close
+    (tie.spec
+    Inv-loop
+    μ-loop
+    word-from-requires
+    returns
+    word-from-requires-2
+    returns-2
+    loop-holds
+    found-requires
+    enum-told
+    word-from-requires-3
+    room-after-requires
+    add-done
+    add-at
+    loop-less
+    loop-again
+    enum-told-2
+    sub-room
+    add-at-2
+    loop-less-2
+    loop-again-2
+    enum-told-3
+    returns-3
+    enum-known-place
+    returns-4)

@@ -1,0 +1,13 @@
+-- `sheet::room_after` meets its contract. Assumes nothing.
+use borrow.Author.Tests.{eq-eqb, ne-eqb}
+use Rattle.sheet.proofs.room_after.Statement.{statement}
+use Rattle.sheet.proofs.room_after.Tie as tie
+
+returns : tie.Need-returns
+returns c = simp (eq-eqb _ _ (c .if1 .taken))
+
+returns-2 : tie.Need-returns-2
+returns-2 c = simp (ne-eqb _ _ (c .if1 .left))
+
+pub room-after-spec : {M : Type 1} → statement M
+room-after-spec = tie.close (tie.spec returns returns-2)

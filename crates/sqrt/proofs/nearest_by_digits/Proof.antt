@@ -1,0 +1,28 @@
+-- `sqrt::nearest_by_digits` meets its contract. Assumes nothing.
+use mathlib.Core.Path.{sym, ap, _∙_}
+use Prim.Native.Nat.{ℕ}
+use native.Mathlib.Numerals.{add-one}
+use borrow.Author.Needs.{needs}
+use Rattle.sqrt.specs.Root.{closestRoot}
+use Rattle.sqrt.proofs.Closest.{closestRoot-down, closestRoot-up}
+use Rattle.sqrt.proofs.nearest_by_digits.Statement.{statement}
+use Rattle.sqrt.proofs.nearest_by_digits.Tie as tie
+
+root-by-digits-requires : tie.Need-root-by-digits-requires
+root-by-digits-requires c κs = search needs
+
+add-result : tie.Need-add-result
+add-result c = search needs
+
+returns : tie.Need-returns
+returns c =
+    let r = c .before .before .before .root-by-digits in
+    add-one (r .result .root) ∙ sym (closestRoot-up (r .result .root) (r .result .rest) (c .before .if1 .taken) (r .ensures .small)) ∙ ap (λ (n : ℕ). closestRoot n 1) (r .ensures .sum)
+
+returns-2 : tie.Need-returns-2
+returns-2 c =
+    let r = c .before .before .root-by-digits in
+    sym (closestRoot-down (r .result .root) (r .result .rest) (c .if1 .left)) ∙ ap (λ (n : ℕ). closestRoot n 1) (r .ensures .sum)
+
+pub nearest-by-digits-spec : {M : Type 1} → statement M
+nearest-by-digits-spec = tie.close (tie.spec root-by-digits-requires add-result returns returns-2)

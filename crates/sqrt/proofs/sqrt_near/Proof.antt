@@ -1,0 +1,71 @@
+-- `sqrt::sqrt_near` meets its contract: a guess that passes the test is the root. Assumes nothing.
+use mathlib.Core.Path.{_≡_, sym, ap, _∙_, subst}
+use Prim.Native.Nat.{ℕ, _+_, _-_, _*_, _/_, _%_, _^_, _≤_, _<_}
+use native.Mathlib.Omega.{arith}
+use borrow.Author.Needs.{needs}
+use lib.Dec.{T}
+use lib.Ieee.{binary64, toBits, ofBits}
+use lib.Ieee.Bits.{ofBits-toBits}
+use Rattle.ieee.proofs.Signs.{of-true}
+use Rattle.sqrt.specs.Root.{squareRoot, closestRoot}
+use Rattle.sqrt.specs.Steps.{radicand, Nearest}
+use Rattle.sqrt.proofs.Cases.{is-above, above-no-nan, below-no-nan}
+use Rattle.sqrt.proofs.Finish.{normal-root}
+use Rattle.sqrt.proofs.sqrt_near.Statement.{statement}
+use Rattle.sqrt.proofs.sqrt_near.Tie as tie
+
+-- between 1 and 2 the root's pattern is the guess's
+passed : (b r : ℕ) → b / 2 ^ 52 ≡ 1023 → Nearest b r → ofBits binary64 r ≡ squareRoot binary64 (ofBits binary64 b)
+passed b r e v = ap (ofBits binary64) (joined b r (closestRoot (radicand b) 1) e (v .field) (v .root)) ∙ normal-root b (least b e) (most b e)
+  where
+    joined : (b r q : ℕ) → b / 2 ^ 52 ≡ 1023 → r / 2 ^ 52 ≡ b / 2 ^ 52 → q ≡ r % 2 ^ 52 + 2 ^ 52 → r ≡ (b / 2 ^ 52 + 1021) / 2 * 2 ^ 52 + q
+    joined b r q e f g = omega arith
+
+    least : (b : ℕ) → b / 2 ^ 52 ≡ 1023 → 2 ^ 52 ≤ b
+    least b e = omega arith
+
+    most : (b : ℕ) → b / 2 ^ 52 ≡ 1023 → b < 0x7ff0_0000_0000_0000
+    most b e = omega arith
+
+nearest : (c : tie.Then4) → Nearest (toBits binary64 (c .before .before .before .before .before .before .args .x)) (toBits binary64 (c .before .before .before .second-guess .result))
+nearest c = c .before .is-root .ensures (of-true (c .before .is-root .result) (c .if4 .taken))
+
+float-to-bits-bits : tie.Need-float-to-bits-bits
+float-to-bits-bits c = above-no-nan (c .before .args .x) (is-above (c .before .args .x) (c .if1 .taken))
+
+second-guess-requires : tie.Need-second-guess-requires
+second-guess-requires c κs = search needs
+
+float-to-bits-root : tie.Need-float-to-bits-root
+float-to-bits-root c = above-no-nan (c .before .second-guess .result) (is-above (c .before .second-guess .result) (c .if3 .taken))
+
+is-root-requires : tie.Need-is-root-requires
+is-root-requires c κs = search needs
+
+float-from-bits-result : tie.Need-float-from-bits-result
+float-from-bits-result c = below-no-nan (toBits binary64 (c .before .before .before .second-guess .result)) (omega (arith, nearest c .field))
+
+returns : tie.Need-returns
+returns c =
+    let s = c .before .before .before .before .before .before in
+    passed (toBits binary64 (s .args .x)) (toBits binary64 (c .before .before .before .second-guess .result)) (c .before .before .before .before .if2 .taken) (nearest c)
+    ∙ ap (squareRoot binary64) (ofBits-toBits binary64 (s .args .x) (subst T (sym (s .good .0 .1)) tt))
+
+sqrt-requires : tie.Need-sqrt-requires
+sqrt-requires c κs = search needs
+
+returns-2 : tie.Need-returns-2
+returns-2 c = search needs
+
+pub sqrt-near-spec : {M : Type 1} → statement M
+sqrt-near-spec =
+    tie.close
+    (tie.spec
+    float-to-bits-bits
+    second-guess-requires
+    float-to-bits-root
+    is-root-requires
+    float-from-bits-result
+    returns
+    sqrt-requires
+    returns-2)
