@@ -32,7 +32,7 @@ four-mag : Mag 4 0 four
 unfolding ofBits
 four-mag = mag-lit four tt
 
-pi-mag : Mag 4 0 pi
+pub pi-mag : Mag 4 0 pi
 unfolding ofBits
 pi-mag = mag-lit pi tt
 

@@ -5,12 +5,12 @@ use Prim.Native.Nat.{ℕ, suc, _+_, _*_, _^_, _≤_}
 use native.Mathlib.Omega.{arith}
 use lib.Dec.{T}
 use lib.ListN.{length}
-use lib.Ieee.{Float, binary64, neg, ofBits, fits}
+use lib.Ieee.{Float, binary64, neg, fits}
 use lib.Ieee.Fits.{mul-fits, sub-fits}
 use Rattle.ieee.specs.Operators.{_⊕_, _⊖_, _⊗_}
 use Rattle.ieee.specs.Functions.{zero-f, one, two, half}
 use Rattle.ieee.specs.Range.{Mag, In, tops}
-use Rattle.ieee.proofs.Range.Laws.{in-mag, mag-lit, neg-mag, mul-mag, mul-in, sq-in}
+use Rattle.ieee.proofs.Range.Laws.{in-mag, neg-mag, mul-mag, mul-in, sq-in}
 use Rattle.ieee.proofs.Range.Sums.{add-mag, sub-mag, sub-in}
 use Rattle.ieee.proofs.Range.Quotients.{div-mag, div-in}
 use Rattle.ieee.proofs.Range.Zero.{zero-mul-mag, mul-zero-mag, add-zero-in, sub-zero-in, add-zero-size}
@@ -19,6 +19,7 @@ use Rattle.ieee.proofs.Range.Constants.{zero-mag, half-in, one-in, one-mag, two
 use Rattle.elementary.specs.Angles.{pi}
 use Rattle.elementary.specs.Exp as Exp
 use Rattle.elementary.proofs.ExpBounds.{exp-zero}
+use Rattle.elementary.proofs.AtanBounds.{pi-mag}
 use Rattle.complex.specs.declared.Complex.{Complex}
 use Rattle.complex.specs.Complex.{real, scale, norm-sq, add, sub, mul, quotient, div}
 use Rattle.transfer_matrix.specs.declared.ThinFilmLayer.{ThinFilmLayer}
@@ -106,10 +107,6 @@ eta-p-real : (side : Float) (layer : ThinFilmLayer) → Mag 4 0 side → Admitte
 eta-p-real side layer h g = eta-div (index layer) (cos-theta side (index layer)) (index-real side layer g) (cosine-real side layer h g)
 
 -- ---- the phase: 2 π d / λ is at most 8192, so δ is at most 2 ^ 15, and real
-pi-mag : Mag 4 0 pi
-unfolding ofBits
-pi-mag = mag-lit pi tt
-
 factor-mag : {d w : Float} → Mag 100000 0 d → In 100 0 10000 0 w → Mag 8192 0 (factor d w)
 unfolding factor
 factor-mag {d} h g =

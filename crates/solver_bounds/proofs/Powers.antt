@@ -1,7 +1,6 @@
 -- Complex numbers and matrices up to a power of two: a layer's matrix with entries up to 2 ^ g raises the bound of a product by g + 2 doublings. Assumes nothing.
 use Prim.Native.Nat.{ℕ, suc, _+_, _*_, _^_, _≤_, zero-le}
 use native.Mathlib.Omega.{arith}
-use mathlib.Core.Bool.{Bool, true, false, not, cond}
 use lib.Dec.{T, leb}
 use lib.Ieee.{Float, lt}
 use Rattle.ieee.specs.Operators.{_⊗_}
@@ -9,7 +8,7 @@ use Rattle.ieee.specs.Range.{plus, In, Pow}
 use Rattle.ieee.proofs.Range.Laws.{in-mag}
 use Rattle.ieee.proofs.Range.Powers.{to-pow, pow-up, mul-pow, add-pow, sub-pow, div-pow}
 use Rattle.ieee.proofs.Range.Plus.{sq-plus, add-plus, plus-in}
-use Rattle.ieee.proofs.Range.Tests.{nlt-in}
+use Rattle.ieee.proofs.Range.Tests.{choose, nlt-in}
 use Rattle.ieee.proofs.Range.Constants.{zero-mag, one-mag}
 use Rattle.complex.specs.declared.Complex.{Complex}
 use Rattle.complex.specs.Complex.{real, zero, norm-sq, add, sub, mul, quotient, div, least-denom}
@@ -69,14 +68,10 @@ quotient-pow {i} {j} z w d h g D b =
       im = div-pow (sub-pow (mul-pow (h .im) (g .re) m) (mul-pow (h .re) (g .im) m) n) D b;
     }
 
-either : (P : Complex → Type 0) (b : Bool) (z w : Complex) → P z → (T (not b) → P w) → P (cond b z w)
-either P true z w f g = f
-either P false z w f g = g tt
-
 pub cdiv-pow : {i j : ℕ} (z w : Complex) → CPow i z → CPow j w → suc (i + j) + 94 ≤ 1023 → suc (j + j) ≤ 1023 → CPow (suc (i + j) + 94) (div z w)
 unfolding div
 cdiv-pow {i} {j} z w h g b c =
-    either (λ v. CPow (suc (i + j) + 94) v) (lt (norm-sq w) least-denom) zero (quotient z w (norm-sq w)) (zero-pow (suc (i + j) + 94))
+    choose (λ v. CPow (suc (i + j) + 94) v) (lt (norm-sq w) least-denom) zero (quotient z w (norm-sq w)) (λ t. zero-pow (suc (i + j) + 94))
     (λ t. quotient-pow z w (norm-sq w) h g (nlt-in least-denom-in (plus-in (norm-plus g c) (norm-pow g c)) t) b)
 
 -- ---- matrices

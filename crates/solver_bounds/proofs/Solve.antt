@@ -2,21 +2,22 @@
 use mathlib.Core.List.{List}
 use Prim.Native.Nat.{ℕ}
 use native.Mathlib.Omega.{arith}
-use mathlib.Core.Bool.{Bool, true, false, _||_}
 use lib.Dec.{T, lit≤}
 use lib.Ieee.{Float, lt, eq, le, ofBits}
 use lib.Ieee.Bits.{is-true}
+use lib.Ieee.Scale.{finite}
 use Rattle.ieee.specs.Operators.{_⊖_, _⊗_, _⊘_}
 use Rattle.ieee.specs.Functions.{zero-f, one, two, abs, max}
 use Rattle.ieee.specs.Range.{Mag, In, Pow}
-use Rattle.ieee.proofs.Range.Laws.{in-mag, in-lit, in-up, abs-in, mul-mag, mul-in, sq-in}
+use Rattle.ieee.proofs.Range.Laws.{in-mag, in-lit, abs-in, mul-mag, mul-in, sq-in}
 use Rattle.ieee.proofs.Range.Sums.{sub-in}
 use Rattle.ieee.proofs.Range.Quotients.{div-in}
 use Rattle.ieee.proofs.Range.Tests.{max-keep, surely-below, clamp-in}
+use Rattle.ieee.proofs.Range.Falls.{or-l}
 use Rattle.ieee.proofs.Range.Ratio.{slope, ratio-mag}
 use Rattle.ieee.proofs.Range.Powers.{to-pow, mul-pow}
 use Rattle.ieee.proofs.Range.Plus.{mul-plus, plus-in}
-use Rattle.ieee.proofs.Range.Constants.{zero-in, one-in, two-in}
+use Rattle.ieee.proofs.Range.Constants.{zero-in, zero-foot, one-in, two-in}
 use Rattle.sqrt.specs.Root.{sqrt}
 use Rattle.sqrt.proofs.Range.{sqrt-in}
 use Rattle.elementary.specs.Trig.{sin, cos}
@@ -28,7 +29,7 @@ use Rattle.transfer_matrix.specs.declared.ThinFilmLayer.{ThinFilmLayer}
 use Rattle.transfer_matrix.specs.Matrix.{Matrix, identity}
 use Rattle.transfer_matrix.specs.Solve.{eta0-s, eta0-p, least-cos, cos-theta-sub, eta-sub-s, eta-sub-p, through-s, through-p, b-of, c-of, reflection, transmission, reflectance, transmittance, solve, respond, evaluate}
 use Rattle.solver_bounds.specs.Range.{CPow, Real, MPow}
-use Rattle.solver_bounds.specs.Solver.{Admitted, Bounded}
+use Rattle.solver_bounds.specs.Solver.{Admitted, Bounded, EveryResponseBounded}
 use Rattle.solver_bounds.proofs.Complex.{real-in, real-up, mul-real}
 use Rattle.solver_bounds.proofs.Powers.{cpow-up, real-pow, cadd-pow, csub-pow, cmul-pow, norm-pow, norm-plus, cdiv-pow, mpow-up, identity-pow}
 use Rattle.solver_bounds.proofs.Layer.{eta-div, through-s-pow, through-p-pow}
@@ -64,19 +65,16 @@ module _ (m : Matrix) (eta0 eta : Complex) (M : MPow 144 m) (E0 : CPow 5 eta0) (
   transmission-pow = cdiv-pow (scale eta0 two) (add (mul eta0 (b-of m eta)) (c-of m eta)) (double-pow E0) divisor (lit≤ tt) (lit≤ tt)
 
 -- ---- the powers, clamped between 0 and 1, and the phases
-zero-to-one : In 0 0 1 0 zero-f
-zero-to-one = in-up zero-in tt
-
 reflectance-in : {r : Complex} → CPow 411 r → In 0 0 1 0 (reflectance r)
 unfolding reflectance
-reflectance-in h = clamp-in one-in zero-to-one (plus-in (norm-plus h (lit≤ tt)) (norm-pow h (lit≤ tt))) tt
+reflectance-in h = clamp-in one-in zero-foot (plus-in (norm-plus h (lit≤ tt)) (norm-pow h (lit≤ tt))) tt
 
 transmittance-in : {eta0 eta t : Complex} → Real 1 2 16 0 eta0 → Real 7 4 22 0 eta → CPow 259 t → In 0 0 1 0 (transmittance eta0 eta t)
 unfolding transmittance
 transmittance-in {eta0} {eta} {t} h g c =
     let q : In 0 0 88 0 (eta .re ⊘ eta0 .re) = div-in (g .re) (h .re) tt in
     let x : Pow 526 (eta .re ⊘ eta0 .re ⊗ norm-sq t) = mul-pow (to-pow 7 (in-mag q) tt) (norm-pow c (lit≤ tt)) (lit≤ tt) in
-    clamp-in one-in zero-to-one (plus-in (mul-plus (eta .re ⊘ eta0 .re) (norm-sq t) (q .sign) (norm-plus c (lit≤ tt)) (x .fine)) x) tt
+    clamp-in one-in zero-foot (plus-in (mul-plus (eta .re ⊘ eta0 .re) (norm-sq t) (q .sign) (norm-plus c (lit≤ tt)) (x .fine)) x) tt
 
 arg-mag : {k : ℕ} {z : Complex} → CPow k z → Mag 8 0 (arg z)
 unfolding arg
@@ -120,27 +118,28 @@ eta0-p-real h g = real-in (div-in h (max-keep g least-cos-in tt) tt)
 below-one : (q : Float) → Mag slope 51 q → T (le (abs q) one)
 unfolding le
 below-one q h = or-l (lt (abs q) one) (eq (abs q) one) (surely-below one-in (abs-in h) tt)
-  where
-    or-l : (a b : Bool) → T a → T (a || b)
-    or-l true b t = tt
-    or-l false b t = absurd t
 
-cos-sub-real : (q : Float) → Mag slope 51 q → Real 7 4 1 0 (cos-theta-sub q)
-unfolding cos-theta-sub
-cos-sub-real q h =
+pub cosine-in : (q : Float) → Mag slope 51 q → In 7 4 1 0 (sqrt (max (one ⊖ q ⊗ q) zero-f))
+cosine-in q h =
     let z : In 0 0 25 5 (q ⊗ q) = sq-in h tt in
     let d : In 7 5 1 0 (one ⊖ q ⊗ q) = sub-in one-in z tt in
     let m : In 7 5 1 0 (max (one ⊖ q ⊗ q) zero-f) = max-keep d zero-in tt in
-    let r : In 7 4 1 0 (sqrt (max (one ⊖ q ⊗ q) zero-f)) = sqrt-in m tt in
-    rw (is-true (le (abs q) one) (below-one q h)) (real-in r)
+    sqrt-in m tt
+
+cos-sub-real : (q : Float) → Mag slope 51 q → Real 7 4 1 0 (cos-theta-sub q)
+unfolding cos-theta-sub
+cos-sub-real q h = rw (is-true (le (abs q) one) (below-one q h)) (real-in (cosine-in q h))
 
 -- ---- the whole
+pub side-mag : {n0 : Float} (angle : Float) → In 1 0 4 0 n0 → T (finite angle) → Mag 4 0 (n0 ⊗ sin angle)
+side-mag angle h f = mul-mag (in-mag h) (sin-mag angle f) tt
+
 module _ (n0 ns angle w : Float) (layers : List ThinFilmLayer) (g : Admitted n0 ns angle w layers) where
-  side-mag : Mag 4 0 (n0 ⊗ sin angle)
-  side-mag = mul-mag (in-mag (g .incident)) (sin-mag angle (g .finite-angle)) tt
+  side : Mag 4 0 (n0 ⊗ sin angle)
+  side = side-mag angle (g .incident) (g .finite-angle)
 
   cosine : Real 7 4 1 0 (cos-theta-sub (n0 ⊗ sin angle ⊘ ns))
-  cosine = cos-sub-real (n0 ⊗ sin angle ⊘ ns) (ratio-mag (n0 ⊗ sin angle) ns (side-mag .fine) (g .substrate) (g .bends))
+  cosine = cos-sub-real (n0 ⊗ sin angle ⊘ ns) (ratio-mag (n0 ⊗ sin angle) ns (side .fine) (g .substrate) (g .bends))
 
   eta-s : Real 7 4 22 0 (eta-sub-s (n0 ⊗ sin angle) ns)
   unfolding eta-sub-s
@@ -151,14 +150,17 @@ module _ (n0 ns angle w : Float) (layers : List ThinFilmLayer) (g : Admitted n0 
   eta-p = eta-div (real ns) (cos-theta-sub (n0 ⊗ sin angle ⊘ ns)) (real-in (g .substrate)) cosine
 
   product-s : MPow 144 (through-s (n0 ⊗ sin angle) w identity layers)
-  product-s = let f = g .few in mpow-up (through-s-pow (n0 ⊗ sin angle) w side-mag (g .wavelength-in) 0 identity layers identity-pow (g .admitted) (omega arith)) (omega arith)
+  product-s = let f = g .few in mpow-up (through-s-pow (n0 ⊗ sin angle) w side (g .wavelength-in) 0 identity layers identity-pow (g .admitted) (omega arith)) (omega arith)
 
   product-p : MPow 144 (through-p (n0 ⊗ sin angle) w identity layers)
-  product-p = let f = g .few in mpow-up (through-p-pow (n0 ⊗ sin angle) w side-mag (g .wavelength-in) 0 identity layers identity-pow (g .admitted) (omega arith)) (omega arith)
+  product-p = let f = g .few in mpow-up (through-p-pow (n0 ⊗ sin angle) w side (g .wavelength-in) 0 identity layers identity-pow (g .admitted) (omega arith)) (omega arith)
 
-  pub evaluate-bounded : Bounded (evaluate n0 ns angle w layers)
+  bounded : Bounded (evaluate n0 ns angle w layers)
   unfolding evaluate
-  evaluate-bounded =
+  bounded =
       response-bounded (through-s (n0 ⊗ sin angle) w identity layers) (through-p (n0 ⊗ sin angle) w identity layers)
       (eta0-s n0 (cos angle)) (eta-sub-s (n0 ⊗ sin angle) ns) (eta0-p n0 (cos angle)) (eta-sub-p (n0 ⊗ sin angle) ns)
       product-s product-p (eta0-s-real (g .incident) (g .cosine)) eta-s (eta0-p-real (g .incident) (g .cosine)) eta-p
+
+pub every-response-bounded : EveryResponseBounded
+every-response-bounded = bounded

@@ -11,6 +11,7 @@ use Rattle.ieee.specs.Range.{Mag, In}
 use Rattle.elementary.specs.Trig.{sin, cos}
 use Rattle.transfer_matrix.specs.declared.ThinFilmLayer.{ThinFilmLayer}
 use Rattle.transfer_matrix.specs.declared.CoatingResponse.{CoatingResponse}
+use Rattle.transfer_matrix.specs.Solve.{evaluate}
 use Rattle.solver_bounds.specs.Range.{CPow}
 
 -- the light bends by no more than 0.875 of what the medium n admits; `side` is n_incident * sin_theta0
@@ -50,3 +51,6 @@ pub record Bounded (r : CoatingResponse) : Type 0 where
   pub transmittance-p : In 0 0 1 0 (r .«transmittance_p»)
   pub phase-rs : Mag 8 0 (r .«phase_rs_rad»)
   pub phase-rp : Mag 8 0 (r .«phase_rp_rad»)
+
+abbrev pub EveryResponseBounded : Type 0
+EveryResponseBounded = (n-incident n-substrate angle wavelength : Float) (layers : List ThinFilmLayer) → Admitted n-incident n-substrate angle wavelength layers → Bounded (evaluate n-incident n-substrate angle wavelength layers)

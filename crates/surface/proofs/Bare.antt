@@ -1,6 +1,6 @@
 -- A bare surface within the limits: its powers are from 0 to 1, nothing refuses, and its Jones matrices have entries up to 16. Assumes nothing.
 use mathlib.Core.Path.{_≡_}
-use mathlib.Core.Bool.{Bool, true, false, cond}
+use mathlib.Core.Bool.{false}
 use lib.Dec.{T}
 use lib.Ieee.{Float, lt, le}
 use lib.Ieee.Bits.{is-true, is-false}
@@ -11,38 +11,35 @@ use Rattle.ieee.specs.Range.{Mag, In}
 use Rattle.ieee.proofs.Range.Laws.{in-mag, in-up, plus-finite, abs-in, mul-mag, mul-in, sq-in}
 use Rattle.ieee.proofs.Range.Sums.{sub-mag, add-in, sub-in}
 use Rattle.ieee.proofs.Range.Quotients.{div-mag, div-in}
-use Rattle.ieee.proofs.Range.Tests.{cond-in, max-in, max-keep, never-above, never-under, clamp-in, clamp-same}
+use Rattle.ieee.proofs.Range.Tests.{choose, cond-in, max-in, never-above, never-under, clamp-in, clamp-same}
 use Rattle.ieee.proofs.Range.FromZero.{above-zero}
 use Rattle.ieee.proofs.Range.Ratio.{slope, ratio-mag}
 use Rattle.ieee.proofs.Range.Falls.{in-zero-to-one, to-tests}
-use Rattle.ieee.proofs.Range.Constants.{zero-in, one-in, two-in}
+use Rattle.ieee.proofs.Range.Constants.{zero-in, zero-foot, one-in, two-in}
 use Rattle.sqrt.proofs.Range.{sqrt-in}
 use Rattle.elementary.specs.Trig.{sin, cos}
-use Rattle.elementary.proofs.TrigBounds.{sin-mag}
 use Rattle.refusal.specs.Outcome.{answer}
 use Rattle.fresnel.specs.declared.Reflectances.{Reflectances}
 use Rattle.fresnel.specs.Fresnel as Fresnel
 use Rattle.fresnel.specs.Fresnel.{sin2-t, power, least-den, fresnel-dielectric}
 use Rattle.polarization.specs.declared.SurfaceJones.{SurfaceJones}
 use Rattle.polarization.specs.Surface.{no-index, invalid, cos-t, refracted, bare, surface-fresnel-jones}
+use Rattle.solver_bounds.proofs.Solve.{cosine-in, side-mag}
 use Rattle.surface.specs.declared.Surface.{Surface}
 use Rattle.surface.specs.Limits.{within}
 use Rattle.surface.specs.Answers.{bare-powers}
 use Rattle.surface.specs.Finite.{UnitPowers}
 use Rattle.surface.proofs.Ranges.{Inside}
-use Rattle.surface.proofs.Polarized.{PowerJones, diattenuator-pow, real-pow}
+use Rattle.surface.proofs.Polarized.{PowerJones, diattenuator-pow, of-real-pow}
 
 -- ---- section 5: the powers
-zero-to-one : In 0 0 1 0 zero-f
-zero-to-one = in-up zero-in tt
-
 -- an amplitude up to 96, as its divisor is 1/4 at least
 power-in : {num den : Float} → Mag 24 0 num → In 1 2 24 0 den → In 0 0 1 0 (power num den)
 unfolding power
 power-in {num} {den} h g =
     let q : Mag 96 0 (num ⊘ den) = div-mag h g tt in
     let z : In 0 0 9216 0 ((num ⊘ den) ⊗ (num ⊘ den)) = sq-in q tt in
-    cond-in (lt (abs den) least-den) zero-to-one (clamp-in one-in zero-to-one z tt)
+    cond-in (lt (abs den) least-den) zero-foot (clamp-in one-in zero-foot z tt)
 
 record UnitReflectances (r : Reflectances) : Type 0 where
   rs : In 0 0 1 0 (r .rs)
@@ -63,7 +60,7 @@ sin2-in cos-i n1 n2 C N M =
     let e : In 1 2 4 0 (n1 ⊘ n2) = div-in N M tt in
     let f : In 0 0 16 0 ((n1 ⊘ n2) ⊗ (n1 ⊘ n2)) = mul-in e e tt in
     let d : In 0 0 1 0 (one ⊖ cos-i ⊗ cos-i) = sub-in one-in (sq-in {r = 1} {n = 0} (in-mag C) tt) tt in
-    mul-in f (max-in (in-mag d) zero-to-one) tt
+    mul-in f (max-in (in-mag d) zero-foot) tt
 
 cos-t-in : (sin2 : Float) → In 0 0 16 0 sin2 → In 0 0 5 0 (Fresnel.cos-t sin2)
 unfolding Fresnel.cos-t
@@ -71,18 +68,14 @@ cos-t-in sin2 h =
     let d : Mag 17 0 (one ⊖ sin2) = sub-mag (in-mag one-in) (in-mag h) tt in
     sqrt-in {a = 0} {i = 0} {p = 17} {j = 0} (max-in d (in-up zero-in tt)) tt
 
-either : (b : Bool) (x y : Reflectances) → UnitReflectances x → UnitReflectances y → UnitReflectances (cond b x y)
-either true x y h g = h
-either false x y h g = g
-
 dielectric-in : (c n1 n2 : Float) → In 1 2 1 0 c → In 1 0 4 0 n1 → In 1 0 4 0 n2 → UnitReflectances (fresnel-dielectric c n1 n2)
 unfolding fresnel-dielectric
 dielectric-in c n1 n2 C N M =
     let same : clamp c zero-f one ≡ c = clamp-same c zero-f one (never-under C zero-in tt) (never-above one-in (in-mag C) tt) in
     let s = sin2-t c n1 n2 in
     rw same
-    (either (le one s) (record { rs = one; rp = one }) (Fresnel.refracted c (Fresnel.cos-t s) n1 n2) (record { rs = in-up one-in tt; rp = in-up one-in tt })
-    (refracted-powers c (Fresnel.cos-t s) n1 n2 C (cos-t-in s (sin2-in c n1 n2 C N M)) N M))
+    (choose (λ r. UnitReflectances r) (le one s) (record { rs = one; rp = one }) (Fresnel.refracted c (Fresnel.cos-t s) n1 n2) (λ t. record { rs = in-up one-in tt; rp = in-up one-in tt })
+    (λ t. refracted-powers c (Fresnel.cos-t s) n1 n2 C (cos-t-in s (sin2-in c n1 n2 C N M)) N M))
 
 pub bare-unit : (s : Surface) → Inside s → UnitPowers (bare-powers s)
 unfolding bare-powers within
@@ -118,15 +111,13 @@ refracted-jones n1 n2 cos-i cos-t N M C D =
     let rp : Mag 8 0 (n2 ⊗ cos-i ⊖ n1 ⊗ cos-t) = sub-mag (in-mag c) (in-mag d) tt in
     let t : Mag 8 0 (two ⊗ n1 ⊗ cos-i) = mul-mag {p = 8} {j = 0} (mul-mag (in-mag two-in) (in-mag N) tt) (in-mag C) tt in
     record {
-      reflection = diattenuator-pow (real-pow {p = 16} {j = 0} 411 (div-mag rs s tt) tt) (real-pow {p = 16} {j = 0} 411 (div-mag rp p tt) tt);
-      transmission = diattenuator-pow (real-pow {p = 16} {j = 0} 411 (div-mag t s tt) tt) (real-pow {p = 16} {j = 0} 411 (div-mag t p tt) tt);
+      reflection = diattenuator-pow (of-real-pow {p = 16} {j = 0} 411 (div-mag rs s tt) tt) (of-real-pow {p = 16} {j = 0} 411 (div-mag rp p tt) tt);
+      transmission = diattenuator-pow (of-real-pow {p = 16} {j = 0} 411 (div-mag t s tt) tt) (of-real-pow {p = 16} {j = 0} 411 (div-mag t p tt) tt);
     }
 
 jones-cos-in : (q : Float) → Mag slope 51 q → In 7 4 1 0 (cos-t q)
 unfolding cos-t
-jones-cos-in q h =
-    let d : In 7 5 1 0 (one ⊖ q ⊗ q) = sub-in one-in (sq-in {r = 25} {n = 5} h tt) tt in
-    sqrt-in {a = 7} {i = 5} {p = 1} {j = 0} (max-keep d zero-in tt) tt
+jones-cos-in q h = cosine-in q h
 
 -- the sine is below 1, so there is no total reflection
 bare-jones-pow : (n1 n2 sin-i cos-i : Float) → In 1 0 4 0 n1 → In 1 0 4 0 n2 → In 1 2 1 0 cos-i → Mag slope 51 (n1 ⊗ sin-i ⊘ n2) → PowerJones (bare n1 n2 sin-i cos-i)
@@ -146,9 +137,8 @@ bare-jones s h =
     let n1 = s .«n_incident» in
     let n2 = s .«n_substrate» in
     let angle = s .«angle_rad» in
-    let side : Mag 4 0 (n1 ⊗ sin angle) = mul-mag (in-mag (h .incident)) (sin-mag angle (h .finite-angle)) tt in
     record {
       value = bare n1 n2 (sin angle) (cos angle);
       is = rw (stands n1 n2 angle (h .incident) (h .substrate) (h .finite-angle));
-      pow = bare-jones-pow n1 n2 (sin angle) (cos angle) (h .incident) (h .substrate) (h .cosine) (ratio-mag (n1 ⊗ sin angle) n2 (side .fine) (h .substrate) (h .bent));
+      pow = bare-jones-pow n1 n2 (sin angle) (cos angle) (h .incident) (h .substrate) (h .cosine) (ratio-mag (n1 ⊗ sin angle) n2 (side-mag angle (h .incident) (h .finite-angle) .fine) (h .substrate) (h .bent));
     }

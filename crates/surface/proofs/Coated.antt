@@ -6,20 +6,20 @@ use mathlib.Core.Bool.{Bool, true, false, not}
 use mathlib.Core.List.{List, [], _∷_, reverseAux}
 use lib.Dec.{T, leb, le→leb, ltb, lit≤}
 use lib.ListN.{length, length-reverse}
-use lib.Ieee.{Float, lt, le, ofBits}
+use lib.Ieee.{Float, lt, le}
 use lib.Ieee.Bits.{is-true}
 use lib.Ieee.Fits.{and-i}
 use lib.Ieee.Scale.{finite}
 use Rattle.ieee.specs.Operators.{_⊗_}
 use Rattle.ieee.specs.Functions.{zero-f, half}
-use Rattle.ieee.specs.Range.{Mag, In}
-use Rattle.ieee.proofs.Range.Laws.{in-mag, in-up, mag-lit, mag-up, neg-mag, plus-finite}
+use Rattle.ieee.specs.Range.{In}
+use Rattle.ieee.proofs.Range.Laws.{in-mag, in-up, mag-up, neg-mag, plus-finite}
 use Rattle.ieee.proofs.Range.FromZero.{above-zero}
 use Rattle.ieee.proofs.Range.Falls.{in-zero-to-one, to-tests}
-use Rattle.ieee.proofs.Range.Constants.{zero-in, zero-mag, half-in, one-in, one-mag}
+use Rattle.ieee.proofs.Range.Constants.{zero-mag, zero-foot, half-in, one-in, one-mag}
 use Rattle.sqrt.specs.Root.{sqrt}
 use Rattle.sqrt.proofs.Range.{sqrt-in}
-use Rattle.elementary.specs.Angles.{pi}
+use Rattle.elementary.proofs.AtanBounds.{pi-mag}
 use Rattle.elementary.specs.Trig.{sin}
 use Rattle.refusal.specs.Outcome.{Outcome, answer}
 use Rattle.transfer_matrix.specs.declared.ThinFilmLayer.{ThinFilmLayer}
@@ -34,13 +34,13 @@ use Rattle.thin_film.specs.Evaluate.{positive, valid, ideal-ar, ideal-mirror, i
 use Rattle.polarization.specs.Surface.{surface-coating-jones}
 use Rattle.solver_bounds.specs.Solver.{AdmittedLayers, Bounded}
 use Rattle.solver_bounds.proofs.Powers.{zero-pow, cpow-up}
-use Rattle.solver_bounds.proofs.Solve.{evaluate-bounded}
+use Rattle.solver_bounds.proofs.Solve.{every-response-bounded}
 use Rattle.surface.specs.declared.Surface.{Surface}
 use Rattle.surface.specs.Answers.{coated-powers}
 use Rattle.surface.specs.Limits.{within, layers-pass}
 use Rattle.surface.specs.Finite.{UnitPowers, FiniteResponse}
 use Rattle.surface.proofs.Ranges.{layers-in, Inside}
-use Rattle.surface.proofs.Polarized.{PowerJones, cpow-finite, real-pow, diattenuator-pow}
+use Rattle.surface.proofs.Polarized.{PowerJones, cpow-finite, of-real-pow, diattenuator-pow}
 
 -- ---- the layers that a coating is evaluated with: they pass, there are 16 at most, and read from the far end they are the same ones
 chosen-pass : (n angle : Float) (coating : SurfaceCoating) (layers : List ThinFilmLayer) → T (layers-pass n angle (layers-of coating [])) → T (layers-pass n angle layers) → T (layers-pass n angle (layers-of coating layers))
@@ -80,24 +80,17 @@ ordered-few false layers h = h
 ordered-few true layers h = rw length-reverse h
 
 -- ---- the ideal coatings
-pi-mag : Mag 8 0 pi
-unfolding ofBits
-pi-mag = mag-lit pi tt
-
 root-half : In 1 1 1 0 (sqrt half)
 root-half = sqrt-in half-in tt
-
-zero-to-one : In 0 0 1 0 zero-f
-zero-to-one = in-up zero-in tt
 
 ideal-ar-bounded : Bounded ideal-ar
 ideal-ar-bounded = record {
   rs = zero-pow 411;
   rp = zero-pow 411;
-  ts = real-pow 259 one-mag tt;
-  tp = real-pow 259 one-mag tt;
-  reflectance-s = zero-to-one;
-  reflectance-p = zero-to-one;
+  ts = of-real-pow 259 one-mag tt;
+  tp = of-real-pow 259 one-mag tt;
+  reflectance-s = zero-foot;
+  reflectance-p = zero-foot;
   transmittance-s = in-up one-in tt;
   transmittance-p = in-up one-in tt;
   phase-rs = mag-up zero-mag tt;
@@ -106,24 +99,24 @@ ideal-ar-bounded = record {
 
 ideal-mirror-bounded : Bounded ideal-mirror
 ideal-mirror-bounded = record {
-  rs = real-pow 411 (neg-mag one-mag) tt;
-  rp = real-pow 411 one-mag tt;
+  rs = of-real-pow 411 (neg-mag one-mag) tt;
+  rp = of-real-pow 411 one-mag tt;
   ts = zero-pow 259;
   tp = zero-pow 259;
   reflectance-s = in-up one-in tt;
   reflectance-p = in-up one-in tt;
-  transmittance-s = zero-to-one;
-  transmittance-p = zero-to-one;
-  phase-rs = pi-mag;
+  transmittance-s = zero-foot;
+  transmittance-p = zero-foot;
+  phase-rs = mag-up pi-mag tt;
   phase-rp = mag-up zero-mag tt;
 }
 
 ideal-beamsplitter-bounded : Bounded ideal-beamsplitter
 ideal-beamsplitter-bounded = record {
-  rs = real-pow 411 (in-mag root-half) tt;
-  rp = real-pow 411 (in-mag root-half) tt;
-  ts = real-pow 259 (in-mag root-half) tt;
-  tp = real-pow 259 (in-mag root-half) tt;
+  rs = of-real-pow 411 (in-mag root-half) tt;
+  rp = of-real-pow 411 (in-mag root-half) tt;
+  ts = of-real-pow 259 (in-mag root-half) tt;
+  tp = of-real-pow 259 (in-mag root-half) tt;
   reflectance-s = in-up half-in tt;
   reflectance-p = in-up half-in tt;
   transmittance-s = in-up half-in tt;
@@ -170,7 +163,7 @@ surface-responds s w coating layers h W p t few =
     let all : AdmittedLayers (n0 ⊗ sin angle) read = ordered-in (n0 ⊗ sin angle) (lt ns n0) (layers-of coating layers) (layers-in n0 angle (layers-of coating layers) (h .incident) (h .finite-angle) (chosen-pass n0 angle coating layers p t)) in
     let short : length read ≤ 16 = ordered-few (lt ns n0) (layers-of coating layers) (chosen-few coating layers few) in
     coating-responds n0 ns angle w (h .incident) (h .substrate) (h .finite-angle) W (coating-of coating) read short
-    (evaluate-bounded n0 ns angle w read (record { incident = h .incident; substrate = h .substrate; finite-angle = h .finite-angle; cosine = h .cosine; wavelength-in = W; bends = h .bent; admitted = all; few = short }))
+    (every-response-bounded n0 ns angle w read (record { incident = h .incident; substrate = h .substrate; finite-angle = h .finite-angle; cosine = h .cosine; wavelength-in = W; bends = h .bent; admitted = all; few = short }))
 
 -- ---- what a bounded response gives
 pub bounded-powers : {r : CoatingResponse} → Bounded r → UnitPowers (coated-powers r)

@@ -67,25 +67,25 @@ inv-sqrt2-mag : Mag 1 0 inv-sqrt2
 unfolding ofBits
 inv-sqrt2-mag = mag-lit inv-sqrt2 tt
 
-pub real-pow : {p j : ℕ} (k : ℕ) {x : Float} → Mag p j x → T (leb p (2 ^ k * 2 ^ j)) → CPow k (real x)
+pub of-real-pow : {p j : ℕ} (k : ℕ) {x : Float} → Mag p j x → T (leb p (2 ^ k * 2 ^ j)) → CPow k (real x)
 unfolding real
-real-pow k h t = record { re = to-pow k h t; im = pow-up (to-pow 0 zero-mag tt) zero-le }
+of-real-pow k h t = record { re = to-pow k h t; im = pow-up (to-pow 0 zero-mag tt) zero-le }
 
 horizontal : UnitVector linear-horizontal
 unfolding linear-horizontal
-horizontal = record { ex = real-pow 0 one-mag tt; ey = zero-pow 0 }
+horizontal = record { ex = of-real-pow 0 one-mag tt; ey = zero-pow 0 }
 
 vertical : UnitVector linear-vertical
 unfolding linear-vertical
-vertical = record { ex = zero-pow 0; ey = real-pow 0 one-mag tt }
+vertical = record { ex = zero-pow 0; ey = of-real-pow 0 one-mag tt }
 
 diagonal : UnitVector linear-45
 unfolding linear-45
-diagonal = record { ex = real-pow 0 inv-sqrt2-mag tt; ey = real-pow 0 inv-sqrt2-mag tt }
+diagonal = record { ex = of-real-pow 0 inv-sqrt2-mag tt; ey = of-real-pow 0 inv-sqrt2-mag tt }
 
 right : UnitVector circular-right
 unfolding circular-right
-right = record { ex = real-pow 0 inv-sqrt2-mag tt; ey = record { re = to-pow 0 zero-mag tt; im = to-pow 0 (neg-mag inv-sqrt2-mag) tt } }
+right = record { ex = of-real-pow 0 inv-sqrt2-mag tt; ey = record { re = to-pow 0 zero-mag tt; im = to-pow 0 (neg-mag inv-sqrt2-mag) tt } }
 
 -- ---- Stokes vectors
 record StokesPow (s : StokesVector) : Type 0 where

@@ -46,7 +46,7 @@ least0 x t = go x (subst (λ (z : Float). T (le z x)) zero-is t)
     go (fin true m e) t s = nought (m * up e) (down e) (eqb→eq (0 * down e) (m * up e * 1) (and-l (eqb (0 * down e) (m * up e * 1)) (false || eqb (0 * down e) 0) (unfold le in t)))
 
 -- ---- the order of such values is that of their sizes
-or-l : (a b : Bool) → T a → T (a || b)
+pub or-l : (a b : Bool) → T a → T (a || b)
 or-l true b t = tt
 or-l false b t = absurd t
 

@@ -15,7 +15,7 @@ use Rattle.ieee.proofs.Range.Laws.{in-mag, neg-mag}
 use Rattle.ieee.specs.Functions.{max, clamp}
 
 -- ---- a choice, with the test's outcome at hand
-pub choose : (P : Float → Type 0) (b : Bool) (x y : Float) → (T b → P x) → (T (not b) → P y) → P (cond b x y)
+pub choose : {A : Type 0} (P : A → Type 0) (b : Bool) (x y : A) → (T b → P x) → (T (not b) → P y) → P (cond b x y)
 choose P true x y f g = f tt
 choose P false x y f g = g tt
 
