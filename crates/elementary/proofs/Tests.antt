@@ -1,28 +1,17 @@
--- What the source's tests say of a float: whether it is a NaN, an infinity or a zero, and its sign bit. Assumes nothing.
+-- What the source's tests say of a float: whether it is an infinity or a zero, and its sign bit. Assumes nothing.
 use mathlib.Core.Path.{_≡_, refl, sym, ap, _∙_}
 use Prim.Native.Nat.{ℕ, zero, suc, _+_, _*_, _%_, _/_, _^_, _≤_, _<_}
 use mathlib.Core.Bool.{Bool, true, false, _&&_, _||_, Bool·beq, cond, true≢false, false≢true}
 use borrow.Author.Tests.{lt-leb, le-leb, ne-eqb}
 use lib.Dec.{T, eqb, leb, eqb·suc-zero}
 use lib.IntN.{pos}
-use lib.Ieee.{Float, nan, inf, fin, Format, binary64, up, down, odd, ones, hid, top, prec, low, neg, eq, ne, fits, isNan, ofFields, ofBits, toBits}
+use lib.Ieee.{Float, nan, inf, fin, Format, binary64, up, down, odd, ones, hid, top, prec, low, neg, eq, fits, isNan, ofFields, ofBits, toBits}
 use lib.Ieee.Bits.{ofBits-toBits}
 use lib.Ieee.Fits.{up-pos}
-use lib.Ieee.Compare.{differs-from-itself}
-use Rattle.ieee.proofs.Signs.{zero-is, of-true, zero-level, not-zero}
+use Rattle.ieee.proofs.Signs.{zero-is, zero-level, not-zero}
 use Rattle.elementary.proofs.Constants.{infinity, infinity-is}
 use Rattle.ieee.specs.Functions.{is-inf, is-zero}
 use Rattle.ieee.specs.Range.{sgn}
-
--- ---- x != x
-pub is-nan : (x : Float) → ne x x ≡ true → x ≡ nan
-is-nan x e = differs-from-itself x (of-true (ne x x) e)
-
-pub not-nan : (x : Float) → ne x x ≡ false → isNan x ≡ false
-unfolding ne eq isNan
-not-nan nan e = absurd (true≢false e)
-not-nan (inf s) e = refl
-not-nan (fin s m d) e = refl
 
 -- ---- x == 1.0 / 0.0, x == -(1.0 / 0.0)
 at-infinity : (x : Float) → eq x (inf false) ≡ true → true ≡ is-inf x

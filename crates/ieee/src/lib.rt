@@ -8,12 +8,10 @@ ghost use Rattle.ieee.specs.Functions.{abs, max, clamp, powi2, powi5, of
 pub fn abs(x: f64) -> f64
     ensures { λ r. ⌜ r ≡ abs x ⌝ }
 {
-    if x < 0.0 {
-        -x
-    } else if x == 0.0 {
-        0.0
-    } else {
+    if x != x {
         x
+    } else {
+        f64::from_bits(f64::to_bits(x) % 0x8000_0000_0000_0000)
     }
 }
 

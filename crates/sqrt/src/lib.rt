@@ -121,24 +121,23 @@ fn low_product(x: u64, y: u64) -> u64
     std::num::wrapping_add_u64((x0 * y1 + x1 * y0) << 32, x0 * y0)
 }
 
-// Whether the float with the pattern `root` is the root of the float with the pattern `bits`, which is
-// from 1/2 to 2. The float product says that q * q is near R, so that R - q * (q - 1) is known once
-// it is known modulo 2 ^ 64.
+// Whether the float with the pattern `root` is the root of the float with the pattern `bits`. Both are
+// from 1/2 to 1, or both from 1 to 2. The float product says that q * q is near R, so that
+// R - q * (q - 1) is known once it is known modulo 2 ^ 64.
 fn is_root(bits: u64, root: u64) -> bool
-    requires { ⌜ (0x3fe0_0000_0000_0000 ≤ bits) × (bits < 0x4000_0000_0000_0000) ⌝ }
+    requires { ⌜ (0x3fe0_0000_0000_0000 ≤ bits) × (bits < 0x4000_0000_0000_0000) × (root / 2 ^ 52 ≡ bits / 2 ^ 52) ⌝ }
     ensures { λ r. ⌜ (T r → Nearest bits root) ⌝ }
 {
-    if root / 0x10_0000_0000_0000 == bits / 0x10_0000_0000_0000 {
-        let n = f64::from_bits(root);
-        if f64::to_bits(n * n) / 1024 == bits / 1024 {
-            let d = (bits % 0x10_0000_0000_0000 + 0x10_0000_0000_0000)
-                * (2 - bits / 0x10_0000_0000_0000 % 2);
-            let q = root % 0x10_0000_0000_0000 + 0x10_0000_0000_0000;
-            let over = std::num::wrapping_sub_u64(d << 52, low_product(q, q - 1));
-            return std::num::wrapping_sub_u64(over, 1) < 2 * q;
-        }
+    let n = f64::from_bits(root);
+    if f64::to_bits(n * n) / 1024 == bits / 1024 {
+        let d = (bits % 0x10_0000_0000_0000 + 0x10_0000_0000_0000)
+            * (2 - bits / 0x10_0000_0000_0000 % 2);
+        let q = root % 0x10_0000_0000_0000 + 0x10_0000_0000_0000;
+        let over = std::num::wrapping_sub_u64(d << 52, low_product(q, q - 1));
+        std::num::wrapping_sub_u64(over, 1) < 2 * q
+    } else {
+        false
     }
-    false
 }
 
 // The root of d * 2 ^ 52, cut to a whole number, a binary digit at a time: slow and simple. `step` is
@@ -188,11 +187,15 @@ fn normal_sqrt(bits: u64) -> f64
     let n = second_guess(h, first_guess(h, part));
     if n > 0.0 {
         let root = f64::to_bits(n);
-        if is_root(part, root) {
-            if part == bits {
-                return f64::from_bits(root);
+        if root / 0x10_0000_0000_0000 == part / 0x10_0000_0000_0000 {
+            if is_root(part, root) {
+                if part == bits {
+                    return f64::from_bits(root);
+                }
+                return f64::from_bits(
+                    root + field / 2 * 0x10_0000_0000_0000 - 0x1ff0_0000_0000_0000,
+                );
             }
-            return f64::from_bits(root + field / 2 * 0x10_0000_0000_0000 - 0x1ff0_0000_0000_0000);
         }
     }
     // the digit that the root's exponent takes up adds 1 to the exponent's field
@@ -236,14 +239,16 @@ pub fn sqrt(x: f64) -> f64
 pub fn sqrt_near(x: f64, s: f64) -> f64
     ensures { λ r. ⌜ r ≡ squareRoot binary64 x ⌝ }
 {
-    if x > 0.0 {
+    if x >= 1.0 {
         let bits = f64::to_bits(x);
-        if bits / 0x10_0000_0000_0000 == 1023 {
+        if bits < 0x4000_0000_0000_0000 {
             let n = second_guess(x, s);
-            if n > 0.0 {
+            if n >= 1.0 {
                 let root = f64::to_bits(n);
-                if is_root(bits, root) {
-                    return f64::from_bits(root);
+                if root < 0x4000_0000_0000_0000 {
+                    if is_root(bits, root) {
+                        return f64::from_bits(root);
+                    }
                 }
             }
         }

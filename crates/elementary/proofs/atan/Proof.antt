@@ -2,7 +2,7 @@
 use borrow.Author.Needs.{needs}
 use lib.Ieee.{isNan}
 use Rattle.elementary.specs.Atan.{atan}
-use Rattle.elementary.proofs.Tests.{is-nan, not-nan}
+use Rattle.ieee.proofs.Signs.{is-nan, not-nan}
 use Rattle.elementary.proofs.atan.Statement.{statement}
 use Rattle.elementary.proofs.atan.Tie as tie
 

@@ -3,7 +3,7 @@ use mathlib.Core.Path.{sym, _∙_}
 use borrow.Author.Needs.{needs}
 use lib.Ieee.{isNan}
 use Rattle.elementary.specs.Atan.{atan2}
-use Rattle.elementary.proofs.Tests.{is-nan, not-nan}
+use Rattle.ieee.proofs.Signs.{is-nan, not-nan}
 use Rattle.elementary.proofs.atan2.Statement.{statement}
 use Rattle.elementary.proofs.atan2.Tie as tie
 

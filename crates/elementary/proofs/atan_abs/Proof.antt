@@ -4,41 +4,28 @@ use Rattle.elementary.specs.Atan.{atan-abs}
 use Rattle.elementary.proofs.atan_abs.Statement.{statement}
 use Rattle.elementary.proofs.atan_abs.Tie as tie
 
-half-angle-requires : tie.Need-half-angle-requires
-half-angle-requires c κs = search needs
+at-most-one-requires : tie.Need-at-most-one-requires
+at-most-one-requires c κs = search needs
 
-half-angle-requires-2 : tie.Need-half-angle-requires-2
-half-angle-requires-2 c κs = search needs
+quarter-angle-requires : tie.Need-quarter-angle-requires
+quarter-angle-requires c κs = search needs
 
 atan-poly-requires : tie.Need-atan-poly-requires
 atan-poly-requires c κs = search needs
 
-half-angle-requires-3 : tie.Need-half-angle-requires-3
-half-angle-requires-3 c κs = search needs
-
-half-angle-requires-4 : tie.Need-half-angle-requires-4
-half-angle-requires-4 c κs = search needs
-
-atan-poly-requires-2 : tie.Need-atan-poly-requires-2
-atan-poly-requires-2 c κs = search needs
-
 returns : tie.Need-returns
 unfolding atan-abs
-returns c = simp (c .before .before .before .if1 .taken, c .atan-poly .ensures, c .before .half-angle2 .ensures, c .before .before .half-angle .ensures)
+returns c =
+    let q = c .before in
+    simp (q .atan-poly .ensures, q .before .quarter-angle .ensures, q .before .before .at-most-one .ensures, c .if1 .taken)
 
 returns-2 : tie.Need-returns-2
 unfolding atan-abs
-returns-2 c = simp (c .before .before .before .if1 .left, c .atan-poly2 .ensures, c .before .half-angle4 .ensures, c .before .before .half-angle3 .ensures)
+returns-2 c =
+    let q = c .before in
+    simp (q .atan-poly .ensures, q .before .quarter-angle .ensures, q .before .before .at-most-one .ensures, c .if1 .left)
 
 pub atan-abs-spec : {M : Type 1} → statement M
 atan-abs-spec =
     tie.close
-    (tie.spec
-    half-angle-requires
-    half-angle-requires-2
-    atan-poly-requires
-    half-angle-requires-3
-    half-angle-requires-4
-    atan-poly-requires-2
-    returns
-    returns-2)
+    (tie.spec at-most-one-requires quarter-angle-requires atan-poly-requires returns returns-2)

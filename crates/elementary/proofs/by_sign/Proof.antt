@@ -3,7 +3,8 @@ use mathlib.Core.Path.{sym, subst}
 use mathlib.Core.Bool.{Bool, not}
 use lib.Dec.{T}
 use lib.Ieee.{binary64, fits}
-use Rattle.elementary.proofs.Tests.{is-nan, not-nan, sign-set, sign-clear}
+use Rattle.ieee.proofs.Signs.{is-nan, not-nan}
+use Rattle.elementary.proofs.Tests.{sign-set, sign-clear}
 use Rattle.elementary.proofs.by_sign.Statement.{statement}
 use Rattle.elementary.proofs.by_sign.Tie as tie
 

@@ -3,7 +3,7 @@ use borrow.Author.Needs.{needs}
 use lib.Ieee.{isNan}
 use Rattle.elementary.specs.Exp.{exp-at, exp}
 use Rattle.elementary.proofs.Constants.{infinity-is, exp-least-is}
-use Rattle.elementary.proofs.Tests.{is-nan, not-nan}
+use Rattle.ieee.proofs.Signs.{is-nan, not-nan}
 use Rattle.elementary.proofs.exp.Statement.{statement}
 use Rattle.elementary.proofs.exp.Tie as tie
 

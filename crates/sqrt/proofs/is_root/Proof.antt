@@ -21,10 +21,10 @@ twice b = mul-le-mul (below b) (two b)
     two b = omega arith
 
 float-from-bits-n : tie.Need-float-from-bits-n
-float-from-bits-n c = below-no-nan (c .before .args .root) (omega arith)
+float-from-bits-n c = below-no-nan (c .args .root) (omega arith)
 
-float-to-bits-if2 : tie.Need-float-to-bits-if2
-float-to-bits-if2 c = product-no-nan (c .before .args .root) (omega arith) (omega arith)
+float-to-bits-if1 : tie.Need-float-to-bits-if1
+float-to-bits-if1 c = product-no-nan (c .args .root) (omega arith) (omega arith)
 
 add-d : tie.Need-add-d
 add-d c = search needs
@@ -33,7 +33,7 @@ sub-d : tie.Need-sub-d
 sub-d c = search needs
 
 mul-d : tie.Need-mul-d
-mul-d c = omega (arith, twice (c .before .before .args .bits))
+mul-d c = omega (arith, twice (c .before .args .bits))
 
 add-q : tie.Need-add-q
 add-q c = search needs
@@ -55,23 +55,19 @@ mul-result c = search needs
 
 returns : tie.Need-returns
 returns c t =
-    let s = c .before .before .before .before .before in
-    let lp = c .before .before .low-product in
-    tested (s .args .bits) (s .args .root) (c .before .wrapping-sub-u64 .result) (c .wrapping-sub-u642 .result) (s .pre .0) (s .pre .1) (c .before .before .before .before .if1 .taken) (c .before .before .before .if2 .taken)
-    (subst (λ (z : ℕ). (c .before .wrapping-sub-u64 .result + z) % 2 ^ 64 ≡ radicand (s .args .bits) % 2 ^ 64) (lp .ensures) (c .before .wrapping-sub-u64 .ensures)) (c .wrapping-sub-u642 .ensures) (ltb→lt _ _ t)
+    let s = c .before .before .before .before in
+    tested (s .args .bits) (s .args .root) (c .before .wrapping-sub-u64 .result) (c .wrapping-sub-u642 .result) (s .pre .0) (s .pre .1) (s .pre .2) (c .before .before .before .if1 .taken)
+    (subst (λ (z : ℕ). (c .before .wrapping-sub-u64 .result + z) % 2 ^ 64 ≡ radicand (s .args .bits) % 2 ^ 64) (c .before .before .low-product .ensures) (c .before .wrapping-sub-u64 .ensures)) (c .wrapping-sub-u642 .ensures) (ltb→lt _ _ t)
 
 returns-2 : tie.Need-returns-2
 returns-2 c = search needs
-
-returns-3 : tie.Need-returns-3
-returns-3 c = search needs
 
 pub is-root-spec : {M : Type 1} → statement M
 is-root-spec =
     tie.close
     (tie.spec
     float-from-bits-n
-    float-to-bits-if2
+    float-to-bits-if1
     add-d
     sub-d
     mul-d
@@ -82,5 +78,4 @@ is-root-spec =
     wrapping-sub-u64-requires-2
     mul-result
     returns
-    returns-2
-    returns-3)
+    returns-2)

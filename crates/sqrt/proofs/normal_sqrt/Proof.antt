@@ -50,14 +50,14 @@ twice b = mul-le-mul (below b) (two b)
     two b = omega arith
 
 -- in the branch where the guess passed the test
-abbrev bits : tie.Then2 → ℕ
-bits c = c .before .before .before .before .before .args .bits
+abbrev bits : tie.Then3 → ℕ
+bits c = c .before .before .before .before .before .before .args .bits
 
-abbrev root : tie.Then2 → ℕ
-root c = toBits binary64 (c .before .before .before .second-guess .result)
+abbrev root : tie.Then3 → ℕ
+root c = toBits binary64 (c .before .before .before .before .second-guess .result)
 
-nearest : (c : tie.Then2) → Nearest (part (bits c)) (root c)
-nearest c = c .before .is-root .ensures (of-true (c .before .is-root .result) (c .if2 .taken))
+nearest : (c : tie.Then3) → Nearest (part (bits c)) (root c)
+nearest c = c .before .is-root .ensures (of-true (c .before .is-root .result) (c .if3 .taken))
 
 -- a pattern that is the root's is no NaN's
 no-nan : (b r : ℕ) → 2 ^ 52 ≤ b → b < 0x7ff0_0000_0000_0000 → r ≡ rootBits b → T (not (nanBits binary64 r))
@@ -84,10 +84,10 @@ is-root-requires c κs = search needs
 float-from-bits-result : tie.Need-float-from-bits-result
 float-from-bits-result c =
     let s = c .before in
-    no-nan (bits s) (root s) (s .before .before .before .before .before .pre .0) (s .before .before .before .before .before .pre .1) (found-there (bits s) (root s) (c .if3 .taken) (nearest s))
+    no-nan (bits s) (root s) (s .before .before .before .before .before .before .pre .0) (s .before .before .before .before .before .before .pre .1) (found-there (bits s) (root s) (c .if4 .taken) (nearest s))
 
 returns : tie.Need-returns
-returns c = ap (ofBits binary64) (found-there (bits (c .before)) (root (c .before)) (c .if3 .taken) (nearest (c .before)))
+returns c = ap (ofBits binary64) (found-there (bits (c .before)) (root (c .before)) (c .if4 .taken) (nearest (c .before)))
 
 mul-result : tie.Need-mul-result
 mul-result c = search needs
@@ -101,7 +101,7 @@ sub-result c = omega (arith, nearest (c .before) .field)
 float-from-bits-result-2 : tie.Need-float-from-bits-result-2
 float-from-bits-result-2 c =
     let s = c .before in
-    no-nan (bits s) (root s + bits s / 2 ^ 52 / 2 * 2 ^ 52 - 0x1ff0_0000_0000_0000) (s .before .before .before .before .before .pre .0) (s .before .before .before .before .before .pre .1) (found (bits s) (root s) (nearest s))
+    no-nan (bits s) (root s + bits s / 2 ^ 52 / 2 * 2 ^ 52 - 0x1ff0_0000_0000_0000) (s .before .before .before .before .before .before .pre .0) (s .before .before .before .before .before .before .pre .1) (found (bits s) (root s) (nearest s))
 
 returns-2 : tie.Need-returns-2
 returns-2 c = ap (ofBits binary64) (found (bits (c .before)) (root (c .before)) (nearest (c .before)))
