@@ -1,4 +1,5 @@
 -- Facts on places and words, and the claim on the grammar.
 pub mod Places
 pub mod Scan
+pub mod Blocks
 pub mod Claim

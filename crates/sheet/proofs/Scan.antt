@@ -8,11 +8,11 @@ use native.Mathlib.Numerals.{add-one}
 use native.Mathlib.Omega.{arith}
 use lib.Dec.{T, eqb, leb, ltb, leb→le, ltb→lt}
 use lib.ListN.{length}
-use borrow.Author.Tests.{ltb-true, leb-true, le-ltb}
+use borrow.Author.Tests.{ltb-true, leb-true, le-ltb, eqb-true}
 use lib.Ieee.Bits.{is-true}
 use Rattle.ieee.proofs.Signs.{of-true, and-true}
 use Rattle.sheet.specs.Sheet.{Layer}
-use Rattle.sheet.specs.Words.{word, count, payload}
+use Rattle.sheet.specs.Words.{word, count, kind, payload}
 use Rattle.sheet.specs.Read.{Result, read, fault, Follows, surface, layer, end, wrong, room-after, is-surface, is-layer, is-end, follows, found, Rest, layer-at, with-layer, surface-at, with-surface, rest, with-beam, decode}
 use Rattle.sheet.specs.Scan.{counted}
 
@@ -20,7 +20,7 @@ use Rattle.sheet.specs.Scan.{counted}
 abbrev choice : Bool → Bool → Bool → Bool → ℕ → ℕ → Follows
 choice a b c d p q = cond a surface (cond b layer (cond c (cond d end (wrong p)) (wrong q)))
 
-never : {A : Type 0} → _≡_ {A = ℕ} 0 1 → A
+pub never : {A : Type 0} → _≡_ {A = ℕ} 0 1 → A
 never e = absurd (no e)
   where
     no : _≡_ {A = ℕ} 0 1 → ⊥
@@ -40,7 +40,13 @@ chose-layer false false true true p q e = never (cc)
 chose-layer false false true false p q e = never (cc)
 chose-layer false false false d p q e = never (cc)
 
-and-second : (a b : Bool) → (a && b) ≡ true → b ≡ true
+chose-end : (a b c d : Bool) (p q : ℕ) → choice a b c d p q ≡ end → c ≡ true
+chose-end true b c d p q e = never (cc)
+chose-end false true c d p q e = never (cc)
+chose-end false false true d p q e = refl
+chose-end false false false d p q e = never (cc)
+
+pub and-second : (a b : Bool) → (a && b) ≡ true → b ≡ true
 and-second true b e = e
 and-second false b e = absurd (true≢false (sym e))
 
@@ -63,6 +69,9 @@ module _ (src : List ℕ) (at done room : ℕ) where
   not-layer : wrong at ≡ layer → ⊥
   not-layer e = never (cc)
 
+  not-end : wrong at ≡ end → ⊥
+  not-end e = never (cc)
+
   surface-test : found src at done room ≡ surface → is-surface (count src) at (word src at) done ≡ true
   unfolding follows
   surface-test e =
@@ -72,6 +81,21 @@ module _ (src : List ℕ) (at done room : ℕ) where
   unfolding follows
   layer-test e =
       chose-layer (is-surface (count src) at (word src at) done) (is-layer (count src) at (word src at) room) (is-end (word src at) done) (eqb (at + 1) (count src)) (at + 1) at (is-what layer not-layer e)
+
+  end-test : found src at done room ≡ end → is-end (word src at) done ≡ true
+  unfolding follows
+  end-test e =
+      chose-end (is-surface (count src) at (word src at) done) (is-layer (count src) at (word src at) room) (is-end (word src at) done) (eqb (at + 1) (count src)) (at + 1) at (is-what end not-end e)
+
+  -- the kinds
+  pub surface-kind : found src at done room ≡ surface → kind (word src at) ≡ 3
+  surface-kind e = eqb-true (kind (word src at)) 3 (is-true _ (and-true (eqb (kind (word src at)) 3) _ (surface-test e)))
+
+  pub layer-kind : found src at done room ≡ layer → kind (word src at) ≡ 4
+  layer-kind e = eqb-true (kind (word src at)) 4 (is-true _ (and-true (eqb (kind (word src at)) 4) _ (layer-test e)))
+
+  pub end-kind : found src at done room ≡ end → kind (word src at) ≡ 5
+  end-kind e = eqb-true (kind (word src at)) 5 (is-true _ (and-true (eqb (kind (word src at)) 5) _ (end-test e)))
 
   -- a SURFACE: it is not the 65th, and its raw words are there
   pub surface-room : found src at done room ≡ surface → (done < 64) × (at + 7 ≤ count src)
@@ -145,7 +169,7 @@ module _ (src : List ℕ) where
           bad at h = omega arith
       go (suc n) h = (n, refl)
 
-  left-surface : (at done room : ℕ) → found src at done room ≡ surface
+  pub left-surface : (at done room : ℕ) → found src at done room ≡ surface
       → left at done room ≡ with-surface src at (left (at + 7) (suc done) (room-after (payload (word src at))))
   unfolding left rest
   left-surface at done room e =
@@ -160,7 +184,7 @@ module _ (src : List ℕ) where
       over : (n : ℕ) → count src ≡ suc n → count src < at + 7 + suc n
       over n e = omega arith
 
-  left-layer : (at done room : ℕ) → found src at done room ≡ layer → left at done room ≡ with-layer (layer-at src at) (left (at + 7) done (room - 1))
+  pub left-layer : (at done room : ℕ) → found src at done room ≡ layer → left at done room ≡ with-layer (layer-at src at) (left (at + 7) done (room - 1))
   unfolding left rest
   left-layer at done room e =
       let h = layer-room src at done room e .1 in
@@ -173,11 +197,11 @@ module _ (src : List ℕ) where
       over : (n : ℕ) → count src ≡ suc n → count src < at + 7 + suc n
       over n e = omega arith
 
-  left-end : (at done room : ℕ) → found src at done room ≡ end → left at done room ≡ read (record { layers = []; surfaces = [] })
+  pub left-end : (at done room : ℕ) → found src at done room ≡ end → left at done room ≡ read (record { layers = []; surfaces = [] })
   unfolding left rest
   left-end at done room e = ap (λ (f : Follows). rest src (suc (count src)) f at done room) e
 
-  left-wrong : (at done room place : ℕ) → found src at done room ≡ wrong place → left at done room ≡ fault place
+  pub left-wrong : (at done room place : ℕ) → found src at done room ≡ wrong place → left at done room ≡ fault place
   unfolding left rest
   left-wrong at done room place e = ap (λ (f : Follows). rest src (suc (count src)) f at done room) e
 

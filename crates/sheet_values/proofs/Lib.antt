@@ -1,0 +1,2 @@
+-- Facts on places past the last word.
+pub mod Past
