@@ -1,0 +1,4 @@
+-- Facts on the limits of a sheet, and the gate's claim.
+pub mod Blocks
+pub mod Judged
+pub mod Claim
