@@ -6,3 +6,4 @@ pub mod Coated
 pub mod Finite
 pub mod Returned
 pub mod Presets
+pub mod Alone

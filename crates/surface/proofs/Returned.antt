@@ -1,22 +1,22 @@
--- The struct that bare_answers returns: what it holds by whether surface_fresnel_jones refuses, and that its outcome is the one that the definition gives. Assumes nothing.
+-- The reply that bare_answers gives: what it holds by whether surface_fresnel_jones refuses, and that its outcome is the one that the definition gives. Assumes nothing.
 use mathlib.Core.Path.{_≡_, refl, ap}
 use Prim.Native.Nat.{ℕ}
 use native.Mathlib.Omega.{arith}
 use mathlib.Core.Bool.{Bool, true, false, cond}
 use Rattle.elementary.specs.Trig.{sin, cos}
-use Rattle.refusal.specs.Outcome.{answer, map, invalid-parameter}
+use Rattle.refusal.specs.Outcome.{answer, refusal, map, invalid-parameter}
 use Rattle.polarization.specs.declared.SurfaceJones.{SurfaceJones}
 use Rattle.polarization.specs.declared.FresnelJones.{FresnelJones}
 use Rattle.polarization.specs.Surface as Jones
 use Rattle.polarization.specs.Surface.{invalid, bare, surface-fresnel-jones}
 use Rattle.surface.specs.declared.Surface.{Surface}
 use Rattle.surface.specs.declared.Answers.{Answers}
-use Rattle.surface.specs.declared.BareAnswers.{BareAnswers}
-use Rattle.surface.specs.Answers.{assembled, bare-powers, no-response, no-answers, bare-answers, returned, outcome}
+use Rattle.surface.specs.declared.Reply.{Reply}
+use Rattle.surface.specs.Answers.{assembled, bare-powers, no-response, bare-answers, returned, outcome}
 
 -- by the test of surface_fresnel_jones
 module _ (f : SurfaceJones → Answers) (m : SurfaceJones) where
-  stood : (b : Bool) (j : FresnelJones) → j ≡ Jones.returned (cond b invalid-parameter (answer m)) → j .refusal ≡ 0 → _≡_ {A = BareAnswers} (record { refusal = 0; answers = f (j .matrices) }) (returned (map f (cond b invalid-parameter (answer m))))
+  stood : (b : Bool) (j : FresnelJones) → j ≡ Jones.returned (cond b invalid-parameter (answer m)) → j .refusal ≡ 0 → _≡_ {A = Reply} (record { refusal = 0; answers = f (j .matrices) }) (returned (map f (cond b invalid-parameter (answer m))))
   unfolding Jones.returned returned
   stood true j e z = let n : _≡_ {A = ℕ} 0 1 = cc in absurd (clash n)
     where
@@ -24,9 +24,9 @@ module _ (f : SurfaceJones → Answers) (m : SurfaceJones) where
       clash n = omega arith
   stood false j e z = ap (λ (k : FresnelJones). record { refusal = 0; answers = f (k .matrices) }) e
 
-  fell : (b : Bool) (j : FresnelJones) → j ≡ Jones.returned (cond b invalid-parameter (answer m)) → (j .refusal ≡ 0 → ⊥) → _≡_ {A = BareAnswers} (record { refusal = j .refusal; answers = no-answers }) (returned (map f (cond b invalid-parameter (answer m))))
+  fell : (b : Bool) (j : FresnelJones) → j ≡ Jones.returned (cond b invalid-parameter (answer m)) → (j .refusal ≡ 0 → ⊥) → returned (refusal (j .refusal) 0) ≡ returned (map f (cond b invalid-parameter (answer m)))
   unfolding Jones.returned returned
-  fell true j e z = ap (λ (k : FresnelJones). record { refusal = k .refusal; answers = no-answers }) e
+  fell true j e z = ap (λ (k : FresnelJones). returned (refusal (k .refusal) 0)) e
   fell false j e z = absurd (z (ap (λ (k : FresnelJones). k .refusal) e))
 
   kept : (b : Bool) → outcome (returned (map f (cond b invalid-parameter (answer m)))) ≡ map f (cond b invalid-parameter (answer m))
@@ -44,11 +44,11 @@ module _ (s : Surface) where
   b : Bool
   b = invalid (s .«n_incident») (s .«n_substrate») (s .«angle_rad»)
 
-  pub answered : (j : FresnelJones) → j ≡ Jones.returned (surface-fresnel-jones (s .«n_incident») (s .«n_substrate») (s .«angle_rad»)) → j .refusal ≡ 0 → _≡_ {A = BareAnswers} (record { refusal = 0; answers = assembled false (bare-powers s) no-response (j .matrices) }) (returned (bare-answers s))
+  pub answered : (j : FresnelJones) → j ≡ Jones.returned (surface-fresnel-jones (s .«n_incident») (s .«n_substrate») (s .«angle_rad»)) → j .refusal ≡ 0 → _≡_ {A = Reply} (record { refusal = 0; answers = assembled false (bare-powers s) no-response (j .matrices) }) (returned (bare-answers s))
   unfolding surface-fresnel-jones bare-answers f m b
   answered = stood f m b
 
-  pub refused : (j : FresnelJones) → j ≡ Jones.returned (surface-fresnel-jones (s .«n_incident») (s .«n_substrate») (s .«angle_rad»)) → (j .refusal ≡ 0 → ⊥) → _≡_ {A = BareAnswers} (record { refusal = j .refusal; answers = no-answers }) (returned (bare-answers s))
+  pub refused : (j : FresnelJones) → j ≡ Jones.returned (surface-fresnel-jones (s .«n_incident») (s .«n_substrate») (s .«angle_rad»)) → (j .refusal ≡ 0 → ⊥) → returned (refusal (j .refusal) 0) ≡ returned (bare-answers s)
   unfolding surface-fresnel-jones bare-answers f m b
   refused = fell f m b
 

@@ -21,7 +21,7 @@ use Rattle.surface.specs.declared.Interface.{Interface}
 use Rattle.surface.specs.declared.Interface.the-variants.{Bare, Coated}
 use Rattle.surface.specs.declared.Powers.{Powers}
 use Rattle.surface.specs.declared.Answers.{Answers}
-use Rattle.surface.specs.declared.BareAnswers.{BareAnswers}
+use Rattle.surface.specs.declared.Reply.{Reply}
 use Rattle.surface.specs.Coating.{interface}
 
 -- ---- with the Jones matrices of section 6 and their Mueller matrices
@@ -78,12 +78,12 @@ no-answers =
     let dark = diattenuator zero zero in
     assembled false (record { «reflectance_s» = zero-f; «reflectance_p» = zero-f; «transmittance_s» = zero-f; «transmittance_p» = zero-f }) no-response (record { reflection = dark; transmission = dark })
 
-unfoldable pub returned : Outcome Answers → BareAnswers
+unfoldable pub returned : Outcome Answers → Reply
 returned (answer a) = record { refusal = 0; answers = a }
 returned (refusal number place) = record { refusal = number; answers = no-answers }
 
 -- document 01's number and values for it
-abbrev pub outcome : BareAnswers → Outcome Answers
+abbrev pub outcome : Reply → Outcome Answers
 outcome r = cond (eqb (r .refusal) 0) (answer (r .answers)) (refusal (r .refusal) 0)
 
 -- ---- a surface's answers, for its words, its layers and a wavelength
@@ -93,3 +93,11 @@ answers-of (Coated coating) wavelength s layers = map coated-answers (evaluate-s
 
 abbrev pub answers : Float → Surface → List ThinFilmLayer → Outcome Answers
 answers wavelength s layers = answers-of (interface (s .coating)) wavelength s layers
+
+-- ---- its powers alone; those of section 5 refuse nothing
+unfoldable pub powers-of : Interface → Float → Surface → List ThinFilmLayer → Outcome Powers
+powers-of Bare wavelength s layers = answer (bare-powers s)
+powers-of (Coated coating) wavelength s layers = map coated-powers (evaluate-surface coating layers (s .«n_incident») (s .«n_substrate») (s .«angle_rad») wavelength)
+
+abbrev pub powers : Float → Surface → List ThinFilmLayer → Outcome Powers
+powers wavelength s layers = powers-of (interface (s .coating)) wavelength s layers

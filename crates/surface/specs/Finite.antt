@@ -1,4 +1,4 @@
--- What is claimed of the answers of a surface within the limits, and of powers that are multiplied. Definitions only; proofs/Finite.antt has the proofs.
+-- What is claimed of the answers of a surface within the limits, and of powers that are multiplied. Definitions only; proofs/Finite.antt and proofs/Alone.antt have the proofs.
 use mathlib.Core.Path.{_≡_}
 use Prim.Native.Nat.{ℕ, _≤_, _<_}
 use mathlib.Core.Bool.{_&&_}
@@ -21,7 +21,7 @@ use Rattle.surface.specs.declared.Surface.{Surface}
 use Rattle.surface.specs.declared.Powers.{Powers}
 use Rattle.surface.specs.declared.Answers.{Answers}
 use Rattle.surface.specs.Limits.{wavelength-passes, power-passes, passes}
-use Rattle.surface.specs.Answers.{answers}
+use Rattle.surface.specs.Answers.{answers, powers}
 
 -- ---- every number is finite
 abbrev pub Finite : Float → Type 0
@@ -71,6 +71,10 @@ pub record Answered (wavelength : Float) (s : Surface) (layers : List ThinFilmLa
 -- for every wavelength and surface within the limits, with 0 to 16 layers
 abbrev pub EverySurfaceAnswered : Type 0
 EverySurfaceAnswered = (wavelength : Float) (s : Surface) (layers : List ThinFilmLayer) → T (wavelength-passes wavelength) → T (passes wavelength s layers) → length layers ≤ 16 → Answered wavelength s layers
+
+-- a surface that is answered, within the limits or not, has the same powers alone
+abbrev pub PowersAnswered : Type 0
+PowersAnswered = (wavelength : Float) (s : Surface) (layers : List ThinFilmLayer) (value : Answers) → answers wavelength s layers ≡ answer value → powers wavelength s layers ≡ answer (value .powers)
 
 -- ---- powers that are multiplied: x·y as rounded is at least 0 and at most x, for every f64 x and every y from 0 to 1
 abbrev pub ProductFalls : Type 0

@@ -1,9 +1,10 @@
 // One surface of a train: its coating by code, the limits of document 01's section 3, and its
 // answers.
 ghost use mathlib.Core.Path.{_≡_};
+ghost use Rattle.refusal.specs.Outcome.{refusal};
 ghost use Rattle.surface.specs.Coating.{interface, preset-layers};
 ghost use Rattle.surface.specs.Limits.{within, beam-passes, bend, layer-within, layers-within, layer-passes, angle-passes, surface-passes};
-ghost use Rattle.surface.specs.Answers.{assembled, coated-answers, bare-powers, no-response, bare-answers, no-answers, returned};
+ghost use Rattle.surface.specs.Answers.{assembled, coated-powers, coated-answers, bare-powers, no-response, bare-answers, no-answers, returned};
 use complex::Complex;
 use polarization::JonesMatrix;
 use polarization::MuellerMatrix;
@@ -149,8 +150,8 @@ pub struct Answers {
     pub transmission_mueller: MuellerMatrix,
 }
 
-// The answers of a bare surface, or a refusal's number, which is 0 where there is none.
-pub struct BareAnswers {
+// The answers of a surface, or a refusal's number, which is 0 where there is none.
+pub struct Reply {
     pub refusal: u32,
     pub answers: Answers,
 }
@@ -178,25 +179,32 @@ fn assembled(
     }
 }
 
-// The answers of a coated surface, from its response.
-pub fn coated_answers(response: CoatingResponse) -> Answers
-    ensures { λ r. ⌜ r ≡ coated-answers response ⌝ }
+// The powers of a coated surface, from its response.
+pub fn coated_powers(response: CoatingResponse) -> Powers
+    ensures { λ r. ⌜ r ≡ coated-powers response ⌝ }
 {
-    let powers = Powers {
+    Powers {
         reflectance_s: response.reflectance_s,
         reflectance_p: response.reflectance_p,
         transmittance_s: response.transmittance_s,
         transmittance_p: response.transmittance_p,
-    };
+    }
+}
+
+// The answers of a coated surface, from its response.
+pub fn coated_answers(response: CoatingResponse) -> Answers
+    ensures { λ r. ⌜ r ≡ coated-answers response ⌝ }
+{
     assembled(
         true,
-        powers,
+        coated_powers(response),
         response,
         polarization::surface_coating_jones(response),
     )
 }
 
-fn bare_powers(surface: Surface) -> Powers
+// The powers of a bare surface, whatever its code.
+pub fn bare_powers(surface: Surface) -> Powers
     ensures { λ r. ⌜ r ≡ bare-powers surface ⌝ }
 {
     let r = fresnel::fresnel_dielectric(
@@ -248,8 +256,19 @@ fn no_answers() -> Answers
     assembled(false, powers, no_response(), jones)
 }
 
+// A refusal's number, with no answers.
+pub fn refused(number: u32) -> Reply
+    ensures { λ r. ⌜ r ≡ returned (refusal number 0) ⌝ }
+{
+    let answers = no_answers();
+    Reply {
+        refusal: number,
+        answers,
+    }
+}
+
 // The answers of a bare surface, whatever its code.
-pub fn bare_answers(surface: Surface) -> BareAnswers
+pub fn bare_answers(surface: Surface) -> Reply
     ensures { λ r. ⌜ r ≡ returned (bare-answers surface) ⌝ }
 {
     let jones = polarization::surface_fresnel_jones(
@@ -260,15 +279,11 @@ pub fn bare_answers(surface: Surface) -> BareAnswers
     if jones.refusal == 0 {
         let matrices = jones.matrices;
         let answers = assembled(false, bare_powers(surface), no_response(), matrices);
-        BareAnswers {
+        Reply {
             refusal: 0,
             answers,
         }
     } else {
-        let answers = no_answers();
-        BareAnswers {
-            refusal: jones.refusal,
-            answers,
-        }
+        refused(jones.refusal)
     }
 }

@@ -37,7 +37,7 @@ fn positive(x: f64) -> bool
 }
 
 // The seven tests of evaluate.
-fn valid(n_incident: f64, n_substrate: f64, angle_incident_rad: f64, wavelength_nm: f64) -> bool
+pub fn valid(n_incident: f64, n_substrate: f64, angle_incident_rad: f64, wavelength_nm: f64) -> bool
     ensures { λ r. ⌜ r ≡ valid «n_incident» «n_substrate» «angle_incident_rad» «wavelength_nm» ⌝ }
 {
     if !positive(n_incident) {

@@ -1,4 +1,5 @@
 -- `surface::bare_answers` meets its contract. Assumes nothing.
+use mathlib.Core.Path.{_∙_}
 use Rattle.surface.proofs.Returned.{answered, refused}
 use borrow.Author.Needs.{needs}
 use Rattle.surface.proofs.bare_answers.Statement.{statement}
@@ -16,14 +17,14 @@ no-response-requires c κs = search needs
 assembled-requires : tie.Need-assembled-requires
 assembled-requires c κs = search needs
 
-no-answers-requires : tie.Need-no-answers-requires
-no-answers-requires c κs = search needs
+refused-requires : tie.Need-refused-requires
+refused-requires c κs = search needs
 
 returns : tie.Need-returns
 returns c = simp (c .assembled .ensures, c .before .no-response .ensures, c .before .before .bare-powers .ensures) (answered _ _ (c .before .before .before .before .before .before .surface-fresnel-jones .ensures) (c .before .before .before .before .if1 .taken))
 
 returns-2 : tie.Need-returns-2
-returns-2 c = simp (c .no-answers .ensures) (refused _ _ (c .before .before .before .surface-fresnel-jones .ensures) (c .before .if1 .left))
+returns-2 c = c .refused .ensures ∙ refused _ _ (c .before .before .before .surface-fresnel-jones .ensures) (c .before .if1 .left)
 
 pub bare-answers-spec : {M : Type 1} → statement M
 bare-answers-spec =
@@ -33,6 +34,6 @@ bare-answers-spec =
     bare-powers-requires
     no-response-requires
     assembled-requires
-    no-answers-requires
+    refused-requires
     returns
     returns-2)

@@ -1,0 +1,2 @@
+-- Facts on the LAYERs behind a block.
+pub mod Behind

@@ -1,0 +1,89 @@
+-- `sheet_answers::powers_at` meets its contract. Assumes nothing.
+use mathlib.Core.Path.{_≡_, sym, ap, _∙_}
+use mathlib.Core.List.{List}
+use lib.Ieee.{Float}
+use borrow.Author.Needs.{needs}
+use Rattle.refusal.specs.Outcome.{answer, map}
+use Rattle.transfer_matrix.specs.declared.ThinFilmLayer.{ThinFilmLayer}
+use Rattle.thin_film.specs.declared.SurfaceCoating.{SurfaceCoating}
+use Rattle.thin_film.specs.declared.Evaluation.{Evaluation}
+use Rattle.thin_film.specs.Evaluate.{outcome, evaluate-surface}
+use Rattle.surface.specs.declared.Surface.{Surface}
+use Rattle.surface.specs.declared.Interface.{Interface}
+use Rattle.surface.specs.declared.Interface.the-variants.{Bare, Coated}
+use Rattle.surface.specs.Coating.{interface}
+use Rattle.surface.specs.Answers.{bare-powers, coated-powers, powers-of, powers}
+use Rattle.sheet_answers.proofs.powers_at.Statement.{statement}
+use Rattle.sheet_answers.proofs.powers_at.Tie as tie
+
+-- a surface s that is read where x stands, and the interface that its code gives
+module _ (wavelength : Float) (layers : List ThinFilmLayer) (s x : Surface) (s-is : s ≡ x) (i : Interface) (i-is : i ≡ interface (s .coating)) where
+  told : (k : Interface) → i ≡ k → powers-of k wavelength s layers ≡ powers wavelength x layers
+  told k e = ap (λ (j : Interface). powers-of j wavelength s layers) (sym e ∙ i-is) ∙ ap (λ (z : Surface). powers wavelength z layers) s-is
+
+  bare : i ≡ Bare → answer (bare-powers s) ≡ powers wavelength x layers
+  unfolding powers-of
+  bare e = told Bare e
+
+  coated : (coating : SurfaceCoating) → i ≡ Coated coating → (a k : Evaluation) → outcome a ≡ evaluate-surface coating layers (s .«n_incident») (s .«n_substrate») (s .«angle_rad») wavelength → a ≡ k
+      → map coated-powers (outcome k) ≡ powers wavelength x layers
+  unfolding powers-of
+  coated coating e a k a-is h = ap (map coated-powers) (ap outcome (sym h) ∙ a-is) ∙ told (Coated coating) e
+
+surface-at-requires : tie.Need-surface-at-requires
+surface-at-requires c κs = search needs
+
+interface-of-requires : tie.Need-interface-of-requires
+interface-of-requires c κs = search needs
+
+enum-told : tie.Need-enum-told
+enum-told c = search needs
+
+bare-powers-requires : tie.Need-bare-powers-requires
+bare-powers-requires c κs = search needs
+
+enum-known-coating : tie.Need-enum-known-coating
+enum-known-coating c = search needs
+
+evaluate-at-requires : tie.Need-evaluate-at-requires
+evaluate-at-requires c κs = search needs
+
+enum-known-r : tie.Need-enum-known-r
+enum-known-r c = search needs
+
+coated-powers-requires : tie.Need-coated-powers-requires
+coated-powers-requires c κs = search needs
+
+enum-known-r-2 : tie.Need-enum-known-r-2
+enum-known-r-2 c = search needs
+
+returns : tie.Need-returns
+returns c = ap answer (c .bare-powers .ensures) ∙ bare _ _ _ _ (c .before .before .before .before .surface-at .ensures) _ (c .before .before .before .interface-of .ensures) (c .before .enum-told .given .1)
+
+returns-2 : tie.Need-returns-2
+returns-2 c =
+    ap answer (c .coated-powers .ensures)
+    ∙ coated _ _ _ _ (c .before .before .before .before .before .before .before .before .before .surface-at .ensures) _ (c .before .before .before .before .before .before .before .before .interface-of .ensures)
+    _ (c .before .before .before .before .before .before .coating .given .1) _ _ (c .before .before .before .before .evaluate-at .ensures) (c .before .before .r .given .1)
+
+returns-3 : tie.Need-returns-3
+returns-3 c =
+    coated _ _ _ _ (c .before .before .before .before .before .before .before .before .surface-at .ensures) _ (c .before .before .before .before .before .before .before .interface-of .ensures)
+    _ (c .before .before .before .before .before .coating .given .1) _ _ (c .before .before .before .evaluate-at .ensures) (c .before .r2 .given .1)
+
+pub powers-at-spec : {M : Type 1} → statement M
+powers-at-spec =
+    tie.close
+    (tie.spec
+    surface-at-requires
+    interface-of-requires
+    enum-told
+    bare-powers-requires
+    enum-known-coating
+    evaluate-at-requires
+    enum-known-r
+    coated-powers-requires
+    enum-known-r-2
+    returns
+    returns-2
+    returns-3)

@@ -1,0 +1,72 @@
+-- `sheet_answers::through` meets its contract. The loop's invariant: the layers that are left make of the stack what all make of the first. Assumes nothing.
+use mathlib.Core.Path.{_≡_, refl, sym, ap, _∙_}
+use mathlib.Core.Bool.{Bool}
+use mathlib.Core.List.{List}
+use Prim.Native.Nat.{ℕ, _+_, _-_, _≤_, _<_}
+use native.Mathlib.Omega.{arith}
+use lib.ListN.{length, getD, drop}
+use borrow.Author.Needs.{needs}
+use Rattle.transfer_matrix.specs.declared.ThinFilmLayer.{ThinFilmLayer}
+use Rattle.transfer_matrix.specs.declared.Stack.{Stack}
+use Rattle.transfer_matrix.specs.Stack.{step, steps}
+use Rattle.thin_film.specs.Coating.{ordered, blank}
+use Rattle.thin_film.specs.Walk.{place}
+use Rattle.thin_film.proofs.Order.{done, as-long, within, goes-on}
+use Rattle.sheet_values.specs.Values.{films, layers-at}
+use Rattle.sheet_answers.proofs.Behind.{many, nth}
+use Rattle.sheet_answers.proofs.through.Statement.{statement}
+use Rattle.sheet_answers.proofs.through.Tie as tie
+
+abbrev Inv-loop : tie.InvT-loop
+Inv-loop src at n far stack₀ i₀ stack i = (i ≤ n) × (steps stack (drop i (ordered far (films (layers-at src (at + 7) n)))) ≡ steps stack₀ (ordered far (films (layers-at src (at + 7) n))))
+
+abbrev μ-loop : tie.MeasureT-loop
+μ-loop src at n far stack₀ i₀ stack i = n - i
+
+loop-holds : tie.Need-loop-holds Inv-loop μ-loop
+loop-holds c = (search needs, refl)
+
+place-requires : tie.Need-place-requires Inv-loop μ-loop
+place-requires c κs = search needs
+
+layer-behind-requires : tie.Need-layer-behind-requires Inv-loop μ-loop
+layer-behind-requires c κs = search needs
+
+step-requires : tie.Need-step-requires Inv-loop μ-loop
+step-requires c κs = search needs
+
+add-i : tie.Need-add-i Inv-loop μ-loop
+add-i c = search needs
+
+loop-less : tie.Need-loop-less Inv-loop μ-loop
+loop-less c = search needs
+
+loop-again : tie.Need-loop-again Inv-loop μ-loop
+loop-again c =
+    let src : List ℕ = c .before .before .before .before .before .before .args .src .now in
+    let from : ℕ = c .before .before .before .before .before .before .args .at + 7 in
+    let n : ℕ = c .before .before .before .before .before .before .args .n in
+    let far : Bool = c .before .before .before .before .before .before .args .far in
+    let ls : List ThinFilmLayer = films (layers-at src from n) in
+    let n-is : length ls ≡ n = many src from n in
+    let i : ℕ = c .before .before .before .before .loop .i in
+    let k : Stack = c .before .before .before .before .loop .stack in
+    let h : i < n = c .before .before .before .loop-test .taken in
+    let l : i < length ls = rw n-is h in
+    let j : ℕ = c .before .before .place .result in
+    let j-is : j ≡ place far n i = c .before .before .place .ensures in
+    let layer-is : c .before .layer-behind .result ≡ getD ls (place far (length ls) i) blank =
+    c .before .layer-behind .ensures ∙ sym (nth src from n j blank (rw j-is (within far n i h))) ∙ ap (λ (m : ℕ). getD ls m blank) (j-is ∙ ap (λ (m : ℕ). place far m i) (sym n-is)) in (
+      search needs,
+      ap (λ (a : Stack). steps a (drop (i + 1) (ordered far ls))) (c .step .ensures ∙ ap (step k) layer-is) ∙ goes-on far ls k i blank l ∙ c .before .before .before .before .loop .inv .1,
+    )
+
+returns : tie.Need-returns Inv-loop μ-loop
+returns c =
+    let far : Bool = c .before .before .before .args .far in
+    let ls : List ThinFilmLayer = films (layers-at (c .before .before .before .args .src .now) (c .before .before .before .args .at + 7) (c .before .before .before .args .n)) in
+    let n-is : length ls ≡ c .before .before .before .args .n = many _ _ _ in
+    sym (done (c .before .loop .stack) _ (c .before .loop .i) (omega (arith, as-long far ls))) ∙ c .before .loop .inv .1
+
+pub through-spec : {M : Type 1} → statement M
+through-spec = tie.close (tie.spec Inv-loop μ-loop loop-holds place-requires layer-behind-requires step-requires add-i loop-less loop-again returns)

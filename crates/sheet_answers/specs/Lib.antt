@@ -1,0 +1,2 @@
+-- What the replies of a sheet's surfaces stand for.
+pub mod Outcome

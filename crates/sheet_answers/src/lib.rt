@@ -1,0 +1,170 @@
+// The answers of a surface of a sheet, from the sheet's bytes: document 01, section 7. The surface's
+// SURFACE word is at a place, n LAYERs stand behind it, and neither need be so: past the last word
+// every word is zero.
+ghost use mathlib.Core.Path.{_≡_};
+ghost use mathlib.Core.List.{[]};
+ghost use Prim.Native.Nat.{_+_, _*_, _<_};
+ghost use Rattle.sheet.specs.Read.{layer-at, surface-at};
+ghost use Rattle.sheet_values.specs.Values.{film, films, window, layers-at};
+ghost use Rattle.transfer_matrix.specs.Stack.{steps};
+ghost use Rattle.thin_film.specs.declared.Coating.the-variants as C;
+ghost use Rattle.thin_film.specs.declared.SurfaceCoating.the-variants as S;
+ghost use Rattle.thin_film.specs.Coating.{ordered};
+ghost use Rattle.thin_film.specs.Walk as Walk;
+ghost use Rattle.thin_film.specs.Evaluate.{outcome, evaluate-surface};
+ghost use Rattle.surface.specs.Answers.{answers, powers, returned};
+ghost use Rattle.sheet_answers.specs.Outcome.{outcome-of};
+use refusal::Refusal;
+use surface::Interface;
+use surface::Powers;
+use surface::Reply;
+use surface::Surface;
+use thin_film::Coating;
+use thin_film::Evaluation;
+use thin_film::SurfaceCoating;
+use transfer_matrix::Stack;
+use transfer_matrix::ThinFilmLayer;
+
+// A surface's powers alone, or a refusal.
+pub enum PowersReply {
+    Powers(Powers),
+    Refused(Refusal),
+}
+
+// The j-th LAYER behind the block at a place. Past the last word all are alike.
+fn layer_behind(src: &[u8], at: usize, j: usize) -> ThinFilmLayer
+    ensures { λ r. ⌜ r ≡ film (layer-at (now (src .entry)) (at + 7 + 7 * j)) ⌝ }
+{
+    let total = src.len() / 4;
+    if total <= at {
+        return sheet_values::layer_at(src, total);
+    }
+    if (total - at) / 7 <= j {
+        return sheet_values::layer_at(src, total);
+    }
+    sheet_values::layer_at(src, at + 7 + 7 * j)
+}
+
+// Where the i-th layer that is read stands, of n.
+fn place(far: bool, n: usize, i: usize) -> usize
+    requires { ⌜ i < n ⌝ }
+    ensures { λ r. ⌜ r ≡ Walk.place far n i ⌝ }
+{
+    if far { n - 1 - i } else { i }
+}
+
+// The stack with the n LAYERs behind the block at a place, read from either end.
+fn through(src: &[u8], at: usize, n: usize, far: bool, start: Stack) -> Stack
+    ensures { λ r. ⌜ r ≡ steps start (ordered far (films (layers-at (now (src .entry)) (at + 7) n))) ⌝ }
+{
+    let mut stack = start;
+    let mut i = 0;
+    while i < n {
+        let j = place(far, n, i);
+        stack = transfer_matrix::step(stack, layer_behind(src, at, j));
+        i += 1;
+    }
+    stack
+}
+
+// A surface whose coating is the n LAYERs behind the block at a place. They are read from the far
+// end where light goes from the denser medium to the rarer one.
+fn evaluate_custom(
+    src: &[u8],
+    at: usize,
+    n: usize,
+    surface: Surface,
+    wavelength_nm: f64,
+) -> Evaluation
+    ensures { λ r. ⌜ outcome r ≡ evaluate-surface (S.Custom C.Multilayer) (films (layers-at (now (src .entry)) (at + 7) n)) (surface .«n_incident») (surface .«n_substrate») (surface .«angle_rad») «wavelength_nm» ⌝ }
+{
+    if !thin_film::valid(
+        surface.n_incident,
+        surface.n_substrate,
+        surface.angle_rad,
+        wavelength_nm,
+    ) {
+        return Evaluation::Refused(refusal::INVALID_PARAMETER);
+    }
+    if n > 64 {
+        return Evaluation::Refused(refusal::TOO_MANY_LAYERS);
+    }
+    let start = transfer_matrix::begin(
+        surface.n_incident,
+        surface.n_substrate,
+        surface.angle_rad,
+        wavelength_nm,
+    );
+    let far = surface.n_incident > surface.n_substrate;
+    Evaluation::Response(transfer_matrix::finish(through(src, at, n, far, start)))
+}
+
+// A coated surface with no LAYER behind it.
+fn evaluate_without(coating: SurfaceCoating, surface: Surface, wavelength_nm: f64) -> Evaluation
+    ensures { λ r. ⌜ outcome r ≡ evaluate-surface coating [] (surface .«n_incident») (surface .«n_substrate») (surface .«angle_rad») «wavelength_nm» ⌝ }
+{
+    coating.evaluate_without_layers(
+        surface.n_incident,
+        surface.n_substrate,
+        surface.angle_rad,
+        wavelength_nm,
+    )
+}
+
+// A coated surface. Only Custom(Multilayer) has the LAYERs behind it.
+fn evaluate_at(
+    src: &[u8],
+    at: usize,
+    n: usize,
+    surface: Surface,
+    coating: SurfaceCoating,
+    wavelength_nm: f64,
+) -> Evaluation
+    ensures { λ r. ⌜ outcome r ≡ evaluate-surface coating (films (layers-at (now (src .entry)) (at + 7) n)) (surface .«n_incident») (surface .«n_substrate») (surface .«angle_rad») «wavelength_nm» ⌝ }
+{
+    match coating {
+        SurfaceCoating::Custom(c) => match c {
+            Coating::Multilayer => evaluate_custom(src, at, n, surface, wavelength_nm),
+            _ => evaluate_without(coating, surface, wavelength_nm),
+        },
+        _ => evaluate_without(coating, surface, wavelength_nm),
+    }
+}
+
+// The powers of the surface at a place with the n LAYERs behind it.
+pub fn powers_at(src: &[u8], at: usize, n: usize, wavelength_nm: f64) -> PowersReply
+    ensures { λ r. ⌜ outcome-of r ≡ powers «wavelength_nm» (window (surface-at (now (src .entry)) at [])) (films (layers-at (now (src .entry)) (at + 7) n)) ⌝ }
+{
+    let surface = sheet_values::surface_at(src, at);
+    match surface::interface_of(surface.coating) {
+        Interface::Bare => PowersReply::Powers(surface::bare_powers(surface)),
+        Interface::Coated(coating) => {
+            match evaluate_at(src, at, n, surface, coating, wavelength_nm) {
+                Evaluation::Response(r) => PowersReply::Powers(surface::coated_powers(r)),
+                Evaluation::Refused(r) => PowersReply::Refused(r),
+            }
+        }
+    }
+}
+
+// The answers of the surface at a place with the n LAYERs behind it.
+pub fn answers_at(src: &[u8], at: usize, n: usize, wavelength_nm: f64) -> Reply
+    ensures { λ r. ⌜ r ≡ returned (answers «wavelength_nm» (window (surface-at (now (src .entry)) at [])) (films (layers-at (now (src .entry)) (at + 7) n))) ⌝ }
+{
+    let surface = sheet_values::surface_at(src, at);
+    match surface::interface_of(surface.coating) {
+        Interface::Bare => surface::bare_answers(surface),
+        Interface::Coated(coating) => {
+            match evaluate_at(src, at, n, surface, coating, wavelength_nm) {
+                Evaluation::Response(r) => {
+                    let answers = surface::coated_answers(r);
+                    Reply {
+                        refusal: 0,
+                        answers,
+                    }
+                }
+                Evaluation::Refused(r) => surface::refused(r.number),
+            }
+        }
+    }
+}
