@@ -2,3 +2,4 @@
 pub mod Blocks
 pub mod Judged
 pub mod Claim
+pub mod Admitted

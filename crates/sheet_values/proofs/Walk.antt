@@ -16,7 +16,7 @@ use Rattle.sheet.proofs.Blocks.{Next, next-surface, next-layer, next-end, next,
 use Rattle.sheet_values.specs.Values.{layers-at}
 
 -- LAYERs and then SURFACEs
-abbrev blocks : List Layer → List Surface → Rest
+abbrev pub blocks : List Layer → List Surface → Rest
 blocks ls ys = record { layers = ls; surfaces = ys }
 
 -- ---- the LAYERs that stand from a place on, and what is left after them

@@ -1,0 +1,57 @@
+-- `optical_train::chosen_at` meets its contract. Assumes nothing.
+use mathlib.Core.Path.{_≡_, sym, ap, _∙_}
+use Prim.Native.Nat.{ℕ, _+_, _-_, _≤_, _<_}
+use native.Mathlib.Omega.{arith}
+use borrow.Author.Needs.{needs}
+use mathlib.Core.List.{List, []}
+use lib.Ieee.{Float, nan}
+use Rattle.ieee.proofs.Patterns.{nan-is}
+use Rattle.refusal.specs.declared.Refusal.{Refusal}
+use Rattle.surface.specs.declared.Surface.{Surface}
+use Rattle.surface.specs.declared.Powers.{Powers}
+use Rattle.surface.specs.Answers.{powers}
+use Rattle.sheet.specs.Read.{surface-at}
+use Rattle.sheet_values.specs.Values.{films, window, layers-at}
+use Rattle.sheet_answers.specs.declared.PowersReply.{PowersReply}
+use Rattle.sheet_answers.specs.declared.PowersReply.the-variants as R
+use Rattle.sheet_answers.specs.Outcome.{outcome-of}
+use Rattle.optical_train.specs.declared.Chosen.{Chosen}
+use Rattle.optical_train.specs.Train.{chosen, chosen-of, chosen-powers}
+use Rattle.optical_train.proofs.chosen_at.Statement.{statement}
+use Rattle.optical_train.proofs.chosen_at.Tie as tie
+
+module _ (src : List ℕ) (at n : ℕ) (w : Float) (reply : PowersReply) (h : outcome-of reply ≡ powers w (window (surface-at src at [])) (films (layers-at src (at + 7) n))) where
+  abbrev answered : Chosen
+  answered = chosen-powers w (surface-at src at (layers-at src (at + 7) n))
+
+  picked : (s : Surface) (r : Powers) (q : Chosen) → q ≡ chosen (s .reflected) r → s ≡ window (surface-at src at []) → reply ≡ R.Powers r → q ≡ answered
+  unfolding chosen-powers
+  picked s r q e f g = e ∙ ap (λ (z : Surface). chosen (z .reflected) r) f ∙ ap (chosen-of (window (surface-at src at []) .reflected)) (sym (ap outcome-of g) ∙ h)
+
+  unanswered : (r : Refusal) (x : Float) → x ≡ nan → reply ≡ R.Refused r → record { s = x; p = x } ≡ answered
+  unfolding chosen-powers
+  unanswered r x e g = rw e (ap (chosen-of (window (surface-at src at []) .reflected)) (sym (ap outcome-of g) ∙ h))
+
+powers-at-requires : tie.Need-powers-at-requires
+powers-at-requires c κs = search needs
+
+enum-known-r : tie.Need-enum-known-r
+enum-known-r c = search needs
+
+surface-at-requires : tie.Need-surface-at-requires
+surface-at-requires c κs = search needs
+
+choose-requires : tie.Need-choose-requires
+choose-requires c κs = search needs
+
+enum-told : tie.Need-enum-told
+enum-told c = search needs
+
+returns : tie.Need-returns
+returns c = picked _ _ _ _ _ (c .before .before .before .before .before .powers-at .ensures) _ _ _ (c .choose .ensures) (c .before .surface-at .ensures) (c .before .before .before .r .given .1)
+
+returns-2 : tie.Need-returns-2
+returns-2 c = unanswered _ _ _ _ _ (c .before .before .powers-at .ensures) _ _ nan-is (c .enum-told .given .1)
+
+pub chosen-at-spec : {M : Type 1} → statement M
+chosen-at-spec = tie.close (tie.spec powers-at-requires enum-known-r surface-at-requires choose-requires enum-told returns returns-2)

@@ -1,0 +1,26 @@
+-- `optical_train::refused` meets its contract. Assumes nothing.
+use mathlib.Core.Path.{_≡_, sym, ap, _∙_}
+use Prim.Native.Nat.{ℕ, _+_, _-_, _≤_, _<_}
+use native.Mathlib.Omega.{arith}
+use borrow.Author.Needs.{needs}
+use Rattle.refusal.specs.declared.Refusal.{Refusal}
+use Rattle.refusal.specs.Outcome.{refusal, refused}
+use Rattle.surface.specs.declared.Reply.{Reply}
+use Rattle.surface.specs.Answers.{returned}
+use Rattle.optical_train.specs.declared.SurfaceReply.{SurfaceReply}
+use Rattle.optical_train.specs.Train.{given}
+use Rattle.optical_train.proofs.refused.Statement.{statement}
+use Rattle.optical_train.proofs.refused.Tie as tie
+
+made : (r : Refusal) (reply : Reply) → reply ≡ returned (refusal (r .number) 0) → record { refusal = r; answers = reply .answers } ≡ given (refused r)
+unfolding returned given
+made r reply e = ap (λ (q : Reply). record { refusal = r; answers = q .answers }) e
+
+refused-requires : tie.Need-refused-requires
+refused-requires c κs = search needs
+
+returns : tie.Need-returns
+returns c = made _ _ (c .before .refused .ensures)
+
+pub refused-spec : {M : Type 1} → statement M
+refused-spec = tie.close (tie.spec refused-requires returns)

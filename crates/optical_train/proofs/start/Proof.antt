@@ -1,0 +1,52 @@
+-- `optical_train::start` meets its contract. Assumes nothing.
+use mathlib.Core.Path.{_≡_, sym, ap, _∙_}
+use Prim.Native.Nat.{ℕ, _+_, _-_, _≤_, _<_}
+use native.Mathlib.Omega.{arith}
+use borrow.Author.Needs.{needs}
+use mathlib.Core.List.{List}
+use lib.Ieee.{Float}
+use Rattle.refusal.specs.declared.Refusal.{Refusal}
+use Rattle.refusal.specs.Outcome.{answer, refusal, refused, map}
+use Rattle.sheet.specs.Words.{float}
+use Rattle.sheet_values.specs.Values.{value}
+use Rattle.gate.specs.Gate as Gate
+use Rattle.gate.specs.Gate.{gate}
+use Rattle.gate.proofs.Admitted.{admitted, turned-back}
+use Rattle.optical_train.specs.Train.{fresh, start}
+use Rattle.optical_train.proofs.Along.{fresh-is}
+use Rattle.optical_train.proofs.start.Statement.{statement}
+use Rattle.optical_train.proofs.start.Tie as tie
+
+begun : (src : List ℕ) (n : ℕ) (s p : Float) → answer n ≡ gate src → s ≡ value (float src 4) → p ≡ value (float src 6) → answer (record { done = 0; s = s; p = p }) ≡ start src
+unfolding start
+begun src n s p e f g =
+    let a = admitted src n e in
+    ap answer (fresh-is src (a .sheet) s p (a .reads) f g) ∙ sym (ap (map fresh) (a .is))
+
+not-begun : (src : List ℕ) (r : Refusal) → refused r ≡ gate src → refused r ≡ start src
+unfolding start
+not-begun src r e = sym (ap (map fresh) (turned-back src (r .number) (r .place) e))
+
+gate-requires : tie.Need-gate-requires
+gate-requires c κs = search needs
+
+enum-told : tie.Need-enum-told
+enum-told c = search needs
+
+float-from-requires : tie.Need-float-from-requires
+float-from-requires c κs = search needs
+
+float-from-requires-2 : tie.Need-float-from-requires-2
+float-from-requires-2 c κs = search needs
+
+enum-known-r : tie.Need-enum-known-r
+enum-known-r c = search needs
+
+returns : tie.Need-returns
+returns c = begun _ _ _ _ (sym (ap Gate.outcome (c .before .before .enum-told .given .1)) ∙ c .before .before .before .before .gate .ensures) (c .before .float-from .ensures) (c .float-from2 .ensures)
+
+returns-2 : tie.Need-returns-2
+returns-2 c = not-begun _ _ (sym (ap Gate.outcome (c .before .r .given .1)) ∙ c .before .before .before .gate .ensures)
+
+pub start-spec : {M : Type 1} → statement M
+start-spec = tie.close (tie.spec gate-requires enum-told float-from-requires float-from-requires-2 enum-known-r returns returns-2)

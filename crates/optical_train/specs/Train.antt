@@ -1,0 +1,108 @@
+-- 01 section 7: the train. Definitions only.
+use mathlib.Core.Bool.{Bool, cond}
+use mathlib.Core.List.{List, [], _∷_, _++_}
+use Prim.Native.Nat.{ℕ, _+_, _*_}
+use lib.Dec.{eqb, leb, ltb}
+use lib.ListN.{length, getD, drop}
+use lib.Ieee.{Float, nan}
+use Rattle.ieee.specs.Operators.{_⊗_}
+use Rattle.refusal.specs.declared.Refusal.{Refusal}
+use Rattle.refusal.specs.Outcome.{Outcome, answer, refusal, refused, map}
+use Rattle.surface.specs.declared.Powers.{Powers}
+use Rattle.surface.specs.declared.Answers.{Answers}
+use Rattle.surface.specs.Answers.{answers, powers, no-answers}
+use Rattle.sheet.specs.Sheet.{Surface, Sheet}
+use Rattle.sheet_values.specs.Values.{value, films, window}
+use Rattle.gate.specs.Gate.{gated}
+use Rattle.optical_train.specs.declared.Chosen.{Chosen}
+use Rattle.optical_train.specs.declared.State.{State}
+use Rattle.optical_train.specs.declared.Started.{Started}
+use Rattle.optical_train.specs.declared.Started.the-variants as S
+use Rattle.optical_train.specs.declared.Stepped.{Stepped}
+use Rattle.optical_train.specs.declared.SurfaceReply.{SurfaceReply}
+
+-- ---- a surface
+-- the R_s or T_s and the R_p or T_p of its answers, as chosen by the lowest payload bit
+abbrev pub chosen : Bool → Powers → Chosen
+chosen reflected r = record { s = cond reflected (r .«reflectance_s») (r .«transmittance_s»); p = cond reflected (r .«reflectance_p») (r .«transmittance_p») }
+
+-- NaN where a surface has no powers, which no surface within the limits is without (`Claim`)
+abbrev pub chosen-of : Bool → Outcome Powers → Chosen
+chosen-of reflected (answer r) = chosen reflected r
+chosen-of reflected (refusal number place) = record { s = nan; p = nan }
+
+unfoldable pub chosen-powers : Float → Surface → Chosen
+chosen-powers wavelength y = chosen-of (window y .reflected) (powers wavelength (window y) (films (y .layers)))
+
+-- the i-th of some surfaces, counted from 0
+abbrev pub no-surface : Surface
+no-surface = record { payload = 0; n-incident = 0; n-substrate = 0; angle = 0; layers = [] }
+
+abbrev pub nth : List Surface → ℕ → Surface
+nth ys i = getD ys i no-surface
+
+-- ---- Start: 0 and the BEAM's powers
+abbrev pub fresh : Sheet → State
+fresh x = record { done = 0; s = value (x .s); p = value (x .p) }
+
+unfoldable pub start : List ℕ → Outcome State
+start src = map fresh (gated src)
+
+-- document 01's number and values for each case
+abbrev pub outcome : Started → Outcome State
+outcome (S.Fresh st) = answer st
+outcome (S.Refused r) = refused r
+
+-- ---- a step takes the surface after those done: it multiplies s and p by its chosen powers and adds one to the surfaces done
+unfoldable pub past : Float → State → Surface → State
+past wavelength st y = let c = chosen-powers wavelength y in record { done = st .done + 1; s = st .s ⊗ c .s; p = st .p ⊗ c .p }
+
+-- a refusal's number is 0 where there is none; 7 when surfaces done is the sheet's count or more; the state is as before where the step is refused
+abbrev pub stepped : State → Outcome Sheet → Stepped
+stepped st (answer x) =
+    cond (ltb (st .done) (length (x .surfaces)))
+    (record { refusal = record { number = 0; place = 0 }; state = past (value (x .wavelength)) st (nth (x .surfaces) (st .done)) })
+    (record { refusal = record { number = 7; place = 0 }; state = st })
+stepped st (refusal number place) = record { refusal = record { number = number; place = place }; state = st }
+
+-- it gates the sheet anew
+unfoldable pub step : List ℕ → State → Stepped
+step src st = stepped st (gated src)
+
+-- ---- a whole run: s, p after each surface, as one step after another gives them
+unfoldable pub after-each : Float → State → List Surface → List Float
+after-each wavelength st [] = []
+after-each wavelength st (y ∷ ys) = let next = past wavelength st y in next .s ∷ next .p ∷ after-each wavelength next ys
+
+-- the count of surfaces or a refusal, and the lent list
+pub record Ran : Type 0 where
+  pub result : Outcome ℕ
+  pub list : List Float
+
+-- 8 when the list is shorter than 2 × surfaces; the rest of a longer list is untouched
+abbrev pub ran : List Float → Outcome Sheet → Ran
+ran list (answer x) =
+    let n = length (x .surfaces) in
+    cond (leb (2 * n) (length list))
+    (record { result = answer n; list = after-each (value (x .wavelength)) (fresh x) (x .surfaces) ++ drop (2 * n) list })
+    (record { result = refusal 8 0; list = list })
+ran list (refusal number place) = record { result = refusal number place; list = list }
+
+unfoldable pub run : List ℕ → List Float → Ran
+run src list = ran list (gated src)
+
+-- ---- the answers of a sheet's surface, counted from 0; 7 where there is no such surface
+abbrev pub answers-to : ℕ → Outcome Sheet → Outcome Answers
+answers-to i (answer x) =
+    cond (ltb i (length (x .surfaces)))
+    (let y = nth (x .surfaces) i in answers (value (x .wavelength)) (window y) (films (y .layers)))
+    (refusal 7 0)
+answers-to i (refusal number place) = refusal number place
+
+unfoldable pub surface-answers : List ℕ → ℕ → Outcome Answers
+surface-answers src i = answers-to i (gated src)
+
+-- as a struct: a refusal's number, which is 0 where there is none, with its place, beside the answers; zero throughout where refused
+unfoldable pub given : Outcome Answers → SurfaceReply
+given (answer a) = record { refusal = record { number = 0; place = 0 }; answers = a }
+given (refusal number place) = record { refusal = record { number = number; place = place }; answers = no-answers }

@@ -1,0 +1,233 @@
+// The train of document 01, section 7: start, step, whole run, and the answers of a surface. Each is
+// handed the sheet's bytes and gates them anew.
+ghost use mathlib.Core.Path.{_≡_};
+ghost use mathlib.Core.List.{_++_};
+ghost use Prim.Native.Nat.{_+_, _*_, _≤_, _<_};
+ghost use lib.ListN.{length, drop};
+ghost use Rattle.refusal.specs.Outcome.{refused as refused-with};
+ghost use Rattle.sheet.specs.Sheet.{Sheet};
+ghost use Rattle.sheet.specs.Read.{read, decode, surface-at};
+ghost use Rattle.sheet.specs.Scan.{run as layer-count};
+ghost use Rattle.sheet_values.specs.Values.{layers-at};
+ghost use Rattle.gate.specs.Gate as Gate;
+ghost use Rattle.optical_train.specs.Train.{chosen, chosen-powers, nth, fresh, start, outcome, past, step, after-each, run, surface-answers, given};
+use gate::Gated;
+use refusal::Refusal;
+use sheet_answers::PowersReply;
+use surface::Answers;
+use surface::Powers;
+
+// ---- a surface
+
+// The powers of a surface that s and p are multiplied by.
+pub struct Chosen {
+    pub s: f64,
+    pub p: f64,
+}
+
+// Those of the reflected or of the transmitted light.
+fn choose(reflected: bool, r: Powers) -> Chosen
+    ensures { λ c. ⌜ c ≡ chosen reflected r ⌝ }
+{
+    if reflected {
+        Chosen {
+            s: r.reflectance_s,
+            p: r.reflectance_p,
+        }
+    } else {
+        Chosen {
+            s: r.transmittance_s,
+            p: r.transmittance_p,
+        }
+    }
+}
+
+// Of the surface at a place with the n LAYERs behind it. No surface within the limits is refused.
+fn chosen_at(src: &[u8], at: usize, n: usize, wavelength_nm: f64) -> Chosen
+    ensures { λ r. ⌜ r ≡ chosen-powers «wavelength_nm» (surface-at (now (src .entry)) at (layers-at (now (src .entry)) (at + 7) n)) ⌝ }
+{
+    match sheet_answers::powers_at(src, at, n, wavelength_nm) {
+        PowersReply::Powers(r) => choose(sheet_values::surface_at(src, at).reflected, r),
+        PowersReply::Refused(_) => Chosen {
+            s: 0.0 / 0.0,
+            p: 0.0 / 0.0,
+        },
+    }
+}
+
+// The place of the n-th SURFACE of a sheet in grammar, counted from 0.
+fn place_of(src: &[u8], n: u32) -> usize
+    ensures { λ r. ⌜ ((x : Sheet) → decode (now (src .entry)) ≡ read x → n < length (x .surfaces) → surface-at (now (src .entry)) r (layers-at (now (src .entry)) (r + 7) (layer-count 16 (now (src .entry)) r)) ≡ nth (x .surfaces) n) ⌝ }
+{
+    let mut at = 8;
+    let mut i = 0;
+    while i < n {
+        at += 7 + 7 * sheet::layer_run(src, at);
+        i += 1;
+    }
+    at
+}
+
+// ---- the train
+
+// Surfaces done, s and p.
+pub struct State {
+    pub done: u32,
+    pub s: f64,
+    pub p: f64,
+}
+
+// A fresh train, or a refusal.
+pub enum Started {
+    Fresh(State),
+    Refused(Refusal),
+}
+
+// A train before the first surface of its sheet.
+pub fn start(src: &[u8]) -> Started
+    ensures { λ r. ⌜ outcome r ≡ start (now (src .entry)) ⌝ }
+{
+    match gate::gate(src) {
+        Gated::Admitted(_) => Started::Fresh(State {
+            done: 0,
+            s: sheet::float_from(src, 4),
+            p: sheet::float_from(src, 6),
+        }),
+        Gated::Refused(r) => Started::Refused(r),
+    }
+}
+
+// A state, and a refusal, whose number is 0 where there is none.
+pub struct Stepped {
+    pub refusal: Refusal,
+    pub state: State,
+}
+
+// Past the surface whose SURFACE word is at a place.
+fn past(src: &[u8], at: usize, wavelength_nm: f64, state: State) -> State
+    requires { ⌜ state .done < 0xFFFF_FFFF ⌝ }
+    ensures { λ r. ⌜ r ≡ past «wavelength_nm» state (surface-at (now (src .entry)) at (layers-at (now (src .entry)) (at + 7) (layer-count 16 (now (src .entry)) at))) ⌝ }
+{
+    let c = chosen_at(src, at, sheet::layer_run(src, at), wavelength_nm);
+    State {
+        done: state.done + 1,
+        s: state.s * c.s,
+        p: state.p * c.p,
+    }
+}
+
+// One surface on from any state; a refusal returns the state as it was.
+pub fn step(src: &[u8], state: State) -> Stepped
+    ensures { λ r. ⌜ r ≡ step (now (src .entry)) state ⌝ }
+{
+    match gate::gate(src) {
+        Gated::Admitted(count) => {
+            if state.done >= count {
+                return Stepped {
+                    refusal: Refusal {
+                        number: 7,
+                        place: 0,
+                    },
+                    state,
+                };
+            }
+            let at = place_of(src, state.done);
+            let next = past(src, at, sheet::float_from(src, 2), state);
+            Stepped {
+                refusal: Refusal {
+                    number: 0,
+                    place: 0,
+                },
+                state: next,
+            }
+        }
+        Gated::Refused(refusal) => Stepped { refusal, state },
+    }
+}
+
+// ---- a whole run
+
+// The powers after each of count surfaces, written to a list that has room for them.
+fn write_each(src: &[u8], count: usize, wavelength_nm: f64, list: &mut [f64])
+    requires { ⌜ (count ≤ 0xFFFF_FFFF) × (2 * count ≤ length (now list)) ⌝ }
+    ensures { λ r. ⌜ ((x : Sheet) → decode (now (src .entry)) ≡ read x → length (x .surfaces) ≡ count → now (list .exit) ≡ after-each «wavelength_nm» (fresh x) (x .surfaces) ++ drop (2 * count) (now (list .entry))) ⌝ }
+{
+    let mut s = sheet::float_from(src, 4);
+    let mut p = sheet::float_from(src, 6);
+    let mut at = 8;
+    let mut i = 0;
+    while i < count {
+        let n = sheet::layer_run(src, at);
+        let c = chosen_at(src, at, n, wavelength_nm);
+        s = s * c.s;
+        p = p * c.p;
+        list[2 * i] = s;
+        list[2 * i + 1] = p;
+        at += 7 + 7 * n;
+        i += 1;
+    }
+}
+
+// A run over the whole sheet from its start: s, p after each surface go to the lent list.
+pub fn run(src: &[u8], list: &mut [f64]) -> Gated
+    ensures { λ r. ⌜ record { result = Gate.outcome r; list = now (list .exit) } ≡ run (now (src .entry)) (now (list .entry)) ⌝ }
+{
+    match gate::gate(src) {
+        Gated::Admitted(count) => {
+            let n = count as usize;
+            if list.len() < 2 * n {
+                return Gated::Refused(Refusal {
+                    number: 8,
+                    place: 0,
+                });
+            }
+            write_each(src, n, sheet::float_from(src, 2), list);
+            Gated::Admitted(count)
+        }
+        Gated::Refused(r) => Gated::Refused(r),
+    }
+}
+
+// ---- a surface's answers
+
+// The answers of a surface, and a refusal, whose number is 0 where there is none.
+pub struct SurfaceReply {
+    pub refusal: Refusal,
+    pub answers: Answers,
+}
+
+fn refused(refusal: Refusal) -> SurfaceReply
+    ensures { λ r. ⌜ r ≡ given (refused-with refusal) ⌝ }
+{
+    let reply = surface::refused(refusal.number);
+    let answers = reply.answers;
+    SurfaceReply { refusal, answers }
+}
+
+// Of the i-th surface, counted from 0.
+pub fn surface_answers(src: &[u8], i: u32) -> SurfaceReply
+    ensures { λ r. ⌜ r ≡ given (surface-answers (now (src .entry)) i) ⌝ }
+{
+    match gate::gate(src) {
+        Gated::Admitted(count) => {
+            if i >= count {
+                return refused(Refusal {
+                    number: 7,
+                    place: 0,
+                });
+            }
+            let at = place_of(src, i);
+            let n = sheet::layer_run(src, at);
+            let reply = sheet_answers::answers_at(src, at, n, sheet::float_from(src, 2));
+            let answers = reply.answers;
+            SurfaceReply {
+                refusal: Refusal {
+                    number: reply.refusal,
+                    place: 0,
+                },
+                answers,
+            }
+        }
+        Gated::Refused(r) => refused(r),
+    }
+}
