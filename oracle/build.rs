@@ -219,7 +219,7 @@ fn module(file: &str, text: &str, uses: &str) -> String {
     format!("pub mod {file} {{\n{text}\n{uses}}}\n")
 }
 
-/// With the feature `proved`: the static library lib<DIHKELU_NAME>.a in the directory DIHKELU_LIB.
+/// With the feature `proved`: the static libraries lib<NAME>.a in the directory DIHKELU_LIB, for each NAME of the list DIHKELU_NAME.
 fn link_proved() {
     println!("cargo:rerun-if-env-changed=DIHKELU_LIB");
     println!("cargo:rerun-if-env-changed=DIHKELU_NAME");
@@ -229,10 +229,12 @@ fn link_proved() {
     let Ok(directory) = env::var("DIHKELU_LIB") else {
         panic!("the feature `proved` needs DIHKELU_LIB, the directory of the static library");
     };
-    let name = env::var("DIHKELU_NAME").unwrap_or_else(|_| "dihkelu".to_string());
-    let library = Path::new(&directory).join(format!("lib{name}.a"));
-    assert!(library.exists(), "there is no lib{name}.a in DIHKELU_LIB");
-    println!("cargo:rerun-if-changed={}", library.display());
+    let names = env::var("DIHKELU_NAME").unwrap_or_else(|_| "scalar_exports,dihkelu".to_string());
     println!("cargo:rustc-link-search=native={directory}");
-    println!("cargo:rustc-link-lib=static={name}");
+    for name in names.split(',') {
+        let library = Path::new(&directory).join(format!("lib{name}.a"));
+        assert!(library.exists(), "there is no lib{name}.a in DIHKELU_LIB");
+        println!("cargo:rerun-if-changed={}", library.display());
+        println!("cargo:rustc-link-lib=static={name}");
+    }
 }

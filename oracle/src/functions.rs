@@ -13,12 +13,11 @@ pub mod thin_film;
 pub mod train;
 
 /// The groups, in the order of their numbers.
-pub const GROUPS: [&str; 10] = [
+pub const GROUPS: [&str; 9] = [
     "ieee",
     "elementary",
     "complex",
     "thin_film",
-    "evaluate",
     "fresnel",
     "polarization",
     "names",

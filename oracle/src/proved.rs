@@ -1,4 +1,4 @@
-// The proved program as a static library: its externs, and their comparison with section 2 bit for bit.
+// The proved program as static libraries: their externs, and their comparison with the Rust bit for bit.
 
 use crate::bench::{Scalar, Work};
 
@@ -18,6 +18,39 @@ mod linked {
         fn dihkelu_atan(x: f64) -> f64;
         fn dihkelu_asin(x: f64) -> f64;
         fn dihkelu_atan2(y: f64, x: f64) -> f64;
+        fn dihkelu_evaluate(
+            code: u32,
+            design_wavelength_nm: f64,
+            n_incident: f64,
+            n_substrate: f64,
+            angle_incident_rad: f64,
+            wavelength_nm: f64,
+            layers: *const f64,
+            layers_count: usize,
+            list: *mut f64,
+            list_count: usize,
+        ) -> u64;
+    }
+
+    /// `at` is n_incident, n_substrate, angle, wavelength.
+    pub fn evaluate(code: u32, design: f64, at: [f64; 4], flat: &[f64], list: &mut [f64]) -> u64 {
+        let [n_incident, n_substrate, angle, wavelength] = at;
+        let (layers, list_at) = (flat.as_ptr(), list.as_mut_ptr());
+        // Both lists live for the call and do not overlap: one is borrowed mutably.
+        unsafe {
+            dihkelu_evaluate(
+                code,
+                design,
+                n_incident,
+                n_substrate,
+                angle,
+                wavelength,
+                layers,
+                flat.len(),
+                list_at,
+                list.len(),
+            )
+        }
     }
 
     // These take and return plain numbers and touch no memory.
@@ -42,9 +75,68 @@ pub fn scalars() -> Option<Scalars> {
     None
 }
 
-/// The proved workloads, in the order of `bench::WORKS`: none until the library exports whole surfaces and runs.
-pub fn works() -> Option<Vec<Work>> {
+#[cfg(feature = "proved")]
+pub use linked::evaluate;
+
+/// The proved workloads, in the order of `bench::WORKS`; a bare surface and a whole run are not exported yet.
+pub fn works() -> Option<Vec<Option<Work>>> {
+    #[cfg(feature = "proved")]
+    return Some(evaluations());
+    #[cfg(not(feature = "proved"))]
     None
+}
+
+#[cfg(feature = "proved")]
+fn evaluations() -> Vec<Option<Work>> {
+    use crate::bench::{layers, places};
+    let over = |code: u32, count: usize| -> Option<Work> {
+        let flat: Vec<f64> = layers().iter().take(count).flatten().copied().collect();
+        let places = places();
+        Some(Box::new(move || {
+            let mut list = [0.0; 14];
+            let transmitted = |at: &crate::bench::Place| {
+                let at = [at.n_incident, at.n_substrate, at.angle, at.wavelength];
+                evaluate(code, 550.0, at, &flat, &mut list);
+                list[10]
+            };
+            places.iter().map(transmitted).sum()
+        }))
+    };
+    vec![None, over(2, 0), over(4, 0), over(5, 16), over(5, 64), None]
+}
+
+/// Holds `dihkelu_evaluate` against `SurfaceCoating::evaluate` on `count` calls. Returns how many differ.
+#[cfg(feature = "proved")]
+fn compare_evaluate(seed: u64, count: u64) -> u64 {
+    use crate::arguments::random;
+    use crate::record::bits;
+    use crate::values::Rng;
+
+    let table = crate::functions::table();
+    let function = table.iter().find(|f| f.number == 70).expect("evaluate");
+    let mut rng = Rng::new(seed);
+    let mut different = 0;
+    for _ in 0..count {
+        let words = random(function.args, &mut rng);
+        let float = |i: usize| f64::from_bits(words[i]);
+        let flat: Vec<f64> = (7..words.len()).map(float).collect();
+        let at = [float(2), float(3), float(4), float(5)];
+        let mut list = [0.0; 14];
+        let returned = evaluate(words[0] as u32, float(1), at, &flat, &mut list);
+        let mut ours = vec![returned >> 32];
+        match returned >> 32 {
+            0 => ours.extend(list.iter().map(|x| bits(*x))),
+            _ => ours.push(returned & 0xFFFF_FFFF),
+        }
+        let theirs = function.record(words.clone()).results;
+        if ours != theirs || (ours[0] == 0 && returned != 14) {
+            if different == 0 {
+                println!("evaluate: arguments {words:X?}, Rust {theirs:X?}, proved {ours:X?}");
+            }
+            different += 1;
+        }
+    }
+    different
 }
 
 /// Holds the library against section 2 on `count` arguments for each function. Returns whether all agree.
@@ -85,6 +177,12 @@ pub fn compare(seed: u64, count: u64) -> Option<bool> {
             }
         }
         println!("{name}: {} of {count} agree", count - different);
+        all_agree &= different == 0;
+    }
+    #[cfg(feature = "proved")]
+    {
+        let different = compare_evaluate(seed, count);
+        println!("evaluate: {} of {count} agree", count - different);
         all_agree &= different == 0;
     }
     Some(all_agree)

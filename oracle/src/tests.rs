@@ -1,5 +1,7 @@
-// Unit tests: section 2's edges, 01's known answers, sheets and trains, records.
+// Unit tests: section 2's edges, 01's known answers, sheets and trains, records, exports.
 
+#[cfg(feature = "proved")]
+mod exports;
 mod known;
 mod records;
 mod scalar;

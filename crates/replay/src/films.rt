@@ -8,6 +8,7 @@ use super::words::num;
 use super::words::small;
 use thin_film::Built;
 use thin_film::Coating;
+use thin_film::Evaluation;
 use thin_film::Layers;
 use thin_film::SurfaceCoating;
 use thin_film::Text;
@@ -92,6 +93,23 @@ fn layers_at(a: &[u64; 512], at: usize) -> Layers {
     Layers { items, count }
 }
 
+// The first 72 of the layers behind a count word.
+fn items_at(a: &[u64; 512], at: usize) -> [ThinFilmLayer; 72] {
+    let mut items = [ThinFilmLayer {
+        n: 0.0,
+        k: 0.0,
+        thickness_nm: 0.0,
+    }; 72];
+    if at < 200 {
+        let mut i = 0;
+        while i < 72 {
+            items[i] = layer_at(a, at + 1 + 3 * i);
+            i += 1;
+        }
+    }
+    items
+}
+
 // The layers with their count.
 fn layers_out(out: &mut [u64; 256], at: usize, layers: Layers) -> usize {
     let items = layers.items;
@@ -130,6 +148,36 @@ fn outcome_out(out: &mut [u64; 256], b: Built) -> usize {
     } else {
         out[1] = 0;
         2
+    }
+}
+
+fn response_out(out: &mut [u64; 256], r: CoatingResponse) -> usize {
+    let rs = r.rs;
+    let rp = r.rp;
+    let ts = r.ts;
+    let tp = r.tp;
+    out[0] = 0;
+    entry_out(out, 1, rs);
+    entry_out(out, 3, rp);
+    entry_out(out, 5, ts);
+    entry_out(out, 7, tp);
+    out[9] = bits(r.reflectance_s);
+    out[10] = bits(r.reflectance_p);
+    out[11] = bits(r.transmittance_s);
+    out[12] = bits(r.transmittance_p);
+    out[13] = bits(r.phase_rs_rad);
+    out[14] = bits(r.phase_rp_rad);
+    15
+}
+
+fn evaluation_out(out: &mut [u64; 256], e: Evaluation) -> usize {
+    match e {
+        Evaluation::Response(r) => response_out(out, r),
+        Evaluation::Refused(r) => {
+            out[0] = r.number as u64;
+            out[1] = r.place as u64;
+            2
+        }
     }
 }
 
@@ -184,6 +232,48 @@ fn layer_call(f: usize, a: &[u64; 512], out: &mut [u64; 256]) -> usize {
     }
 }
 
+// The evaluations, which read a lent list of layers.
+fn evaluate_call(f: usize, a: &[u64; 512], out: &mut [u64; 256]) -> usize {
+    match f {
+        69 => evaluation_out(
+            out,
+            lent_layers::evaluate_coating(
+                coating(small(a[0])),
+                items_at(a, 5),
+                small(a[5]) as usize,
+                num(a[1]),
+                num(a[2]),
+                num(a[3]),
+                num(a[4]),
+            ),
+        ),
+        70 => evaluation_out(
+            out,
+            lent_layers::evaluate_surface(
+                surface(small(a[0]), num(a[1])),
+                items_at(a, 6),
+                small(a[6]) as usize,
+                num(a[2]),
+                num(a[3]),
+                num(a[4]),
+                num(a[5]),
+            ),
+        ),
+        71 => response_out(
+            out,
+            lent_layers::evaluate_multilayer(
+                items_at(a, 4),
+                small(a[4]) as usize,
+                num(a[0]),
+                num(a[1]),
+                num(a[2]),
+                num(a[3]),
+            ),
+        ),
+        _ => layer_call(f, a, out),
+    }
+}
+
 // How many words the function gave; 0 where it is not one of these.
 pub fn call(f: usize, a: &[u64; 512], out: &mut [u64; 256]) -> usize {
     match f {
@@ -203,6 +293,6 @@ pub fn call(f: usize, a: &[u64; 512], out: &mut [u64; 256]) -> usize {
         ),
         68 => text_out(out, surface(small(a[0]), num(a[1])).label()),
         72 => product(a, out),
-        _ => layer_call(f, a, out),
+        _ => evaluate_call(f, a, out),
     }
 }

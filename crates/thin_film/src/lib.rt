@@ -4,7 +4,7 @@ ghost use mathlib.Core.Path.{_≡_};
 ghost use mathlib.Core.List.{[]};
 ghost use Rattle.transfer_matrix.specs.Solve as Solve;
 ghost use Rattle.thin_film.specs.Coating.{quarter-wave-ar, bragg-mirror, mgf2-default, to-coating, label, text};
-ghost use Rattle.thin_film.specs.Evaluate.{outcome, valid, evaluate-coating, evaluate-surface};
+ghost use Rattle.thin_film.specs.Evaluate.{outcome, positive, valid, evaluate-coating, evaluate-surface};
 use refusal::Refusal;
 use transfer_matrix::CoatingResponse;
 use transfer_matrix::ThinFilmLayer;
@@ -206,17 +206,30 @@ impl SurfaceCoating {
     }
 }
 
+// Finite and above zero.
+fn positive(x: f64) -> bool
+    ensures { λ r. ⌜ r ≡ positive x ⌝ }
+{
+    ieee::is_finite(x) && !(x <= 0.0)
+}
+
+// The seven tests of evaluate: what fails one is InvalidParameter.
+pub fn valid(n_incident: f64, n_substrate: f64, angle_incident_rad: f64, wavelength_nm: f64) -> bool
+    ensures { λ r. ⌜ r ≡ valid «n_incident» «n_substrate» «angle_incident_rad» «wavelength_nm» ⌝ }
+{
+    if !positive(n_incident) {
+        return false;
+    }
+    if !positive(n_substrate) {
+        return false;
+    }
+    ieee::is_finite(angle_incident_rad) && positive(wavelength_nm)
+}
+
 // What evaluating a coating gives.
 pub enum Evaluation {
     Response(CoatingResponse),
     Refused(Refusal),
-}
-
-// The seven tests of evaluate, for a caller whose layers are in no list.
-pub fn valid(n_incident: f64, n_substrate: f64, angle_incident_rad: f64, wavelength_nm: f64) -> bool
-    ensures { λ r. ⌜ r ≡ valid «n_incident» «n_substrate» «angle_incident_rad» «wavelength_nm» ⌝ }
-{
-    reading::valid(n_incident, n_substrate, angle_incident_rad, wavelength_nm)
 }
 
 // The solver on any list of layers, from the incident medium to the substrate.

@@ -7,7 +7,7 @@ ghost use lib.Ieee.{lt};
 ghost use Rattle.transfer_matrix.specs.declared.ThinFilmLayer.{ThinFilmLayer};
 ghost use Rattle.transfer_matrix.specs.Stack.{finish};
 ghost use Rattle.thin_film.specs.Coating.{layers-of, ordered};
-ghost use Rattle.thin_film.specs.Evaluate.{outcome, positive, valid, ideal-ar, ideal-mirror, ideal-beamsplitter, evaluate-coating, evaluate-surface};
+ghost use Rattle.thin_film.specs.Evaluate.{outcome, ideal-ar, ideal-mirror, ideal-beamsplitter, evaluate-coating, evaluate-surface};
 ghost use Rattle.thin_film.specs.declared.Coating.the-variants as C;
 ghost use Rattle.thin_film.specs.Walk as Walk;
 use crate::Coating;
@@ -27,26 +27,6 @@ pub struct Pending {
     far: bool,
     stack: Stack,
     settled: Evaluation,
-}
-
-// Finite and above zero.
-fn positive(x: f64) -> bool
-    ensures { λ r. ⌜ r ≡ positive x ⌝ }
-{
-    ieee::is_finite(x) && !(x <= 0.0)
-}
-
-// The seven tests of evaluate.
-pub fn valid(n_incident: f64, n_substrate: f64, angle_incident_rad: f64, wavelength_nm: f64) -> bool
-    ensures { λ r. ⌜ r ≡ valid «n_incident» «n_substrate» «angle_incident_rad» «wavelength_nm» ⌝ }
-{
-    if !positive(n_incident) {
-        return false;
-    }
-    if !positive(n_substrate) {
-        return false;
-    }
-    ieee::is_finite(angle_incident_rad) && positive(wavelength_nm)
 }
 
 fn ideal_ar() -> CoatingResponse
@@ -144,7 +124,7 @@ pub fn prepare(
 ) -> Pending
     ensures { λ r. ⌜ ((layers : List ThinFilmLayer) → length layers ≡ count → outcome (Walk.conclude (Walk.through r layers)) ≡ evaluate-coating coating (ordered far layers) «n_incident» «n_substrate» «angle_incident_rad» «wavelength_nm») ⌝ }
 {
-    if !valid(n_incident, n_substrate, angle_incident_rad, wavelength_nm) {
+    if !crate::valid(n_incident, n_substrate, angle_incident_rad, wavelength_nm) {
         return settled(Evaluation::Refused(refusal::INVALID_PARAMETER));
     }
     match coating {
@@ -180,7 +160,7 @@ fn evaluate_preset(
 ) -> Evaluation
     ensures { λ r. ⌜ outcome r ≡ evaluate-coating C.Multilayer (ordered (lt «n_substrate» «n_incident») (layers-of coating [])) «n_incident» «n_substrate» «angle_incident_rad» «wavelength_nm» ⌝ }
 {
-    if !valid(n_incident, n_substrate, angle_incident_rad, wavelength_nm) {
+    if !crate::valid(n_incident, n_substrate, angle_incident_rad, wavelength_nm) {
         return Evaluation::Refused(refusal::INVALID_PARAMETER);
     }
     let start = transfer_matrix::begin(n_incident, n_substrate, angle_incident_rad, wavelength_nm);

@@ -97,7 +97,7 @@ pub fn table() -> Vec<Function> {
     type Call = fn(&mut Arguments, &mut Words);
     let film = |number, name, args: &'static [Arg], weight, call: Call| Function {
         number,
-        group: if (69..72).contains(&number) { "evaluate" } else { "thin_film" },
+        group: "thin_film",
         name,
         args,
         weight,

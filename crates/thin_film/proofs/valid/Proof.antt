@@ -1,11 +1,11 @@
--- `thin_film::reading::valid` meets its contract. Assumes nothing.
+-- `thin_film::valid` meets its contract. Assumes nothing.
 use mathlib.Core.Path.{_≡_, sym, _∙_}
 use mathlib.Core.Bool.{Bool, true, false, _&&_}
 use borrow.Author.Tests.{not-true, not-false}
 use Rattle.thin_film.specs.Evaluate.{valid}
 use borrow.Author.Needs.{needs}
-use Rattle.thin_film.proofs.reading.valid.Statement.{statement}
-use Rattle.thin_film.proofs.reading.valid.Tie as tie
+use Rattle.thin_film.proofs.valid.Statement.{statement}
+use Rattle.thin_film.proofs.valid.Tie as tie
 
 -- the first test that fails, or the last test
 module _ (p q f w : Bool) where

@@ -1,9 +1,9 @@
--- `thin_film::reading::positive` meets its contract. Assumes nothing.
+-- `thin_film::positive` meets its contract. Assumes nothing.
 use mathlib.Core.Path.{sym, _∙_}
 use Rattle.thin_film.specs.Evaluate.{positive}
 use borrow.Author.Needs.{needs}
-use Rattle.thin_film.proofs.reading.positive.Statement.{statement}
-use Rattle.thin_film.proofs.reading.positive.Tie as tie
+use Rattle.thin_film.proofs.positive.Statement.{statement}
+use Rattle.thin_film.proofs.positive.Tie as tie
 
 is-finite-requires : tie.Need-is-finite-requires
 is-finite-requires c κs = search needs

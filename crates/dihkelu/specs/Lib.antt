@@ -1,0 +1,3 @@
+-- The C interface.
+pub mod Call
+pub mod Evaluate

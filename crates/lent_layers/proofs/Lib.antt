@@ -1,0 +1,3 @@
+-- laws
+pub mod Lent
+pub mod Places
