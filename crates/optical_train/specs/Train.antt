@@ -26,7 +26,7 @@ use Rattle.optical_train.specs.declared.SurfaceReply.{SurfaceReply}
 abbrev pub chosen : Bool → Powers → Chosen
 chosen reflected r = record { s = cond reflected (r .«reflectance_s») (r .«transmittance_s»); p = cond reflected (r .«reflectance_p») (r .«transmittance_p») }
 
--- NaN where a surface has no powers, which no surface within the limits is without (`Claim`)
+-- NaN where a surface has no powers, which no surface within the limits is without (crate `train_claim`)
 abbrev pub chosen-of : Bool → Outcome Powers → Chosen
 chosen-of reflected (answer r) = chosen reflected r
 chosen-of reflected (refusal number place) = record { s = nan; p = nan }
