@@ -5,6 +5,7 @@
 pub mod arguments;
 pub mod bench;
 pub mod cases;
+pub mod examples;
 pub mod feed;
 pub mod functions;
 pub mod proved;
