@@ -52,7 +52,7 @@ fn filled(count: usize) -> Vec<f64> {
 }
 
 fn packed(refusal: Refusal) -> u64 {
-    refusal.number << 32 | refusal.place as u64
+    refusal.number << 32 | refusal.place
 }
 
 /// Whether a call returned what it should and left the list so: `written` at its front, the rest as it was.
@@ -85,7 +85,7 @@ fn sheet_agrees(bytes: &[u8], rng: &mut Rng) -> (u64, Option<&'static str>) {
     let count = gated.as_ref().map_or(0, |sheet| sheet.surfaces.len());
     let counted = gated.as_ref().map(|sheet| sheet.surfaces.len() as u64);
     let mut calls = 1;
-    if linked_gate(bytes) != counted.map_or_else(|r| packed(r.clone()), |n| n) {
+    if linked_gate(bytes) != counted.map_or_else(|r| packed(*r), |n| n) {
         return (calls, Some("gate"));
     }
     for room in [0, 1, 2, 3] {

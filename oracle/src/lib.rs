@@ -5,6 +5,9 @@
 pub mod arguments;
 pub mod bench;
 pub mod cases;
+#[cfg(feature = "proved")]
+pub mod exports;
+pub mod examples;
 pub mod feed;
 pub mod functions;
 pub mod proved;

@@ -1,6 +1,6 @@
 // The commands of the oracle: see README.md.
 
-use oracle::{bench, feed, functions, proved, sheets, train, values};
+use oracle::{bench, examples, feed, functions, proved, sheets, train, values};
 use std::fs;
 use std::io::{self, BufReader, Read, Write};
 use std::path::Path;
@@ -13,6 +13,7 @@ oracle check < FILE
 oracle table
 oracle train < SHEET
 oracle sheets DIRECTORY [--seed S] [--count N]
+oracle examples DIRECTORY
 oracle bench [--runs N]
 oracle compare [--seed S] [--count N]
 groups: ieee elementary complex thin_film fresnel polarization names sheet train";
@@ -116,6 +117,17 @@ fn execute(command: &str, options: &Options) -> Result<bool, String> {
             };
             sheets_to(Path::new(directory), seed, options.count.unwrap_or(100)).map_err(said)
         }
+        "examples" => {
+            let [directory] = options.rest.as_slice() else {
+                return Err("examples needs a directory".to_string());
+            };
+            let directory = Path::new(directory);
+            fs::create_dir_all(directory).map_err(said)?;
+            for (name, bytes) in examples::examples() {
+                sheet_to(directory, &name, &bytes).map_err(said)?;
+            }
+            Ok(true)
+        }
         "bench" => {
             bench::bench(options.runs.unwrap_or(9) as usize);
             Ok(true)
@@ -138,17 +150,19 @@ fn record(options: &Options, seed: u64) -> io::Result<bool> {
     Ok(true)
 }
 
-/// Random sheets, and beside each what the program `train` prints for it.
+/// A sheet, and beside it what the program `train` prints for it.
+fn sheet_to(directory: &Path, name: &str, bytes: &[u8]) -> io::Result<()> {
+    fs::write(directory.join(format!("{name}.sheet")), bytes)?;
+    fs::write(directory.join(format!("{name}.out")), train::program(bytes))
+}
+
+/// Random sheets.
 fn sheets_to(directory: &Path, seed: u64, count: u64) -> io::Result<bool> {
     fs::create_dir_all(directory)?;
     let mut rng = values::Rng::new(seed);
     for number in 0..count {
         let bytes = sheets::sheet(&mut rng);
-        fs::write(directory.join(format!("{number:05}.sheet")), &bytes)?;
-        fs::write(
-            directory.join(format!("{number:05}.out")),
-            train::program(&bytes),
-        )?;
+        sheet_to(directory, &format!("{number:05}"), &bytes)?;
     }
     Ok(true)
 }

@@ -66,7 +66,7 @@ fn flips() -> Vec<Vec<u8>> {
     (0..whole.len() * 8).map(flip).collect()
 }
 
-fn from_words(words: &[u32]) -> Vec<u8> {
+pub fn from_words(words: &[u32]) -> Vec<u8> {
     words.iter().flat_map(|word| word.to_be_bytes()).collect()
 }
 

@@ -1,0 +1,2 @@
+-- What the program prints of a number.
+pub mod Text

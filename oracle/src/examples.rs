@@ -1,0 +1,186 @@
+// Named example sheets: every coating in both directions, no surfaces and 64, layers, and each refusal at several places.
+
+use crate::sheet_cases::from_words;
+use crate::sheets::{example, largest, varied, Face, Plan};
+
+fn face(payload: u32, numbers: [f64; 3], layers: &[[f64; 3]]) -> Face {
+    Face {
+        payload,
+        numbers,
+        layers: layers.to_vec(),
+    }
+}
+
+fn plan(surfaces: Vec<Face>) -> Plan {
+    Plan {
+        beam: [632.8, 0.75, 0.5],
+        surfaces,
+    }
+}
+
+const COATINGS: [&str; 8] = [
+    "bare",
+    "ideal_ar",
+    "mgf2",
+    "broadband_ar",
+    "mirror",
+    "custom",
+    "ideal_beamsplitter",
+    "ideal_mirror",
+];
+
+const LAYERS: [[f64; 3]; 3] = [[1.38, 0.0, 99.6], [2.3, 0.0, 60.0], [1.46, -0.0, 1234.5]];
+
+/// Each example's name and bytes.
+pub fn examples() -> Vec<(String, Vec<u8>)> {
+    let mut list = vec![("example".to_string(), example().bytes())];
+    list.extend(admitted());
+    list.extend(refused());
+    list
+}
+
+fn admitted() -> Vec<(String, Vec<u8>)> {
+    let mut list = Vec::new();
+    for (code, coating) in COATINGS.iter().enumerate() {
+        for (bit, way) in ["transmitted", "reflected"].iter().enumerate() {
+            let layers = if code == 5 { &LAYERS[..] } else { &[] };
+            let payload = (2 * code + bit) as u32;
+            let sheet = plan(vec![face(payload, [1.0, 1.52, 0.6], layers)]);
+            list.push((format!("{coating}_{way}"), sheet.bytes()));
+        }
+    }
+    let mut add = |name: &str, sheet: Plan| list.push((name.to_string(), sheet.bytes()));
+    add("no_surfaces", plan(Vec::new()));
+    add("three_surfaces", varied());
+    add(
+        "custom_no_layers",
+        plan(vec![face(10, [1.0, 1.52, 0.3], &[])]),
+    );
+    add(
+        "custom_16_layers",
+        plan(vec![face(10, [1.0, 1.52, 0.3], &[LAYERS[0]; 16])]),
+    );
+    add(
+        "custom_from_the_denser_side",
+        plan(vec![face(11, [1.52, 1.0, 0.3], &LAYERS)]),
+    );
+    add(
+        "custom_at_equal_indices",
+        plan(vec![face(10, [1.52, 1.52, 0.3], &LAYERS)]),
+    );
+    let all = (0..16).map(|payload| face(payload, [1.0, 1.52, 0.4], &[]));
+    add("every_payload", plan(all.collect()));
+    add(
+        "64_bare_surfaces",
+        plan(vec![face(0, [1.0, 1.52, 0.2], &[]); 64]),
+    );
+    add("64_surfaces_of_16_layers", largest());
+    let mut dark = plan(vec![face(0, [1.0, 1.52, 0.2], &[])]);
+    dark.beam = [100.0, -0.0, 0.0];
+    add("no_power", dark);
+    add(
+        "many_turns",
+        plan(vec![face(
+            4,
+            [1.0, 1.52, 1e6 * 6.283185307179586 + 0.4],
+            &[],
+        )]),
+    );
+    list
+}
+
+fn refused() -> Vec<(String, Vec<u8>)> {
+    let mut list = Vec::new();
+    let mut add = |name: &str, bytes: Vec<u8>| list.push((format!("refused_{name}"), bytes));
+    let whole = example().bytes();
+    let words = example().write().words;
+    let with = |place: usize, word: u32| {
+        let mut words = words.clone();
+        words[place] = word;
+        from_words(&words)
+    };
+    let longest = largest().bytes();
+    // 4
+    add("4_nothing", Vec::new());
+    add("4_35_bytes", whole[..35].to_vec());
+    add("4_a_byte_short", whole[..63].to_vec());
+    add("4_a_byte_more", [&whole[..], &[0]].concat());
+    add("4_30504_bytes", [&longest[..], &[0; 4]].concat());
+    // 5
+    add("5_edition_2", with(0, 0x1000_0002));
+    add("5_no_beam", with(1, 0x3000_0000));
+    add("5_payload_16", with(8, 0x3000_0010));
+    add("5_layer_on_bare", {
+        let sheet = plan(vec![face(0, [1.0, 1.52, 0.3], &[LAYERS[0]])]);
+        sheet.bytes()
+    });
+    add(
+        "5_17_layers",
+        plan(vec![face(10, [1.0, 1.52, 0.3], &[LAYERS[0]; 17])]).bytes(),
+    );
+    add(
+        "5_65_surfaces",
+        plan(vec![face(0, [1.0, 1.52, 0.3], &[]); 65]).bytes(),
+    );
+    add("5_count_of_surfaces", with(15, 0x5000_0002));
+    add("5_end_missing", whole[..60].to_vec());
+    add("5_words_past_the_end", whole[..56].to_vec());
+    add("5_word_after_end", [&whole[..], &[0x50, 0, 0, 1]].concat());
+    add("5_before_6", {
+        let mut words = words.clone();
+        words[2..4].copy_from_slice(&[0x4058_C000, 0]);
+        words[15] = 0x5000_0000;
+        from_words(&words)
+    });
+    // 6
+    let beam = |beam: [f64; 3]| {
+        let mut sheet = example();
+        sheet.beam = beam;
+        sheet.bytes()
+    };
+    add("6_wavelength_99", beam([99.0, 0.5, 0.5]));
+    add("6_power_over_1", beam([500.0, 0.5, 1.0000000000000002]));
+    add("6_power_nan", beam([500.0, f64::NAN, 0.5]));
+    add(
+        "6_index_under_1",
+        plan(vec![face(0, [0.9, 1.52, 0.0], &[])]).bytes(),
+    );
+    add(
+        "6_angle_infinite",
+        plan(vec![face(0, [1.0, 1.52, f64::INFINITY], &[])]).bytes(),
+    );
+    add(
+        "6_too_steep",
+        plan(vec![face(0, [1.0, 1.52, 1.4], &[])]).bytes(),
+    );
+    add(
+        "6_bends_too_far",
+        plan(vec![face(0, [1.52, 1.0, 0.7], &[])]).bytes(),
+    );
+    add(
+        "6_preset_layer",
+        plan(vec![
+            face(10, [1.0, 1.52, 0.3], &LAYERS),
+            face(4, [2.5, 4.0, 0.7], &[]),
+        ])
+        .bytes(),
+    );
+    add(
+        "6_layer_absorbs",
+        plan(vec![face(
+            10,
+            [1.0, 1.52, 0.3],
+            &[LAYERS[0], [1.38, 1e-300, 10.0]],
+        )])
+        .bytes(),
+    );
+    add(
+        "6_layer_too_thick",
+        plan(vec![
+            face(0, [1.0, 1.52, 0.3], &[]),
+            face(11, [1.0, 1.52, 0.3], &[[1.38, 0.0, 100_001.0]]),
+        ])
+        .bytes(),
+    );
+    list
+}
