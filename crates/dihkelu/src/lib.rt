@@ -8,8 +8,10 @@ ghost use Rattle.gate.specs.Gate.{gated, gate};
 ghost use Rattle.flat_layers.specs.Evaluate.{evaluate};
 ghost use Rattle.call.specs.Call.{done, Apart, reply, written, returned, answered};
 ghost use Rattle.dihkelu.specs.Layout.{evaluated};
-ghost use Rattle.dihkelu.specs.Train.{begun};
+ghost use Rattle.optical_train.specs.Train.{step, run};
+ghost use Rattle.dihkelu.specs.Train.{begun, gone-on, taken, run-whole};
 use gate::Gated;
+use optical_train::State;
 use thin_film::Evaluation;
 use transfer_matrix::CoatingResponse;
 
@@ -117,4 +119,41 @@ pub extern "C" fn dihkelu_start(sheet: &[u8], list: &mut [f64]) -> u64
         ),
         Gated::Refused(r) => call::packed(r),
     }
+}
+
+// One surface on from a state of so many surfaces done, s and p: writes the next s and p and returns
+// the surfaces done; or a refusal: 4, 5, 6, 7, then 8.
+#[no_mangle]
+pub extern "C" fn dihkelu_step(
+    sheet: &[u8],
+    surfaces_done: u32,
+    s: f64,
+    p: f64,
+    list: &mut [f64],
+) -> u64
+    ensures { λ r. ⌜ done r (now (list .exit)) ≡ answered gone-on (taken (step (now (sheet .entry)) (record { done = «surfaces_done»; s = s; p = p }))) (now (list .entry)) ⌝ }
+{
+    let stepped = optical_train::step(
+        sheet,
+        State {
+            done: surfaces_done,
+            s,
+            p,
+        },
+    );
+    let refusal = stepped.refusal;
+    if refusal.number != 0 {
+        return call::packed(refusal);
+    }
+    let state = stepped.state;
+    put_powers(state.done as u64, state.s, state.p, list)
+}
+
+// A whole run: writes s, p after each surface and returns the count of surfaces; or a refusal: 4, 5,
+// 6, then 8 for a list shorter than 2 numbers for each surface.
+#[no_mangle]
+pub extern "C" fn dihkelu_run(sheet: &[u8], list: &mut [f64]) -> u64
+    ensures { λ r. ⌜ done r (now (list .exit)) ≡ run-whole (run (now (sheet .entry)) (now (list .entry))) ⌝ }
+{
+    number_of(optical_train::run(sheet, list))
 }
