@@ -1,4 +1,3 @@
--- laws
-pub mod Triples
-pub mod Listed
-pub mod Outcomes
+-- Facts on the places of refusals, and on what is returned.
+pub mod Places
+pub mod Returned

@@ -1,3 +1,3 @@
--- The C interface.
-pub mod Call
-pub mod Evaluate
+-- The C interface: what each call answers, and the layouts of its numbers.
+pub mod Layout
+pub mod Train

@@ -1,0 +1,2 @@
+-- What an exported call returns and leaves.
+pub mod Call
