@@ -10,12 +10,14 @@ pub mod exports;
 pub mod examples;
 pub mod feed;
 pub mod functions;
+pub mod measure;
 pub mod proved;
 pub mod record;
 pub mod section2;
 pub mod sheet;
 pub mod sheet_cases;
 pub mod sheets;
+pub mod traced;
 pub mod train;
 pub mod values;
 
