@@ -234,7 +234,7 @@ fn numbers(r: &CoatingResponse) -> [f64; 14] {
     list
 }
 
-fn all_finite(found: &Answers) -> bool {
+pub fn all_finite(found: &Answers) -> bool {
     let finite = |z: &Complex| z.re.is_finite() && z.im.is_finite();
     let light = match &found.light {
         Light::Bare(_) => true,

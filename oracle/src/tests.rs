@@ -1,5 +1,6 @@
-// Unit tests: section 2's edges, 01's known answers, sheets and trains, records, exports, measured surfaces.
+// Unit tests: section 2's edges, 01's known answers, sheets and trains, records, exports, measured surfaces, what lies beyond the limits.
 
+mod beyond;
 #[cfg(feature = "proved")]
 mod exports;
 mod known;

@@ -172,11 +172,8 @@ impl Seen {
 
     /// Ends a surface: what it changed is its own.
     pub fn settle(&mut self, describe: impl Fn() -> String) {
-        if !self.changed.is_empty() {
-            let text = describe();
-            for i in self.changed.drain(..) {
-                self.extremes[i].1.clone_from(&text);
-            }
+        for i in std::mem::take(&mut self.changed) {
+            self.extremes[i].1 = describe();
         }
     }
 
