@@ -9,7 +9,12 @@ use crate::values::{any, Rng};
 
 extern "C" {
     fn dihkelu_gate(sheet: *const u8, sheet_count: usize) -> u64;
-    fn dihkelu_start(sheet: *const u8, sheet_count: usize, list: *mut f64, list_count: usize) -> u64;
+    fn dihkelu_start(
+        sheet: *const u8,
+        sheet_count: usize,
+        list: *mut f64,
+        list_count: usize,
+    ) -> u64;
     fn dihkelu_step(
         sheet: *const u8,
         sheet_count: usize,
@@ -109,7 +114,14 @@ fn sheet_agrees(bytes: &[u8], rng: &mut Rng) -> (u64, Option<&'static str>) {
             return (calls, Some("run"));
         }
     }
-    let mut state = gated.as_ref().map_or(State { done: 0, s: 1.0, p: 1.0 }, start);
+    let mut state = gated.as_ref().map_or(
+        State {
+            done: 0,
+            s: 1.0,
+            p: 1.0,
+        },
+        start,
+    );
     for _ in 0..count.min(6) + 2 {
         calls += 1;
         if !step_agrees(bytes, state, 2 + rng.below(2)) {
@@ -117,8 +129,18 @@ fn sheet_agrees(bytes: &[u8], rng: &mut Rng) -> (u64, Option<&'static str>) {
         }
         state = step(bytes, state).unwrap_or(state);
     }
-    for done in [0, 1, rng.below(70) as u64, rng.bits() >> 32, u64::from(u32::MAX)] {
-        let state = State { done, s: any(rng), p: any(rng) };
+    for done in [
+        0,
+        1,
+        rng.below(70) as u64,
+        rng.bits() >> 32,
+        u64::from(u32::MAX),
+    ] {
+        let state = State {
+            done,
+            s: any(rng),
+            p: any(rng),
+        };
         calls += 1;
         if !step_agrees(bytes, state, rng.below(4)) {
             return (calls, Some("step of any state"));

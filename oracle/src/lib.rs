@@ -5,9 +5,9 @@
 pub mod arguments;
 pub mod bench;
 pub mod cases;
+pub mod examples;
 #[cfg(feature = "proved")]
 pub mod exports;
-pub mod examples;
 pub mod feed;
 pub mod functions;
 pub mod measure;
