@@ -53,8 +53,10 @@ pub enum Arg {
     Step,
     /// A list's length, then a sheet.
     Run,
-    /// A surface's number, counted from 0, then a sheet that has it or is refused.
+    /// A surface's number, counted from 0, then a sheet.
     Answers,
+    /// A count of steps, then a sheet.
+    Steps,
 }
 
 /// How an argument is chosen.
@@ -178,6 +180,7 @@ impl Arg {
             Arg::Step => train::push_step(rng, words),
             Arg::Run => train::push_run(rng, words),
             Arg::Answers => train::push_answers(rng, words),
+            Arg::Steps => train::push_steps(rng, words),
             _ => words.push(self.float(rng, style).to_bits()),
         }
     }

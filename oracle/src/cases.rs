@@ -47,6 +47,7 @@ impl Arg {
             Arg::Step => train::step_cases(),
             Arg::Run => train::run_cases(),
             Arg::Answers => train::answers_cases(),
+            Arg::Steps => train::steps_cases(),
             _ => CORE.iter().map(|x| vec![x.to_bits()]).collect(),
         }
     }

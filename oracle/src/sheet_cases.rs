@@ -9,7 +9,8 @@ pub fn cases() -> Vec<Vec<u8>> {
     let mut list = vec![example().bytes(), varied().bytes(), empty().bytes()];
     list.extend(lengths());
     list.extend(truncations());
-    list.extend(flips());
+    list.extend(flips(&example().bytes()));
+    list.extend(flips(&varied().bytes()));
     list.extend(edges());
     list.extend(
         limits()
@@ -55,11 +56,10 @@ fn truncations() -> Vec<Vec<u8>> {
         .collect()
 }
 
-/// The example with each of its bits flipped.
-fn flips() -> Vec<Vec<u8>> {
-    let whole = example().bytes();
+/// A sheet with each of its bits flipped.
+fn flips(whole: &[u8]) -> Vec<Vec<u8>> {
     let flip = |bit: usize| {
-        let mut bytes = whole.clone();
+        let mut bytes = whole.to_vec();
         bytes[bit / 8] ^= 1 << (bit % 8);
         bytes
     };

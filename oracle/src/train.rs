@@ -141,6 +141,19 @@ pub fn step(bytes: &[u8], state: State) -> Result<State, Refusal> {
     Ok(pass(&sheet, surface, state))
 }
 
+/// A list of steps from Start: the last state, and how many were refused.
+pub fn steps(bytes: &[u8], count: u64) -> Result<(State, u64), Refusal> {
+    let mut state = start(&gate(bytes)?);
+    let mut refused = 0;
+    for _ in 0..count {
+        match step(bytes, state) {
+            Ok(next) => state = next,
+            Err(_) => refused += 1,
+        }
+    }
+    Ok((state, refused))
+}
+
 /// A whole run: 4, 5, 6, 8 in that order; the count of surfaces, and s, p after each of them in the list.
 pub fn run(bytes: &[u8], list: &mut [f64]) -> Result<usize, Refusal> {
     let sheet = gate(bytes)?;

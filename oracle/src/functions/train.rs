@@ -1,13 +1,13 @@
 // Groups sheet and train: the gate, Start, a step, a whole run, a surface's answers.
 
-use crate::arguments::Arg::{Answers, Run, Sheet, Start, Step};
+use crate::arguments::Arg::{Answers, Run, Sheet, Start, Step, Steps};
 use crate::functions::names::{cases as byte_cases, push};
 use crate::functions::Function;
 use crate::record::Words;
 use crate::sheet::{gate, Refusal};
 use crate::sheet_cases::cases;
 use crate::sheets::{largest, sheet, valid, varied};
-use crate::train::{answers, run, start, step, Light, State};
+use crate::train::{answers, run, start, step, steps, Light, State};
 use crate::values::{any, Rng};
 
 fn push_state(r: &mut Words, state: State) {
@@ -89,6 +89,7 @@ pub fn table() -> Vec<Function> {
                 let number = a.int() as usize;
                 match gate(&a.bytes()) {
                     Err(refusal) => push_refusal(r, refusal),
+                    Ok(sheet) if number >= sheet.surfaces.len() => r.refusal(7, 0),
                     Ok(sheet) => {
                         let answers = answers(&sheet.surfaces[number], sheet.wavelength);
                         r.int(0);
@@ -108,6 +109,23 @@ pub fn table() -> Vec<Function> {
                             .mueller
                             .iter()
                             .for_each(|mueller| r.mueller(*mueller));
+                    }
+                }
+            },
+        },
+        Function {
+            number: 174,
+            group: "train",
+            name: "steps",
+            args: &[Steps],
+            weight: 1,
+            call: |a, r| {
+                let count = a.int();
+                match steps(&a.bytes(), count) {
+                    Err(refusal) => push_refusal(r, refusal),
+                    Ok((state, refused)) => {
+                        push_state(r, state);
+                        r.int(refused);
                     }
                 }
             },
@@ -165,7 +183,20 @@ fn run_words(rng: &mut Rng, bytes: &[u8], words: &mut Vec<u64>) {
     push(bytes, words);
 }
 
-/// A surface that the sheet has; sheets that are refused are few.
+/// Fewer steps than the sheet has surfaces, as many, or more.
+pub fn push_steps(rng: &mut Rng, words: &mut Vec<u64>) {
+    let bytes = sheet(rng);
+    let count = surfaces(&bytes).unwrap_or(2);
+    let steps = match rng.below(4) {
+        0 => count + 1 + rng.below(4),
+        1 => rng.below(count + 1),
+        _ => count,
+    };
+    words.push(steps as u64);
+    push(&bytes, words);
+}
+
+/// A surface that the sheet has, and few that it has not; sheets that are refused are few.
 pub fn push_answers(rng: &mut Rng, words: &mut Vec<u64>) {
     let bytes = loop {
         let bytes = if rng.one_in(10) {
@@ -178,7 +209,12 @@ pub fn push_answers(rng: &mut Rng, words: &mut Vec<u64>) {
         }
     };
     let count = surfaces(&bytes).unwrap_or(1);
-    words.push(rng.below(count) as u64);
+    let number = match rng.below(16) {
+        0 => count as u64,
+        1 => rng.pick(&[count as u64 + 1, 64, u64::from(u32::MAX)]),
+        _ => rng.below(count) as u64,
+    };
+    words.push(number);
     push(&bytes, words);
 }
 
@@ -238,10 +274,33 @@ pub fn answers_cases() -> Vec<Vec<u64>> {
         (0, &varied),
         (1, &varied),
         (2, &varied),
+        (3, &varied),
+        (u64::from(u32::MAX), &varied),
         (63, &largest().bytes()),
+        (64, &largest().bytes()),
     ] {
         let mut words = vec![number];
         push(bytes, &mut words);
+        list.push(words);
+    }
+    list
+}
+
+pub fn steps_cases() -> Vec<Vec<u64>> {
+    let mut list = Vec::new();
+    for count in 0..=6 {
+        let mut words = vec![count];
+        push(&varied().bytes(), &mut words);
+        list.push(words);
+    }
+    for count in [63, 64, 65] {
+        let mut words = vec![count];
+        push(&largest().bytes(), &mut words);
+        list.push(words);
+    }
+    for bytes in few_cases() {
+        let mut words = vec![2];
+        push(&bytes, &mut words);
         list.push(words);
     }
     list
