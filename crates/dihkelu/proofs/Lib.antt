@@ -1,3 +1,4 @@
--- Facts on the places of refusals, and on what is returned.
-pub mod Places
+-- Facts on what is returned, and on the refusals of the gate and of a surface's answers.
 pub mod Returned
+pub mod Places
+pub mod Answered

@@ -24,6 +24,7 @@ use Rattle.gate.specs.Claim.{FirstOutside}
 use Rattle.gate.proofs.Blocks.{from}
 use Rattle.gate.proofs.Claim.{Case, short, broken, outside, inside, cases}
 use Rattle.call.specs.Call.{Apart}
+use Rattle.dihkelu.proofs.Returned.{Sound, sound-apart}
 
 same : {A : Type 0} (p q : ℕ) → _≡_ {A = Result A} (fault p) (fault q) → p ≡ q
 same p q e = cc
@@ -108,11 +109,14 @@ module _ (src : List ℕ) where
       let u = and-r (eqb (n % 4) 0) (leb 36 n && leb n 30500) t in
       (leb→le 36 n (and-l (leb 36 n) (leb n 30500) u), leb→le n 30500 (and-r (leb 36 n) (leb n 30500) u))
 
-  of-case : {o : Outcome Sheet} → Case src o → Apart o
-  of-case (short f) = omega arith
-  of-case (broken t place d) = let l = fits t in omega (arith, faulty (omega arith) place d)
-  of-case (outside t x d place f) = let l = fits t in omega (arith, out-of-limits (omega arith) x d (value 0) place f)
+  of-case : {o : Outcome Sheet} → Case src o → Sound o
+  of-case (short f) = (omega arith, omega arith)
+  of-case (broken t place d) = let l = fits t in (omega arith, omega (arith, faulty (omega arith) place d))
+  of-case (outside t x d place f) = let l = fits t in (omega arith, omega (arith, out-of-limits (omega arith) x d (value 0) place f))
   of-case (inside t x d h) = tt
 
+  pub gate-sound : Sound (gated src)
+  gate-sound = of-case (cases src)
+
   pub gate-apart : Apart (gated src)
-  gate-apart = of-case (cases src)
+  gate-apart = sound-apart (gated src) gate-sound

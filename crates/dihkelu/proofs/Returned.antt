@@ -12,11 +12,19 @@ use Rattle.call.specs.Call.{Done, done, packed, Apart, returned, Reply, written
 packs : (number place : ℕ) → place < 2 ^ 32 → packed number (place % 2 ^ 32) ≡ packed number place
 packs number place h = omega arith
 
+-- a refusal whose number is not 0, and whose place leaves it apart
+abbrev pub Sound : {A : Type 0} → Outcome A → Type 0
+Sound (answer a) = Unit {0}
+Sound (refusal number place) = (0 < number) × (place < 2 ^ 32)
+
 module _ {A : Type 0} where
-  -- ---- refusals whose place leaves their number apart
-  pub plain-apart : (o : Outcome A) → Plain o → Apart o
-  plain-apart (answer a) h = tt
-  plain-apart (refusal number place) h = omega (arith, h .1)
+  pub plain-sound : (o : Outcome A) → Plain o → Sound o
+  plain-sound (answer a) h = tt
+  plain-sound (refusal number place) h = (h .0, omega (arith, h .1))
+
+  pub sound-apart : (o : Outcome A) → Sound o → Apart o
+  sound-apart (answer a) h = tt
+  sound-apart (refusal number place) h = h .1
 
   pub apart-map : {B : Type 0} (f : A → B) (o : Outcome A) → Apart o → Apart (map f o)
   apart-map f (answer a) h = tt

@@ -1,3 +1,2 @@
--- The C interface: what each call answers, and the layouts of its numbers.
-pub mod Layout
+-- The C interface: what each call of the train answers.
 pub mod Train

@@ -1,6 +1,5 @@
 -- What dihkelu_start, dihkelu_step and dihkelu_run return and write, over document 01's train. Definitions only.
 use mathlib.Core.Bool.{cond}
-use mathlib.Core.List.{List, [], _∷_}
 use Prim.Native.Nat.{ℕ}
 use lib.Dec.{eqb}
 use Rattle.refusal.specs.Outcome.{Outcome, answer, refusal}
@@ -9,11 +8,12 @@ use Rattle.gate.specs.Gate.{surfaces-of}
 use Rattle.optical_train.specs.declared.State.{State}
 use Rattle.optical_train.specs.declared.Stepped.{Stepped}
 use Rattle.optical_train.specs.Train.{fresh, Ran}
-use Rattle.call.specs.Call.{Done, done, Reply, reply, returned}
+use Rattle.call.specs.Call.{Done, done, Reply, returned}
+use Rattle.call.specs.Layout.{both}
 
 -- s, p
 abbrev pub powers : ℕ → State → Reply
-powers returned st = reply returned (st .s ∷ st .p ∷ [])
+powers returned st = both returned (st .s) (st .p)
 
 -- dihkelu_start: the count of surfaces, and the BEAM's powers
 abbrev pub begun : Sheet → Reply

@@ -2,47 +2,18 @@
 // arguments one after the other. No call that refuses changes a list: a refusal is its number times
 // 2^32 plus its place, which is 0 where document 01 gives none.
 ghost use mathlib.Core.Path.{_≡_};
-ghost use mathlib.Core.List.{[], _∷_};
 ghost use Rattle.gate.specs.Gate as Gate;
 ghost use Rattle.gate.specs.Gate.{gated, gate};
 ghost use Rattle.flat_layers.specs.Evaluate.{evaluate};
-ghost use Rattle.call.specs.Call.{done, Apart, reply, written, returned, answered};
-ghost use Rattle.dihkelu.specs.Layout.{evaluated};
-ghost use Rattle.optical_train.specs.Train.{step, run};
+ghost use Rattle.call.specs.Call.{done, Apart, returned, answered};
+ghost use Rattle.call.specs.Layout.{evaluated, surface-answered};
+ghost use Rattle.optical_train.specs.Train.{step, run, surface-answers};
 ghost use Rattle.dihkelu.specs.Train.{begun, gone-on, taken, run-whole};
 use gate::Gated;
 use optical_train::State;
 use thin_film::Evaluation;
-use transfer_matrix::CoatingResponse;
 
 // ---- a coated surface
-
-// The response by its numbers.
-fn put_response(r: CoatingResponse, list: &mut [f64]) -> u64
-    ensures { λ n. ⌜ done n (now (list .exit)) ≡ written (evaluated r) (now (list .entry)) ⌝ }
-{
-    let rs = r.rs;
-    let rp = r.rp;
-    let ts = r.ts;
-    let tp = r.tp;
-    let numbers = [
-        rs.re,
-        rs.im,
-        rp.re,
-        rp.im,
-        ts.re,
-        ts.im,
-        tp.re,
-        tp.im,
-        r.reflectance_s,
-        r.reflectance_p,
-        r.transmittance_s,
-        r.transmittance_p,
-        r.phase_rs_rad,
-        r.phase_rp_rad,
-    ];
-    call::put(14, &numbers, list)
-}
 
 // SurfaceCoating::evaluate: the coating by its code, its layers as n, k, thickness one after the
 // other. Writes the response to the front of list and returns the count of its numbers; or returns
@@ -70,7 +41,7 @@ pub extern "C" fn dihkelu_evaluate(
         layers,
     );
     match evaluation {
-        Evaluation::Response(r) => put_response(r, list),
+        Evaluation::Response(r) => call::put_response(r, list),
         Evaluation::Refused(r) => call::packed(r),
     }
 }
@@ -96,14 +67,6 @@ pub extern "C" fn dihkelu_gate(sheet: &[u8]) -> u64
     number_of(gate::gate(sheet))
 }
 
-// s and p, and what is returned for them.
-fn put_powers(returned: u64, s: f64, p: f64, list: &mut [f64]) -> u64
-    ensures { λ n. ⌜ done n (now (list .exit)) ≡ written (reply returned (s ∷ p ∷ [])) (now (list .entry)) ⌝ }
-{
-    let numbers = [s, p];
-    call::put(returned, &numbers, list)
-}
-
 // A fresh train: writes the BEAM's s and p and returns the count of surfaces; or a refusal: 4, 5, 6,
 // then 8.
 #[no_mangle]
@@ -111,7 +74,7 @@ pub extern "C" fn dihkelu_start(sheet: &[u8], list: &mut [f64]) -> u64
     ensures { λ r. ⌜ done r (now (list .exit)) ≡ answered begun (gated (now (sheet .entry))) (now (list .entry)) ⌝ }
 {
     match gate::gate(sheet) {
-        Gated::Admitted(count) => put_powers(
+        Gated::Admitted(count) => call::put_powers(
             count as u64,
             sheet::float_from(sheet, 4),
             sheet::float_from(sheet, 6),
@@ -146,7 +109,7 @@ pub extern "C" fn dihkelu_step(
         return call::packed(refusal);
     }
     let state = stepped.state;
-    put_powers(state.done as u64, state.s, state.p, list)
+    call::put_powers(state.done as u64, state.s, state.p, list)
 }
 
 // A whole run: writes s, p after each surface and returns the count of surfaces; or a refusal: 4, 5,
@@ -156,4 +119,21 @@ pub extern "C" fn dihkelu_run(sheet: &[u8], list: &mut [f64]) -> u64
     ensures { λ r. ⌜ done r (now (list .exit)) ≡ run-whole (run (now (sheet .entry)) (now (list .entry))) ⌝ }
 {
     number_of(optical_train::run(sheet, list))
+}
+
+// ---- a surface's answers
+
+// Of a sheet's surface, counted from 0: writes its answers and returns the count of their numbers; or
+// a refusal: 4, 5, 6, 7 where there is no such surface, then 8.
+#[no_mangle]
+pub extern "C" fn dihkelu_answers(sheet: &[u8], surface: u32, list: &mut [f64]) -> u64
+    ensures { λ r. ⌜ done r (now (list .exit)) ≡ answered surface-answered (surface-answers (now (sheet .entry)) surface) (now (list .entry)) ⌝ }
+{
+    let reply = optical_train::surface_answers(sheet, surface);
+    let refusal = reply.refusal;
+    if refusal.number != 0 {
+        return call::packed(refusal);
+    }
+    let answers = reply.answers;
+    call::put_answers(answers, list)
 }

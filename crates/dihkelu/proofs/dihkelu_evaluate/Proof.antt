@@ -10,14 +10,16 @@ use Rattle.thin_film.specs.Evaluate.{outcome}
 use Rattle.flat_layers.specs.Evaluate.{evaluate}
 use Rattle.flat_layers.proofs.Plain.{of-code}
 use Rattle.call.specs.Call.{done, packed, answered}
-use Rattle.dihkelu.specs.Layout.{evaluated}
-use Rattle.dihkelu.proofs.Returned.{plain-apart, refuses, answers}
+use Rattle.call.specs.Layout.{evaluated}
+use Rattle.dihkelu.proofs.Returned.{plain-sound, sound-apart, refuses, answers}
 use Rattle.dihkelu.proofs.dihkelu_evaluate.Statement.{statement}
 use Rattle.dihkelu.proofs.dihkelu_evaluate.Tie as tie
 
 refused : (code : ℕ) (design n-incident n-substrate angle wavelength : Float) (flat : List Float) (r : Refusal) (n : ℕ) (list : List Float)
     → refused-with r ≡ evaluate code design n-incident n-substrate angle wavelength flat → n ≡ packed (r .number) (r .place % 2 ^ 32) → done n list ≡ answered evaluated (evaluate code design n-incident n-substrate angle wavelength flat) list
-refused code design n-incident n-substrate angle wavelength flat r n list e is = refuses evaluated r _ n list e (plain-apart (evaluate code design n-incident n-substrate angle wavelength flat) (of-code n-incident n-substrate angle wavelength code design flat)) is
+refused code design n-incident n-substrate angle wavelength flat r n list e is =
+    let o = evaluate code design n-incident n-substrate angle wavelength flat in
+    refuses evaluated r _ n list e (sound-apart o (plain-sound o (of-code n-incident n-substrate angle wavelength code design flat))) is
 
 evaluate-requires : tie.Need-evaluate-requires
 evaluate-requires c κs = search needs
