@@ -1,10 +1,11 @@
-// The train through the static library `dihkelu`: gate, start, step and whole run, held against `sheet` and
+// The train through the static library `dihkelu`: gate, start, step, whole run and answers, held against `sheet` and
 // `train`, with what a refusal leaves in the lent list.
 
 use crate::record::bits;
+use crate::reference::thin_film::CoatingResponse;
 use crate::sheet::{gate, Refusal};
 use crate::sheets::sheet;
-use crate::train::{run, start, step, State};
+use crate::train::{answers, run, start, step, Light, State};
 use crate::values::{any, Rng};
 
 extern "C" {
@@ -25,6 +26,13 @@ extern "C" {
         list_count: usize,
     ) -> u64;
     fn dihkelu_run(sheet: *const u8, sheet_count: usize, list: *mut f64, list_count: usize) -> u64;
+    fn dihkelu_answers(
+        sheet: *const u8,
+        sheet_count: usize,
+        surface: u32,
+        list: *mut f64,
+        list_count: usize,
+    ) -> u64;
 }
 
 // In each call both lists live for the call and do not overlap: one is borrowed mutably.
@@ -45,6 +53,11 @@ pub fn linked_step(sheet: &[u8], state: State, list: &mut [f64]) -> u64 {
 
 pub fn linked_run(sheet: &[u8], list: &mut [f64]) -> u64 {
     unsafe { dihkelu_run(sheet.as_ptr(), sheet.len(), list.as_mut_ptr(), list.len()) }
+}
+
+pub fn linked_answers(sheet: &[u8], surface: u32, list: &mut [f64]) -> u64 {
+    let (at, count) = (list.as_mut_ptr(), list.len());
+    unsafe { dihkelu_answers(sheet.as_ptr(), sheet.len(), surface, at, count) }
 }
 
 /// A NaN with a payload of its own: a store, even of a NaN, would show.
@@ -80,6 +93,58 @@ fn step_agrees(bytes: &[u8], state: State, room: usize) -> bool {
     let mut list = filled(room);
     let returned = linked_step(bytes, state, &mut list);
     let answer = step(bytes, state).map(|next| (next.done, vec![next.s, next.p]));
+    let (number, written) = expected(answer, room);
+    left(returned, number, &list, &written)
+}
+
+fn numbers(r: &CoatingResponse) -> Vec<f64> {
+    let mut list: Vec<f64> = [r.rs, r.rp, r.ts, r.tp]
+        .iter()
+        .flat_map(|z| [z.re, z.im])
+        .collect();
+    list.extend([r.reflectance_s, r.reflectance_p]);
+    list.extend([r.transmittance_s, r.transmittance_p]);
+    list.extend([r.phase_rs_rad, r.phase_rp_rad]);
+    list
+}
+
+/// A surface's answers as `dihkelu_answers` lays them out; 7 where there is no such surface.
+fn laid_out(bytes: &[u8], surface: u32) -> Result<Vec<f64>, Refusal> {
+    let sheet = gate(bytes)?;
+    let none = Refusal {
+        number: 7,
+        place: 0,
+    };
+    let surface = sheet.surfaces.get(surface as usize).ok_or(none)?;
+    let answers = answers(surface, sheet.wavelength);
+    let (coated, powers, response) = match &answers.light {
+        Light::Bare(p) => (0.0, [p.reflected, p.transmitted].concat(), Vec::new()),
+        Light::Coated(r) => {
+            let powers = vec![
+                r.reflectance_s,
+                r.reflectance_p,
+                r.transmittance_s,
+                r.transmittance_p,
+            ];
+            (1.0, powers, numbers(r))
+        }
+    };
+    let mut list = vec![coated];
+    list.extend(powers);
+    for jones in &answers.jones {
+        list.extend(jones.m.iter().flatten().flat_map(|z| [z.re, z.im]));
+    }
+    for mueller in &answers.mueller {
+        list.extend(mueller.m.iter().flatten());
+    }
+    list.extend(response);
+    Ok(list)
+}
+
+fn answers_agree(bytes: &[u8], surface: u32, room: usize) -> bool {
+    let mut list = filled(room);
+    let returned = linked_answers(bytes, surface, &mut list);
+    let answer = laid_out(bytes, surface).map(|numbers| (numbers.len() as u64, numbers));
     let (number, written) = expected(answer, room);
     left(returned, number, &list, &written)
 }
@@ -144,6 +209,12 @@ fn sheet_agrees(bytes: &[u8], rng: &mut Rng) -> (u64, Option<&'static str>) {
         calls += 1;
         if !step_agrees(bytes, state, rng.below(4)) {
             return (calls, Some("step of any state"));
+        }
+    }
+    for surface in [0, rng.below(count + 1), count, rng.bits() as usize >> 3] {
+        calls += 1;
+        if !answers_agree(bytes, surface as u32, rng.pick(&[0, 52, 53, 66, 67, 70])) {
+            return (calls, Some("answers"));
         }
     }
     (calls, None)

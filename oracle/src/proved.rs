@@ -199,7 +199,7 @@ pub fn compare(seed: u64, count: u64) -> Option<bool> {
         all_agree &= different == 0;
         let (calls, different) = crate::exports::compare_trains(seed, count / 10);
         println!(
-            "gate, start, step, run: {} of {} sheets agree, {calls} calls",
+            "gate, start, step, run, answers: {} of {} sheets agree, {calls} calls",
             count / 10 - different,
             count / 10
         );
