@@ -1,9 +1,10 @@
 // 01's example and edges, each limit of the gate, and the train over random sheets.
 
+use crate::examples::examples;
 use crate::sheet::{gate, Refusal};
 use crate::sheet_cases::{cases, limits};
 use crate::sheets::{damaged, example, largest, sheet, valid, varied};
-use crate::train::{program, run, start, step, State};
+use crate::train::{program, run, start, step, steps, State};
 use crate::values::Rng;
 
 const EXAMPLE: [u32; 16] = [
@@ -192,7 +193,23 @@ fn a_run_is_step_after_step_and_never_grows() {
             assert!(0.0 <= state.p && state.p <= before.p);
         }
         assert_eq!(step(&bytes, state).map_err(|r| r.number), Err(7));
+        assert_eq!(steps(&bytes, count as u64 + 2), Ok((state, 2)));
     }
+}
+
+#[test]
+fn the_examples_have_their_refusals() {
+    let mut names = Vec::new();
+    for (name, bytes) in examples() {
+        let number = name
+            .strip_prefix("refused_")
+            .map_or(0, |rest| rest.as_bytes()[0] - b'0');
+        assert_eq!(refused(&bytes).0, u64::from(number), "{name}");
+        names.push(name);
+    }
+    names.sort();
+    names.dedup();
+    assert_eq!(names.len(), 54);
 }
 
 #[test]
