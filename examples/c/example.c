@@ -1,0 +1,65 @@
+/* Document 01's sheet from C: gate, start, steps, the answers of its surface, a whole run. */
+#include <inttypes.h>
+#include <stdio.h>
+#include <stdlib.h>
+#include <string.h>
+
+#include "dihkelu.h"
+
+static const uint32_t words[] = {0x10000001, 0x20000000, 0x407F4000, 0x00000000, 0x3FE00000, 0x00000000,
+                                 0x3FE00000, 0x00000000, 0x30000000, 0x3FF00000, 0x00000000, 0x40080000,
+                                 0x00000000, 0x00000000, 0x00000000, 0x50000001};
+
+static uint64_t bits(double x) {
+    uint64_t b;
+    memcpy(&b, &x, sizeof b);
+    return b;
+}
+
+/* What a call returned, where it answered; else the end. */
+static uint32_t answered(const char *call, uint64_t returned) {
+    if (DIHKELU_REFUSAL(returned) != 0) {
+        printf("%s: refused %" PRIu32 " %" PRIu32 "\n", call, DIHKELU_REFUSAL(returned), DIHKELU_VALUE(returned));
+        exit(1);
+    }
+    return DIHKELU_VALUE(returned);
+}
+
+int main(void) {
+    uint8_t sheet[sizeof words];
+    for (size_t i = 0; i < sizeof words / sizeof words[0]; i++)
+        for (int j = 0; j < 4; j++) sheet[4 * i + j] = (uint8_t)(words[i] >> (24 - 8 * j));
+
+    uint32_t surfaces = answered("gate", dihkelu_gate(sheet, sizeof sheet));
+    printf("surfaces %" PRIu32 "\n", surfaces);
+
+    double state[2];
+    answered("start", dihkelu_start(sheet, sizeof sheet, state, 2));
+    printf("start %016" PRIX64 " %016" PRIX64 "\n", bits(state[0]), bits(state[1]));
+
+    for (uint32_t done = 0; done < surfaces;) {
+        double answers[DIHKELU_COATED];
+        uint32_t count = answered("answers", dihkelu_answers(sheet, sizeof sheet, done, answers, DIHKELU_COATED));
+        printf("surface %" PRIu32 ", %s, %" PRIu32 " numbers:", done, answers[0] == 1.0 ? "coated" : "bare", count);
+        for (uint32_t i = 1; i < count; i++) printf(" %g", answers[i]);
+        printf("\n");
+        double next[2];
+        done = answered("step", dihkelu_step(sheet, sizeof sheet, done, state[0], state[1], next, 2));
+        memcpy(state, next, sizeof state);
+        printf("step %" PRIu32 " %016" PRIX64 " %016" PRIX64 "\n", done, bits(state[0]), bits(state[1]));
+    }
+    printf("sum %016" PRIX64 "\n", bits(state[0] + state[1]));
+
+    double run[2 * 64];
+    answered("run", dihkelu_run(sheet, sizeof sheet, run, 2 * 64));
+    printf("run %016" PRIX64 " %016" PRIX64 "\n", bits(run[0]), bits(run[1]));
+
+    double response[DIHKELU_RESPONSE], no_layers[1];
+    answered("evaluate", dihkelu_evaluate(2, 550.0, 1.0, 1.5, 0.0, 550.0, no_layers, 0, response, DIHKELU_RESPONSE));
+    printf("MgF2 R_s %g T_s %g\n", response[8], response[10]);
+
+    sheet[0] = 0;
+    uint64_t refused = dihkelu_gate(sheet, sizeof sheet);
+    printf("refused %" PRIu32 " %" PRIu32 "\n", DIHKELU_REFUSAL(refused), DIHKELU_VALUE(refused));
+    return 0;
+}

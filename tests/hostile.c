@@ -1,0 +1,236 @@
+/* Hostile input to every call: hostile SEED COUNT. Run it under valgrind: each sheet and each list is a block of its
+ * own with nothing behind it. Ends with 1 at the first call that does what the header rules out. */
+#include <inttypes.h>
+#include <stdio.h>
+#include <stdlib.h>
+#include <string.h>
+
+#include "dihkelu.h"
+
+static uint64_t seed, calls, refusals[9], answers_given;
+
+static uint64_t draw(void) {
+    uint64_t z = (seed += 0x9E3779B97F4A7C15u);
+    z = (z ^ (z >> 30)) * 0xBF58476D1CE4E5B9u;
+    z = (z ^ (z >> 27)) * 0x94D049BB133111EBu;
+    return z ^ (z >> 31);
+}
+
+static uint64_t below(uint64_t n) { return draw() % n; }
+
+static void *block(size_t size) {
+    void *b = malloc(size ? size : 1);
+    if (b == NULL) exit(2);
+    return b;
+}
+
+static double number(uint64_t bits) {
+    double x;
+    memcpy(&x, &bits, sizeof x);
+    return x;
+}
+
+static double any(void) {
+    static const double some[] = {0.0, 1.0, 0.5, 1.5, 2.0, 0.3, 550.0, 100.0, 1e-300, 1e300, -1.0};
+    return below(3) == 0 ? number(draw()) : some[below(sizeof some / sizeof some[0])];
+}
+
+static void wrong(const char *call, const char *what, uint64_t returned) {
+    printf("%s: %s, returned %016" PRIX64 " after %" PRIu64 " calls\n", call, what, returned, calls);
+    exit(1);
+}
+
+/* ---- a list of NaNs of odd payloads, and a copy of it */
+typedef struct {
+    uint64_t *now, *before;
+    size_t count;
+} List;
+
+static List lend(size_t count) {
+    List l = {block(8 * count), block(8 * count), count};
+    for (size_t i = 0; i < count; i++) l.before[i] = (draw() | 0x7FF0000000000001u) ^ (below(2) << 63);
+    memcpy(l.now, l.before, 8 * count);
+    return l;
+}
+
+/* What a call with a list may return and leave: a refusal of `may` (a bit for each) and the list as it was, byte by
+ * byte; or an answer, with all that is behind `written` numbers as it was. 8 exactly where the list is too short. */
+static void leave(const char *call, List l, uint64_t returned, unsigned may, size_t written) {
+    calls++;
+    uint32_t number = DIHKELU_REFUSAL(returned);
+    if (number != 0) {
+        if (number > 8 || (may >> number & 1) == 0) wrong(call, "a refusal that it has not", returned);
+        if (memcmp(l.now, l.before, 8 * l.count) != 0) wrong(call, "a list changed by a refusal", returned);
+        if (number == 8 && l.count >= written) wrong(call, "8 for a list that is long enough", returned);
+        refusals[number]++;
+    } else {
+        if (l.count < written) wrong(call, "an answer for a list that is too short", returned);
+        if (memcmp(l.now + written, l.before + written, 8 * (l.count - written)) != 0)
+            wrong(call, "a list changed behind the answer", returned);
+        answers_given++;
+    }
+    free(l.now);
+    free(l.before);
+}
+
+#define BIT(n) (1u << (n))
+enum { SHEET = BIT(4) | BIT(5) | BIT(6) };
+
+/* ---- every call on one sheet, copied to a block of its own */
+static void sheet_calls(const uint8_t *bytes, size_t size) {
+    uint8_t *sheet = block(size);
+    memcpy(sheet, bytes, size);
+    uint64_t gate = dihkelu_gate(sheet, size);
+    uint32_t refused = DIHKELU_REFUSAL(gate), surfaces = refused ? 0 : DIHKELU_VALUE(gate);
+    calls++;
+    if (refused) refusals[refused < 9 ? refused : 0]++;
+    if (refused && (refused < 4 || refused > 6)) wrong("gate", "a refusal that it has not", gate);
+    if (DIHKELU_VALUE(gate) > 7625) wrong("gate", "a place or a count past the longest sheet", gate);
+    unsigned may = refused ? BIT(refused) : 0;
+
+    for (size_t n = 0; n <= 3; n++) {
+        List l = lend(n);
+        uint64_t r = dihkelu_start(sheet, size, (double *)l.now, n);
+        if (n >= 2 && r != gate) wrong("start", "another number than the gate's", r);
+        leave("start", l, r, may | BIT(8), 2);
+    }
+    for (int i = 0; i < 6; i++) {
+        uint32_t done = i == 0 ? 0 : i == 1 ? UINT32_MAX : i == 2 ? surfaces : i == 3 && surfaces ? surfaces - 1 : (uint32_t)below(66);
+        List l = lend(below(4));
+        uint64_t r = dihkelu_step(sheet, size, done, any(), any(), (double *)l.now, l.count);
+        if (!refused && (DIHKELU_REFUSAL(r) == 7) != (done >= surfaces)) wrong("step", "7 at the wrong count", r);
+        if (DIHKELU_REFUSAL(r) == 0 && r != (uint64_t)done + 1) wrong("step", "another count of surfaces done", r);
+        leave("step", l, r, may | (refused ? 0 : BIT(7) | BIT(8)), 2);
+    }
+    size_t need = 2 * (size_t)surfaces, lengths[] = {0, need - (need > 0), need, need + 1, need + 7};
+    for (int i = 0; i < 5; i++) {
+        List l = lend(lengths[i]);
+        uint64_t r = dihkelu_run(sheet, size, (double *)l.now, l.count);
+        if (l.count >= need && r != gate) wrong("run", "another number than the gate's", r);
+        leave("run", l, r, may | (refused ? 0 : BIT(8)), need);
+    }
+    static const size_t around[] = {0, 1, 52, 53, 54, 66, 67, 68, 69};
+    for (int i = 0; i < 9; i++) {
+        uint32_t surface = below(8) == 0 ? (uint32_t)draw() : (uint32_t)below(surfaces + 1);
+        List l = lend(around[i]), full = lend(DIHKELU_COATED);
+        uint64_t r = dihkelu_answers(sheet, size, surface, (double *)l.now, l.count);
+        uint64_t f = dihkelu_answers(sheet, size, surface, (double *)full.now, full.count);
+        size_t count = DIHKELU_REFUSAL(f) ? 0 : DIHKELU_VALUE(f);
+        if (count && count != (((double *)full.now)[0] == 1.0 ? DIHKELU_COATED : DIHKELU_BARE))
+            wrong("answers", "a count that its first number denies", f);
+        if (count && l.count >= count && memcmp(l.now, full.now, 8 * count) != 0)
+            wrong("answers", "other answers in a longer list", r);
+        leave("answers", l, r, may | (refused ? 0 : BIT(7) | BIT(8)), count);
+        leave("answers", full, f, may | (refused ? 0 : BIT(7)), count);
+    }
+    /* a whole run is one step after another */
+    if (surfaces) {
+        double *run = block(8 * need), at[2], next[2];
+        if (dihkelu_run(sheet, size, run, need) != surfaces || dihkelu_start(sheet, size, at, 2) != surfaces)
+            wrong("run", "another number than the gate's", surfaces);
+        for (uint32_t i = 0; i < surfaces; i++) {
+            if (dihkelu_step(sheet, size, i, at[0], at[1], next, 2) != i + 1 || memcmp(next, run + 2 * i, 16) != 0)
+                wrong("step", "other powers than the run's", i);
+            memcpy(at, next, 16);
+        }
+        calls += 2 + surfaces;
+        free(run);
+    }
+    free(sheet);
+}
+
+/* ---- sheets */
+static size_t put(uint8_t *b, size_t at, uint64_t v, int bytes) {
+    for (int i = 0; i < bytes; i++) b[at + i] = (uint8_t)(v >> (8 * (bytes - 1 - i)));
+    return at + bytes;
+}
+
+static size_t put_double(uint8_t *b, size_t at, double x) {
+    uint64_t v;
+    memcpy(&v, &x, 8);
+    return put(b, at, v, 8);
+}
+
+/* Within the limits, of so many surfaces; a coating 5 has so many layers, or a random count. */
+static size_t build(uint8_t *b, int surfaces, int layers) {
+    size_t at = put(b, put(b, 0, 0x10000001, 4), 0x20000000, 4);
+    at = put_double(b, put_double(b, put_double(b, at, 100.0 + (double)below(9901)), 0.5), (double)below(2));
+    for (int i = 0; i < surfaces; i++) {
+        unsigned payload = layers < 0 ? (unsigned)below(16) : 10 + (unsigned)below(2);
+        at = put(b, at, 0x30000000u + payload, 4);
+        at = put_double(b, put_double(b, put_double(b, at, 1.0 + (double)below(2) / 4), 1.5 + (double)below(3) / 2), (double)below(8) / 16);
+        int n = payload / 2 != 5 ? 0 : layers < 0 ? (int)below(17) : layers;
+        for (int j = 0; j < n; j++) {
+            at = put(b, at, 0x40000000, 4);
+            at = put_double(b, put_double(b, put_double(b, at, 1.25 + (double)below(9) / 4), 0.0), (double)below(1000));
+        }
+    }
+    return put(b, at, 0x50000000u + (unsigned)surfaces, 4);
+}
+
+static void evaluate_calls(void) {
+    size_t n = below(4) ? 3 * below(5) : below(220);
+    double *layers = block(8 * n);
+    for (size_t i = 0; i < n; i++) layers[i] = any();
+    uint32_t code = below(8) ? (uint32_t)below(10) : (uint32_t)draw();
+    static const size_t around[] = {0, 13, 14, 15, 20};
+    List l = lend(around[below(5)]);
+    uint64_t r = dihkelu_evaluate(code, any(), any(), any(), any(), any(), layers, n, (double *)l.now, l.count);
+    if (n % 3 != 0 && DIHKELU_REFUSAL(r) != 1) wrong("evaluate", "no 1 for layers that are no multiple of 3", r);
+    if ((code == 0 || code > 8) && DIHKELU_REFUSAL(r) != 1) wrong("evaluate", "no 1 for an unknown code", r);
+    if (DIHKELU_REFUSAL(r) ? DIHKELU_VALUE(r) != 0 : r != DIHKELU_RESPONSE) wrong("evaluate", "another number", r);
+    leave("evaluate", l, r, BIT(1) | BIT(3) | BIT(8), DIHKELU_RESPONSE);
+    free(layers);
+}
+
+int main(int count, char **words) {
+    seed = count > 1 ? strtoull(words[1], NULL, 10) : 1;
+    uint64_t times = count > 2 ? strtoull(words[2], NULL, 10) : 100;
+    static uint8_t bytes[40000];
+    static const size_t sizes[] = {0, 1, 2, 3, 4, 35, 36, 37, 30499, 30500, 30501, 30502, 30503, 30504, 30505};
+
+    for (size_t i = 0; i < sizeof sizes / sizeof sizes[0]; i++)
+        for (int kind = 0; kind < 3; kind++) {
+            for (size_t j = 0; j < sizes[i]; j++) bytes[j] = kind == 0 ? 0 : (uint8_t)draw();
+            if (kind == 2) (void)build(bytes, 64, 16);
+            sheet_calls(bytes, sizes[i]);
+        }
+    const size_t huge = 100000000;
+    uint8_t *much = calloc(huge, 1);
+    if (much == NULL) return 2;
+    (void)build(much, 64, 16);
+    if (dihkelu_gate(much, huge) != 4ull << 32) wrong("gate", "100 MB not refused with 4", 0);
+    double two[2];
+    if (dihkelu_start(much, huge, two, 2) != 4ull << 32) wrong("start", "100 MB not refused with 4", 0);
+    if (dihkelu_step(much, huge, 0, 1, 1, two, 2) != 4ull << 32) wrong("step", "100 MB not refused with 4", 0);
+    if (dihkelu_answers(much, huge, 0, two, 2) != 4ull << 32) wrong("answers", "100 MB not refused with 4", 0);
+    if (dihkelu_run(bytes, build(bytes, 64, 16), (double *)much, huge / 8) != 64) wrong("run", "a list of 100 MB refused", 0);
+    if (dihkelu_run(much, huge, two, 2) != 4ull << 32) wrong("run", "100 MB not refused with 4", 0);
+    free(much);
+    calls += 6;
+
+    for (uint64_t k = 0; k < times; k++) {
+        size_t size = build(bytes, below(4) ? (int)below(4) : (int)below(65), -1);
+        sheet_calls(bytes, size);
+        sheet_calls(bytes, below(size + 1));
+        sheet_calls(bytes, below(size / 4 + 1) * 4);
+        for (int i = 0; i < 4; i++) {
+            size_t at = below(size);
+            uint8_t kept = bytes[at];
+            bytes[at] = below(2) ? (uint8_t)draw() : kept ^ (uint8_t)(1u << below(8));
+            sheet_calls(bytes, size);
+            bytes[at] = kept;
+        }
+        size = 4 * below(40);
+        for (size_t j = 0; j < size; j++) bytes[j] = (uint8_t)draw();
+        sheet_calls(bytes, size);
+        for (int i = 0; i < 16; i++) evaluate_calls();
+    }
+    /* one sheet cut off at every byte */
+    size_t size = build(bytes, 2, 3);
+    for (size_t n = 0; n <= size; n++) sheet_calls(bytes, n);
+
+    printf("hostile: seed %s, %" PRIu64 " calls, %" PRIu64 " answered; refused 1: %" PRIu64 ", 3: %" PRIu64 ", 4: %" PRIu64 ", 5: %" PRIu64 ", 6: %" PRIu64 ", 7: %" PRIu64 ", 8: %" PRIu64 "; none wrong\n",
+           count > 1 ? words[1] : "1", calls, answers_given, refusals[1], refusals[3], refusals[4], refusals[5], refusals[6], refusals[7], refusals[8]);
+    return 0;
+}
