@@ -1,7 +1,7 @@
 // Command bench: nanoseconds for a call, best of several runs, of each side; and their ratios.
 
 use crate::section2::{self, PI};
-use crate::sheets::largest;
+use crate::sheets::even;
 use crate::values::Rng;
 use std::hint::black_box;
 use std::time::Instant;
@@ -61,7 +61,7 @@ macro_rules! side {
                 Box::new(move || places.iter().map(|p| coated(&coating, p)[2]).sum())
             }
 
-            /// Gate (the same for both modules) and whole run of a sheet of custom surfaces.
+            /// Gate (the same for both modules) and whole run of a sheet of bare and custom surfaces.
             fn run(bytes: &[u8]) -> f64 {
                 let Ok(sheet) = gate(bytes) else { return 0.0 };
                 let (mut s, mut p) = (sheet.s, sheet.p);
@@ -85,21 +85,28 @@ macro_rules! side {
                     .iter()
                     .map(|(_, film)| [film.n, film.k, film.thickness_nm])
                     .collect();
+                if surface.coating == 0 {
+                    return bare(&place);
+                }
                 coated(&custom(layers.iter()), &place)
             }
 
             pub fn works() -> Vec<Option<Work>> {
                 let layers = super::layers();
                 let places = super::places();
-                let sheet = super::largest().bytes();
-                let works: Vec<Work> = vec![
+                let mut works: Vec<Work> = vec![
                     Box::new(move || places.iter().map(|p| bare(p)[2]).sum()),
                     over(SurfaceCoating::mgf2_default(), super::places()),
                     over(SurfaceCoating::HighReflectanceMirror, super::places()),
                     over(custom(layers.iter().take(16)), super::places()),
                     over(custom(layers.iter()), super::places()),
-                    Box::new(move || run(&sheet)),
                 ];
+                for sheet in super::run_sheets() {
+                    works.push(Box::new(move || run(&sheet)));
+                }
+                for sheet in super::gate_sheets() {
+                    works.push(Box::new(move || gate(&sheet).map_or(0.0, |x| x.s)));
+                }
                 works.into_iter().map(Some).collect()
             }
         }
@@ -110,14 +117,34 @@ side!(authors, f64::cos);
 side!(reference, crate::section2::cos);
 
 /// The workloads, with the number of calls in each.
-pub const WORKS: [(&str, usize); 6] = [
+pub const WORKS: [(&str, usize); 13] = [
     ("bare surface", 64),
     ("MgF2", 64),
     ("15-layer mirror", 64),
     ("16 custom layers", 64),
     ("64 custom layers", 64),
-    ("whole run, 64 surfaces of 16 layers, with its gate", 1),
+    ("whole run, 1 surface of 16 layers", 1),
+    ("whole run, 8 surfaces of 16 layers", 1),
+    ("whole run, 64 surfaces of 16 layers", 1),
+    ("whole run, 64 surfaces of 4 layers", 1),
+    ("whole run, 64 surfaces of 1 layer", 1),
+    ("whole run, 64 bare surfaces", 1),
+    ("gate, 1 surface of 16 layers", 1),
+    ("gate, the longest sheet: 64 surfaces of 16 layers", 1),
 ];
+
+/// Sheets of so many surfaces with so many layers each; without layers they are bare.
+pub fn run_sheets() -> Vec<Vec<u8>> {
+    [(1, 16), (8, 16), (64, 16), (64, 4), (64, 1), (64, 0)]
+        .map(|(surfaces, layers)| even(surfaces, layers).bytes())
+        .to_vec()
+}
+
+pub fn gate_sheets() -> Vec<Vec<u8>> {
+    [(1, 16), (64, 16)]
+        .map(|(surfaces, layers)| even(surfaces, layers).bytes())
+        .to_vec()
+}
 
 pub fn places() -> Vec<Place> {
     let mut rng = Rng::new(3);
@@ -270,12 +297,4 @@ pub fn bench(runs: usize) {
         let sides: Vec<&Work> = works.iter().filter_map(|side| side[i].as_ref()).collect();
         row(name, &turns(runs, *calls, &sides));
     }
-    let sheet = largest().bytes();
-    let gate = || crate::sheet::gate(&sheet).map_or(0.0, |sheet| sheet.s);
-    println!(
-        "{:<52} {:>11} {:>11.1}",
-        "gate of the longest sheet",
-        "",
-        best(runs, 1, gate)
-    );
 }

@@ -82,7 +82,7 @@ fn admitted() -> Vec<(String, Vec<u8>)> {
         "many_turns",
         plan(vec![face(
             4,
-            [1.0, 1.52, 1e6 * 6.283185307179586 + 0.4],
+            [1.0, 1.52, 1e6 * std::f64::consts::TAU + 0.4],
             &[],
         )]),
     );

@@ -6,14 +6,18 @@ pub mod arguments;
 pub mod bench;
 pub mod cases;
 pub mod examples;
+#[cfg(feature = "proved")]
+pub mod exports;
 pub mod feed;
 pub mod functions;
+pub mod measure;
 pub mod proved;
 pub mod record;
 pub mod section2;
 pub mod sheet;
 pub mod sheet_cases;
 pub mod sheets;
+pub mod traced;
 pub mod train;
 pub mod values;
 

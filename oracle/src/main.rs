@@ -1,6 +1,6 @@
 // The commands of the oracle: see README.md.
 
-use oracle::{bench, examples, feed, functions, proved, sheets, train, values};
+use oracle::{bench, examples, feed, functions, measure, proved, sheets, train, values};
 use std::fs;
 use std::io::{self, BufReader, Read, Write};
 use std::path::Path;
@@ -16,6 +16,7 @@ oracle sheets DIRECTORY [--seed S] [--count N]
 oracle examples DIRECTORY
 oracle bench [--runs N]
 oracle compare [--seed S] [--count N]
+oracle measure [--seed S] [--count N]
 groups: ieee elementary complex thin_film fresnel polarization names sheet train";
 
 /// The options of all commands.
@@ -131,6 +132,11 @@ fn execute(command: &str, options: &Options) -> Result<bool, String> {
         "bench" => {
             bench::bench(options.runs.unwrap_or(9) as usize);
             Ok(true)
+        }
+        "measure" => {
+            let found = measure::measure(seed, options.count.unwrap_or(1_000_000));
+            print!("{}", found.table());
+            Ok(found.sound())
         }
         "compare" => proved::compare(seed, options.count.unwrap_or(1_000_000))
             .ok_or("compare needs a build with the feature `proved`".to_string()),

@@ -78,7 +78,7 @@ pub fn scalars() -> Option<Scalars> {
 #[cfg(feature = "proved")]
 pub use linked::evaluate;
 
-/// The proved workloads, in the order of `bench::WORKS`; a bare surface and a whole run are not exported yet.
+/// The proved workloads, in the order of `bench::WORKS`; a bare surface alone is not exported.
 pub fn works() -> Option<Vec<Option<Work>>> {
     #[cfg(feature = "proved")]
     return Some(evaluations());
@@ -102,7 +102,20 @@ fn evaluations() -> Vec<Option<Work>> {
             places.iter().map(transmitted).sum()
         }))
     };
-    vec![None, over(2, 0), over(4, 0), over(5, 16), over(5, 64), None]
+    let run = |sheet: Vec<u8>| -> Option<Work> {
+        Some(Box::new(move || {
+            let mut list = [0.0; 128];
+            let count = crate::exports::linked_run(&sheet, &mut list) as usize;
+            list[2 * count - 2] + list[2 * count - 1]
+        }))
+    };
+    let mut works = vec![None, over(2, 0), over(4, 0), over(5, 16), over(5, 64)];
+    works.extend(crate::bench::run_sheets().into_iter().map(run));
+    let gate = |sheet: Vec<u8>| -> Option<Work> {
+        Some(Box::new(move || crate::exports::linked_gate(&sheet) as f64))
+    };
+    works.extend(crate::bench::gate_sheets().into_iter().map(gate));
+    works
 }
 
 /// Holds `dihkelu_evaluate` against `SurfaceCoating::evaluate` on `count` calls. Returns how many differ.
@@ -183,6 +196,13 @@ pub fn compare(seed: u64, count: u64) -> Option<bool> {
     {
         let different = compare_evaluate(seed, count);
         println!("evaluate: {} of {count} agree", count - different);
+        all_agree &= different == 0;
+        let (calls, different) = crate::exports::compare_trains(seed, count / 10);
+        println!(
+            "gate, start, step, run, answers: {} of {} sheets agree, {calls} calls",
+            count / 10 - different,
+            count / 10
+        );
         all_agree &= different == 0;
     }
     Some(all_agree)

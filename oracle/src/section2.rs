@@ -68,6 +68,10 @@ fn first_fold(x: f64) -> f64 {
 }
 
 pub fn sin(x: f64) -> f64 {
+    clamp(sin_before_clamp(x), -1.0, 1.0)
+}
+
+pub fn sin_before_clamp(x: f64) -> f64 {
     let mut r = first_fold(x);
     if r > PI / 2.0 {
         r = PI - r;
@@ -79,10 +83,14 @@ pub fn sin(x: f64) -> f64 {
     for m in (1..=10).rev() {
         p = 1.0 - (p * z) / whole((2 * m) * (2 * m + 1));
     }
-    clamp(r * p, -1.0, 1.0)
+    r * p
 }
 
 pub fn cos(x: f64) -> f64 {
+    clamp(cos_before_clamp(x), -1.0, 1.0)
+}
+
+pub fn cos_before_clamp(x: f64) -> f64 {
     let mut a = abs(first_fold(x));
     let negate = a > PI / 2.0;
     if negate {
@@ -93,7 +101,11 @@ pub fn cos(x: f64) -> f64 {
     for m in (1..=11).rev() {
         p = 1.0 - (p * z) / whole((2 * m - 1) * (2 * m));
     }
-    clamp(if negate { -p } else { p }, -1.0, 1.0)
+    if negate {
+        -p
+    } else {
+        p
+    }
 }
 
 pub fn exp(x: f64) -> f64 {

@@ -180,7 +180,7 @@ fn surface_passes(surface: &Surface) -> bool {
 }
 
 /// The layers of codes 2, 3 and 4, as the Rust lists them; none for the others.
-fn preset_layers(coating: u32) -> Vec<ThinFilmLayer> {
+pub fn preset_layers(coating: u32) -> Vec<ThinFilmLayer> {
     let preset = match coating {
         2 => SurfaceCoating::mgf2_default(),
         3 => SurfaceCoating::BroadbandAr,

@@ -98,10 +98,16 @@ pub fn varied() -> Plan {
 
 /// The largest sheet, 30,500 bytes: 64 surfaces with 16 layers each.
 pub fn largest() -> Plan {
+    even(64, 16)
+}
+
+/// So many surfaces with so many layers each; without layers they are bare.
+pub fn even(surfaces: usize, layers: usize) -> Plan {
     let mut rng = Rng::new(30_500);
     let mut plan = random_plan(&mut rng, 0, 0);
-    for _ in 0..64 {
-        let face = valid_face(&mut rng, 10, 16);
+    let payload = if layers == 0 { 0 } else { 10 };
+    for _ in 0..surfaces {
+        let face = valid_face(&mut rng, payload, layers);
         plan.surfaces.push(face);
     }
     plan

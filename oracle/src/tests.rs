@@ -1,8 +1,10 @@
-// Unit tests: section 2's edges, 01's known answers, sheets and trains, records, exports.
+// Unit tests: section 2's edges, 01's known answers, sheets and trains, records, exports, measured surfaces, what lies beyond the limits.
 
+mod beyond;
 #[cfg(feature = "proved")]
 mod exports;
 mod known;
+mod measure;
 mod records;
 mod scalar;
 mod sheets;

@@ -96,7 +96,7 @@ pub fn answers(surface: &Surface, wavelength: f64) -> Answers {
     }
 }
 
-fn powers(light: &Light) -> Powers {
+pub fn powers(light: &Light) -> Powers {
     match light {
         Light::Bare(powers) => *powers,
         Light::Coated(r) => Powers {

@@ -1,4 +1,4 @@
--- laws
-pub mod Triples
-pub mod Listed
-pub mod Outcomes
+-- Facts on what is returned, and on the refusals of the gate and of a surface's answers.
+pub mod Returned
+pub mod Places
+pub mod Answered

@@ -1,3 +1,2 @@
--- The C interface.
-pub mod Call
-pub mod Evaluate
+-- The C interface: what each call of the train answers.
+pub mod Train

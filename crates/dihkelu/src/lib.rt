@@ -1,88 +1,23 @@
-// The C interface. A list is lent as a pointer and a count of elements, two arguments one after the
-// other. No call that refuses changes a list.
+// The C interface (include/dihkelu.h). A list is lent as a pointer and a count of elements, two
+// arguments one after the other. No call that refuses changes a list: a refusal is its number times
+// 2^32 plus its place, which is 0 where document 01 gives none.
 ghost use mathlib.Core.Path.{_≡_};
-ghost use Prim.Native.Nat.{_<_, _^_};
-ghost use Rattle.dihkelu.specs.Call.{done, packed, written, answered};
-ghost use Rattle.dihkelu.specs.Evaluate.{coded, evaluate, response};
-use refusal::Refusal;
-use thin_film::Coating;
+ghost use Rattle.gate.specs.Gate as Gate;
+ghost use Rattle.gate.specs.Gate.{gated, gate};
+ghost use Rattle.flat_layers.specs.Evaluate.{evaluate};
+ghost use Rattle.call.specs.Call.{done, Apart, returned, answered};
+ghost use Rattle.call.specs.Layout.{evaluated, surface-answered};
+ghost use Rattle.optical_train.specs.Train.{step, run, surface-answers};
+ghost use Rattle.dihkelu.specs.Train.{begun, gone-on, taken, run-whole};
+use gate::Gated;
+use optical_train::State;
 use thin_film::Evaluation;
-use thin_film::SurfaceCoating;
-use transfer_matrix::CoatingResponse;
 
-mod flat;
-
-// A coating that a code stands for.
-pub enum Coded {
-    Known(SurfaceCoating),
-    Unknown,
-}
-
-fn coating_of(code: u32, design_wavelength_nm: f64) -> Coded
-    ensures { λ r. ⌜ r ≡ coded code «design_wavelength_nm» ⌝ }
-{
-    if code == 1 {
-        Coded::Known(SurfaceCoating::IdealAr)
-    } else if code == 2 {
-        Coded::Known(SurfaceCoating::MgF2 {
-            design_wavelength_nm,
-        })
-    } else if code == 3 {
-        Coded::Known(SurfaceCoating::BroadbandAr)
-    } else if code == 4 {
-        Coded::Known(SurfaceCoating::HighReflectanceMirror)
-    } else if code == 5 {
-        Coded::Known(SurfaceCoating::Custom(Coating::Multilayer))
-    } else if code == 6 {
-        Coded::Known(SurfaceCoating::Custom(Coating::IdealBeamsplitter))
-    } else if code == 7 {
-        Coded::Known(SurfaceCoating::Custom(Coating::IdealMirror))
-    } else if code == 8 {
-        Coded::Known(SurfaceCoating::Custom(Coating::IdealAr))
-    } else {
-        Coded::Unknown
-    }
-}
-
-// The response by its numbers, at the front of a list that is long enough.
-fn put(r: CoatingResponse, list: &mut [f64]) -> u64
-    ensures { λ n. ⌜ done n (now (list .exit)) ≡ written (response r) (now (list .entry)) ⌝ }
-{
-    if list.len() < 14 {
-        return 0x8_0000_0000;
-    }
-    let rs = r.rs;
-    let rp = r.rp;
-    let ts = r.ts;
-    let tp = r.tp;
-    list[0] = rs.re;
-    list[1] = rs.im;
-    list[2] = rp.re;
-    list[3] = rp.im;
-    list[4] = ts.re;
-    list[5] = ts.im;
-    list[6] = tp.re;
-    list[7] = tp.im;
-    list[8] = r.reflectance_s;
-    list[9] = r.reflectance_p;
-    list[10] = r.transmittance_s;
-    list[11] = r.transmittance_p;
-    list[12] = r.phase_rs_rad;
-    list[13] = r.phase_rp_rad;
-    14
-}
-
-// A refusal as one number.
-fn packed(r: Refusal) -> u64
-    requires { ⌜ r .place < 2 ^ 32 ⌝ }
-    ensures { λ n. ⌜ n ≡ packed (r .number) (r .place) ⌝ }
-{
-    r.number as u64 * 0x1_0000_0000 + r.place as u64
-}
+// ---- a coated surface
 
 // SurfaceCoating::evaluate: the coating by its code, its layers as n, k, thickness one after the
 // other. Writes the response to the front of list and returns the count of its numbers; or returns
-// a refusal, its number times 2^32: 1, then 3, then 8 for a list that is too short.
+// a refusal: 1, then 3, then 8 for a list that is too short.
 #[no_mangle]
 pub extern "C" fn dihkelu_evaluate(
     code: u32,
@@ -94,19 +29,111 @@ pub extern "C" fn dihkelu_evaluate(
     layers: &[f64],
     list: &mut [f64],
 ) -> u64
-    ensures { λ r. ⌜ done r (now (list .exit)) ≡ answered response (evaluate code «design_wavelength_nm» «n_incident» «n_substrate» «angle_incident_rad» «wavelength_nm» (now (layers .entry))) (now (list .entry)) ⌝ }
+    ensures { λ r. ⌜ done r (now (list .exit)) ≡ answered evaluated (evaluate code «design_wavelength_nm» «n_incident» «n_substrate» «angle_incident_rad» «wavelength_nm» (now (layers .entry))) (now (list .entry)) ⌝ }
 {
-    let coating = coating_of(code, design_wavelength_nm);
-    let evaluation = flat::evaluate(
-        coating,
-        layers,
+    let evaluation = flat_layers::evaluate(
+        code,
+        design_wavelength_nm,
         n_incident,
         n_substrate,
         angle_incident_rad,
         wavelength_nm,
+        layers,
     );
     match evaluation {
-        Evaluation::Response(r) => put(r, list),
-        Evaluation::Refused(r) => packed(r),
+        Evaluation::Response(r) => call::put_response(r, list),
+        Evaluation::Refused(r) => call::packed(r),
     }
+}
+
+// ---- the gate and the train
+
+// An answer of the gate as one number.
+fn number_of(g: Gated) -> u64
+    requires { ⌜ Apart (Gate.outcome g) ⌝ }
+    ensures { λ n. ⌜ n ≡ returned (Gate.outcome g) ⌝ }
+{
+    match g {
+        Gated::Admitted(count) => count as u64,
+        Gated::Refused(r) => call::packed(r),
+    }
+}
+
+// The gate: the count of surfaces, or a refusal: 4, 5 or 6.
+#[no_mangle]
+pub extern "C" fn dihkelu_gate(sheet: &[u8]) -> u64
+    ensures { λ r. ⌜ r ≡ returned (gate (now (sheet .entry))) ⌝ }
+{
+    number_of(gate::gate(sheet))
+}
+
+// A fresh train: writes the BEAM's s and p and returns the count of surfaces; or a refusal: 4, 5, 6,
+// then 8.
+#[no_mangle]
+pub extern "C" fn dihkelu_start(sheet: &[u8], list: &mut [f64]) -> u64
+    ensures { λ r. ⌜ done r (now (list .exit)) ≡ answered begun (gated (now (sheet .entry))) (now (list .entry)) ⌝ }
+{
+    match gate::gate(sheet) {
+        Gated::Admitted(count) => call::put_powers(
+            count as u64,
+            sheet::float_from(sheet, 4),
+            sheet::float_from(sheet, 6),
+            list,
+        ),
+        Gated::Refused(r) => call::packed(r),
+    }
+}
+
+// One surface on from a state of so many surfaces done, s and p: writes the next s and p and returns
+// the surfaces done; or a refusal: 4, 5, 6, 7, then 8.
+#[no_mangle]
+pub extern "C" fn dihkelu_step(
+    sheet: &[u8],
+    surfaces_done: u32,
+    s: f64,
+    p: f64,
+    list: &mut [f64],
+) -> u64
+    ensures { λ r. ⌜ done r (now (list .exit)) ≡ answered gone-on (taken (step (now (sheet .entry)) (record { done = «surfaces_done»; s = s; p = p }))) (now (list .entry)) ⌝ }
+{
+    let stepped = optical_train::step(
+        sheet,
+        State {
+            done: surfaces_done,
+            s,
+            p,
+        },
+    );
+    let refusal = stepped.refusal;
+    if refusal.number != 0 {
+        return call::packed(refusal);
+    }
+    let state = stepped.state;
+    call::put_powers(state.done as u64, state.s, state.p, list)
+}
+
+// A whole run: writes s, p after each surface and returns the count of surfaces; or a refusal: 4, 5,
+// 6, then 8 for a list shorter than 2 numbers for each surface.
+#[no_mangle]
+pub extern "C" fn dihkelu_run(sheet: &[u8], list: &mut [f64]) -> u64
+    ensures { λ r. ⌜ done r (now (list .exit)) ≡ run-whole (run (now (sheet .entry)) (now (list .entry))) ⌝ }
+{
+    number_of(optical_train::run(sheet, list))
+}
+
+// ---- a surface's answers
+
+// Of a sheet's surface, counted from 0: writes its answers and returns the count of their numbers; or
+// a refusal: 4, 5, 6, 7 where there is no such surface, then 8.
+#[no_mangle]
+pub extern "C" fn dihkelu_answers(sheet: &[u8], surface: u32, list: &mut [f64]) -> u64
+    ensures { λ r. ⌜ done r (now (list .exit)) ≡ answered surface-answered (surface-answers (now (sheet .entry)) surface) (now (list .entry)) ⌝ }
+{
+    let reply = optical_train::surface_answers(sheet, surface);
+    let refusal = reply.refusal;
+    if refusal.number != 0 {
+        return call::packed(refusal);
+    }
+    let answers = reply.answers;
+    call::put_answers(answers, list)
 }

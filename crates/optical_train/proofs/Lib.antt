@@ -2,3 +2,4 @@
 pub mod Along
 pub mod Written
 pub mod Answers
+pub mod Nth

@@ -1,3 +1,2 @@
--- The train of document 01: its calls, and demand 3.
+-- The train of document 01: its calls.
 pub mod Train
-pub mod Claim

@@ -8,6 +8,7 @@ use lib.Ieee.{Float, nan}
 use Rattle.ieee.specs.Operators.{_⊗_}
 use Rattle.refusal.specs.declared.Refusal.{Refusal}
 use Rattle.refusal.specs.Outcome.{Outcome, answer, refusal, refused, map}
+use Rattle.transfer_matrix.specs.declared.ThinFilmLayer.{ThinFilmLayer}
 use Rattle.surface.specs.declared.Powers.{Powers}
 use Rattle.surface.specs.declared.Answers.{Answers}
 use Rattle.surface.specs.Answers.{answers, powers, no-answers}
@@ -20,13 +21,18 @@ use Rattle.optical_train.specs.declared.Started.{Started}
 use Rattle.optical_train.specs.declared.Started.the-variants as S
 use Rattle.optical_train.specs.declared.Stepped.{Stepped}
 use Rattle.optical_train.specs.declared.SurfaceReply.{SurfaceReply}
+use Rattle.optical_train.specs.declared.NumberedSurface.{NumberedSurface}
+use Rattle.optical_train.specs.declared.NthSurface.{NthSurface}
+use Rattle.optical_train.specs.declared.NthSurface.the-variants as N
+use Rattle.optical_train.specs.declared.NthLayer.{NthLayer}
+use Rattle.optical_train.specs.declared.NthLayer.the-variants as L
 
 -- ---- a surface
 -- the R_s or T_s and the R_p or T_p of its answers, as chosen by the lowest payload bit
 abbrev pub chosen : Bool → Powers → Chosen
 chosen reflected r = record { s = cond reflected (r .«reflectance_s») (r .«transmittance_s»); p = cond reflected (r .«reflectance_p») (r .«transmittance_p») }
 
--- NaN where a surface has no powers, which no surface within the limits is without (`Claim`)
+-- NaN where a surface has no powers, which no surface within the limits is without (crate `train_claim`)
 abbrev pub chosen-of : Bool → Outcome Powers → Chosen
 chosen-of reflected (answer r) = chosen reflected r
 chosen-of reflected (refusal number place) = record { s = nan; p = nan }
@@ -90,6 +96,38 @@ ran list (refusal number place) = record { result = refusal number place; list =
 
 unfoldable pub run : List ℕ → List Float → Ran
 run src list = ran list (gated src)
+
+-- ---- the surfaces of a sheet by their numbers, counted from 0; 7 where there is no such surface
+abbrev pub surface-of : ℕ → Outcome Sheet → Outcome Surface
+surface-of i (answer x) = cond (ltb i (length (x .surfaces))) (answer (nth (x .surfaces) i)) (refusal 7 0)
+surface-of i (refusal number place) = refusal number place
+
+-- its words, and how many LAYERs it has
+abbrev pub numbered : Surface → NumberedSurface
+numbered y = record { surface = window y; layers = length (y .layers) }
+
+unfoldable pub nth-surface : List ℕ → ℕ → Outcome NumberedSurface
+nth-surface src i = map numbered (surface-of i (gated src))
+
+-- its j-th LAYER, counted from 0; 7 where there is no such layer
+abbrev pub no-film : ThinFilmLayer
+no-film = record { n = nan; k = nan; «thickness_nm» = nan }
+
+abbrev pub layer-of : ℕ → Outcome Surface → Outcome ThinFilmLayer
+layer-of j (answer y) = cond (ltb j (length (y .layers))) (answer (getD (films (y .layers)) j no-film)) (refusal 7 0)
+layer-of j (refusal number place) = refusal number place
+
+unfoldable pub nth-layer : List ℕ → ℕ → ℕ → Outcome ThinFilmLayer
+nth-layer src i j = layer-of j (surface-of i (gated src))
+
+-- document 01's number and values for each case
+abbrev pub surface-outcome : NthSurface → Outcome NumberedSurface
+surface-outcome (N.Surface y) = answer y
+surface-outcome (N.Refused r) = refused r
+
+abbrev pub layer-outcome : NthLayer → Outcome ThinFilmLayer
+layer-outcome (L.Layer l) = answer l
+layer-outcome (L.Refused r) = refused r
 
 -- ---- the answers of a sheet's surface, counted from 0; 7 where there is no such surface
 abbrev pub answers-to : ℕ → Outcome Sheet → Outcome Answers

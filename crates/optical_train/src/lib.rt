@@ -10,12 +10,14 @@ ghost use Rattle.sheet.specs.Read.{read, decode, surface-at};
 ghost use Rattle.sheet.specs.Scan.{run as layer-count};
 ghost use Rattle.sheet_values.specs.Values.{layers-at};
 ghost use Rattle.gate.specs.Gate as Gate;
-ghost use Rattle.optical_train.specs.Train.{chosen, chosen-powers, nth, fresh, start, outcome, past, step, after-each, run, surface-answers, given};
+ghost use Rattle.optical_train.specs.Train.{chosen, chosen-powers, nth, fresh, start, outcome, past, step, after-each, run, surface-answers, given, nth-surface, surface-outcome, nth-layer, layer-outcome};
 use gate::Gated;
 use refusal::Refusal;
 use sheet_answers::PowersReply;
 use surface::Answers;
 use surface::Powers;
+use surface::Surface;
+use transfer_matrix::ThinFilmLayer;
 
 // ---- a surface
 
@@ -229,5 +231,69 @@ pub fn surface_answers(src: &[u8], i: u32) -> SurfaceReply
             }
         }
         Gated::Refused(r) => refused(r),
+    }
+}
+
+// ---- the surfaces of a sheet by their numbers, counted from 0
+
+// A SURFACE's words, and how many LAYERs stand behind it.
+pub struct NumberedSurface {
+    pub surface: Surface,
+    pub layers: usize,
+}
+
+pub enum NthSurface {
+    Surface(NumberedSurface),
+    Refused(Refusal),
+}
+
+// The i-th surface.
+pub fn nth_surface(src: &[u8], i: u32) -> NthSurface
+    ensures { λ r. ⌜ surface-outcome r ≡ nth-surface (now (src .entry)) i ⌝ }
+{
+    match gate::gate(src) {
+        Gated::Admitted(count) => {
+            if i >= count {
+                return NthSurface::Refused(Refusal {
+                    number: 7,
+                    place: 0,
+                });
+            }
+            let at = place_of(src, i);
+            let surface = sheet_values::surface_at(src, at);
+            let layers = sheet::layer_run(src, at);
+            NthSurface::Surface(NumberedSurface { surface, layers })
+        }
+        Gated::Refused(r) => NthSurface::Refused(r),
+    }
+}
+
+pub enum NthLayer {
+    Layer(ThinFilmLayer),
+    Refused(Refusal),
+}
+
+// The j-th LAYER of the i-th surface.
+pub fn nth_layer(src: &[u8], i: u32, j: usize) -> NthLayer
+    ensures { λ r. ⌜ layer-outcome r ≡ nth-layer (now (src .entry)) i j ⌝ }
+{
+    match gate::gate(src) {
+        Gated::Admitted(count) => {
+            if i >= count {
+                return NthLayer::Refused(Refusal {
+                    number: 7,
+                    place: 0,
+                });
+            }
+            let at = place_of(src, i);
+            if j >= sheet::layer_run(src, at) {
+                return NthLayer::Refused(Refusal {
+                    number: 7,
+                    place: 0,
+                });
+            }
+            NthLayer::Layer(sheet_answers::layer_behind(src, at, j))
+        }
+        Gated::Refused(r) => NthLayer::Refused(r),
     }
 }

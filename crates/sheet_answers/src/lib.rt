@@ -32,7 +32,7 @@ pub enum PowersReply {
 }
 
 // The j-th LAYER behind the block at a place. Past the last word all are alike.
-fn layer_behind(src: &[u8], at: usize, j: usize) -> ThinFilmLayer
+pub fn layer_behind(src: &[u8], at: usize, j: usize) -> ThinFilmLayer
     ensures { λ r. ⌜ r ≡ film (layer-at (now (src .entry)) (at + 7 + 7 * j)) ⌝ }
 {
     let total = src.len() / 4;

@@ -1,0 +1,3 @@
+-- Facts on lists that numbers are written to.
+pub mod Front
+pub mod Answers

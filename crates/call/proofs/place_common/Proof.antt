@@ -1,0 +1,91 @@
+-- `call::place_common` meets its contract. Assumes nothing.
+use mathlib.Core.Path.{_≡_, ap, _∙_}
+use mathlib.Core.List.{List, [], _++_}
+use Prim.Native.Nat.{ℕ, _+_}
+use lib.ListN.{length, take, drop}
+use lib.Ieee.{Float}
+use Rattle.surface.specs.declared.Answers.{Answers}
+use Rattle.call.specs.Layout.{jones, mueller, head, common}
+use Rattle.call.proofs.Front.{Front, nothing, more}
+use borrow.Author.Needs.{needs}
+use Rattle.call.proofs.place_common.Statement.{statement}
+use Rattle.call.proofs.place_common.Tie as tie
+
+abbrev Placed : ℕ → List Float → List Float → List Float → Type 0
+Placed at numbers list next = next ≡ take at list ++ numbers ++ drop (at + length numbers) list
+
+module _ (a : Answers) (l₀ l₁ l₂ l₃ l₄ l₅ h j k m t : List Float) (eh : h ≡ head a) (ej : j ≡ jones (a .reflection)) (ek : k ≡ jones (a .transmission)) (em : m ≡ mueller (a .«reflection_mueller»)) (et : t ≡ mueller (a .«transmission_mueller»))
+    (p₁ : Placed 0 h l₀ l₁) (p₂ : Placed 5 j l₁ l₂) (p₃ : Placed 13 k l₂ l₃) (p₄ : Placed 21 m l₃ l₄) (p₅ : Placed 37 t l₄ l₅) where
+  all : l₅ ≡ common a ++ drop 53 l₀
+  all =
+      let f₁ = more l₀ l₀ [] 0 (nothing l₀) h 5 (ap length eh) l₁ p₁ in
+      let f₂ = more l₀ l₁ h 5 f₁ j 8 (ap length ej) l₂ p₂ in
+      let f₃ = more l₀ l₂ (h ++ j) 13 f₂ k 8 (ap length ek) l₃ p₃ in
+      let f₄ = more l₀ l₃ (h ++ j ++ k) 21 f₃ m 16 (ap length em) l₄ p₄ in
+      let f₅ = more l₀ l₄ (h ++ j ++ k ++ m) 37 f₄ t 16 (ap length et) l₅ p₅ in
+      f₅ .is ∙ rw (eh, ej, ek, em, et)
+
+head-requires : tie.Need-head-requires
+head-requires c κs = search needs
+
+slice-aggregate-place : tie.Need-slice-aggregate-place
+slice-aggregate-place c = search needs
+
+place-requires : tie.Need-place-requires
+place-requires c κs = search needs
+
+jones-requires : tie.Need-jones-requires
+jones-requires c κs = search needs
+
+slice-aggregate-place-2 : tie.Need-slice-aggregate-place-2
+slice-aggregate-place-2 c = search needs
+
+place-requires-2 : tie.Need-place-requires-2
+place-requires-2 c κs = search needs
+
+jones-requires-2 : tie.Need-jones-requires-2
+jones-requires-2 c κs = search needs
+
+slice-aggregate-place-3 : tie.Need-slice-aggregate-place-3
+slice-aggregate-place-3 c = search needs
+
+place-requires-3 : tie.Need-place-requires-3
+place-requires-3 c κs = search needs
+
+mueller-requires : tie.Need-mueller-requires
+mueller-requires c κs = search needs
+
+slice-aggregate-place-4 : tie.Need-slice-aggregate-place-4
+slice-aggregate-place-4 c = search needs
+
+place-requires-4 : tie.Need-place-requires-4
+place-requires-4 c κs = search needs
+
+mueller-requires-2 : tie.Need-mueller-requires-2
+mueller-requires-2 c κs = search needs
+
+slice-aggregate-place-5 : tie.Need-slice-aggregate-place-5
+slice-aggregate-place-5 c = search needs
+
+place-requires-5 : tie.Need-place-requires-5
+place-requires-5 c κs = search needs
+
+same-length : tie.Need-same-length
+same-length c = search needs
+
+returns : tie.Need-returns
+returns c =
+    let at₅ = c .before .before in
+    let second = at₅ .before .before .before in
+    let at₄ = second .before .before .before in
+    let first = at₄ .before .before .before in
+    let at₃ = first .before .before .before .before .before in
+    let through = at₃ .before .before .before in
+    let at₂ = through .before .before .before in
+    let back = at₂ .before .before .before in
+    let at₁ = back .before .before .before .before .before in
+    let start = at₁ .before .before .before in
+    all (start .before .before .args .a) _ _ _ _ _ _ _ _ _ _ _ (start .head .ensures) (back .jones .ensures) (through .jones2 .ensures) (first .mueller .ensures) (second .mueller2 .ensures) (at₁ .place .ensures) (at₂ .place2 .ensures) (at₃ .place3 .ensures) (at₄ .place4 .ensures) (at₅ .place5 .ensures)
+
+pub place-common-spec : {M : Type 1} → statement M
+place-common-spec = tie.close (tie.spec head-requires slice-aggregate-place place-requires jones-requires slice-aggregate-place-2 place-requires-2 jones-requires-2 slice-aggregate-place-3 place-requires-3 mueller-requires slice-aggregate-place-4 place-requires-4 mueller-requires-2 slice-aggregate-place-5 place-requires-5 same-length returns)

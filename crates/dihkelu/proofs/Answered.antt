@@ -1,0 +1,64 @@
+-- The refusals of a surface's answers, and what a reply tells of them. Assumes nothing.
+use mathlib.Core.Path.{_≡_, refl, sym, ap, _∙_}
+use mathlib.Core.Bool.{Bool, true, false, cond}
+use mathlib.Core.List.{List}
+use Prim.Native.Nat.{ℕ, _<_}
+use native.Mathlib.Omega.{arith}
+use lib.Dec.{ltb}
+use lib.ListN.{length}
+use lib.Ieee.{Float}
+use Rattle.refusal.specs.Outcome.{Outcome, answer, refusal, refused, invalid-parameter}
+use Rattle.elementary.specs.Trig.{sin, cos}
+use Rattle.transfer_matrix.specs.declared.ThinFilmLayer.{ThinFilmLayer}
+use Rattle.thin_film.specs.Evaluate.{evaluate-surface}
+use Rattle.polarization.specs.Surface.{invalid, bare, surface-fresnel-jones}
+use Rattle.surface.specs.declared.Surface as Window
+use Rattle.surface.specs.declared.Answers.{Answers}
+use Rattle.surface.specs.declared.Interface.{Interface}
+use Rattle.surface.specs.declared.Interface.the-variants.{Bare, Coated}
+use Rattle.surface.specs.Coating.{interface}
+use Rattle.surface.specs.Answers.{coated-answers, bare-answers, answers-of, answers}
+use Rattle.sheet.specs.Sheet.{Sheet}
+use Rattle.sheet_values.specs.Values.{value, films, window}
+use Rattle.gate.specs.Gate.{gated}
+use Rattle.optical_train.specs.declared.SurfaceReply.{SurfaceReply}
+use Rattle.optical_train.specs.Train.{nth, answers-to, surface-answers, given}
+use Rattle.flat_layers.proofs.Plain.{Plain, either, mapped, of-surface}
+use Rattle.dihkelu.proofs.Returned.{Sound, plain-sound}
+use Rattle.dihkelu.proofs.Places.{gate-sound}
+
+module _ (wavelength : Float) (s : Window.Surface) (layers : List ThinFilmLayer) where
+  fresnel : Plain (surface-fresnel-jones (s .«n_incident») (s .«n_substrate») (s .«angle_rad»))
+  unfolding surface-fresnel-jones
+  fresnel =
+      let n₁ = s .«n_incident» in
+      let n₂ = s .«n_substrate» in
+      let θ = s .«angle_rad» in
+      either (invalid n₁ n₂ θ) invalid-parameter (answer (bare n₁ n₂ (sin θ) (cos θ))) (omega arith, refl) tt
+
+  of-interface : (k : Interface) → Plain (answers-of k wavelength s layers)
+  unfolding answers-of bare-answers
+  of-interface Bare = mapped _ (surface-fresnel-jones (s .«n_incident») (s .«n_substrate») (s .«angle_rad»)) fresnel
+  of-interface (Coated coating) = mapped coated-answers (evaluate-surface coating layers (s .«n_incident») (s .«n_substrate») (s .«angle_rad») wavelength) (of-surface (s .«n_incident») (s .«n_substrate») (s .«angle_rad») wavelength coating layers)
+
+-- ---- a surface of a sheet
+pub answers-sound : (src : List ℕ) (i : ℕ) → Sound (surface-answers src i)
+unfolding surface-answers
+answers-sound src i = go (gated src) (gate-sound src)
+  where
+    go : (o : Outcome Sheet) → Sound o → Sound (answers-to i o)
+    go (answer x) h =
+        let y = nth (x .surfaces) i in
+        plain-sound (answers-to i (answer x)) (either (ltb i (length (x .surfaces))) _ (refusal 7 0) (of-interface (value (x .wavelength)) (window y) (films (y .layers)) (interface (window y .coating))) (omega arith, refl))
+    go (refusal number place) h = h
+
+-- ---- the reply's number is 0 exactly for an answer
+pub turned-back : (o : Outcome Answers) (r : SurfaceReply) → r ≡ given o → (r .refusal .number ≡ 0 → ⊥) → refused (r .refusal) ≡ o
+unfolding given
+turned-back (answer a) r e h = absurd (h (ap (λ (z : SurfaceReply). z .refusal .number) e))
+turned-back (refusal number place) r e h = ap (λ (z : SurfaceReply). refused (z .refusal)) e
+
+pub answered : (o : Outcome Answers) (r : SurfaceReply) → Sound o → r ≡ given o → r .refusal .number ≡ 0 → answer (r .answers) ≡ o
+unfolding given
+answered (answer a) r s e h = ap (λ (z : SurfaceReply). answer (z .answers)) e
+answered (refusal number place) r s e h = absurd (omega (arith, s .0, sym (ap (λ (z : SurfaceReply). z .refusal .number) e) ∙ h))

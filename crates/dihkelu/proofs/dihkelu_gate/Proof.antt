@@ -1,0 +1,28 @@
+-- `dihkelu::dihkelu_gate` meets its contract. Assumes nothing.
+use mathlib.Core.Path.{_≡_, sym, ap, _∙_, subst}
+use mathlib.Core.List.{List}
+use Prim.Native.Nat.{ℕ}
+use borrow.Author.Needs.{needs}
+use Rattle.refusal.specs.Outcome.{Outcome}
+use Rattle.gate.specs.Gate.{surfaces-of, gated, gate}
+use Rattle.call.specs.Call.{Apart, returned}
+use Rattle.dihkelu.proofs.Places.{gate-apart}
+use Rattle.dihkelu.proofs.Returned.{apart-map}
+use Rattle.dihkelu.proofs.dihkelu_gate.Statement.{statement}
+use Rattle.dihkelu.proofs.dihkelu_gate.Tie as tie
+
+gate-requires : tie.Need-gate-requires
+gate-requires c κs = search needs
+
+apart : (src : List ℕ) (o : Outcome ℕ) → o ≡ gate src → Apart o
+unfolding gate
+apart src o e = subst Apart (sym e) (apart-map surfaces-of (gated src) (gate-apart src))
+
+number-of-requires : tie.Need-number-of-requires
+number-of-requires c κs = apart _ _ (c .gate .ensures)
+
+returns : tie.Need-returns
+returns c = c .number-of .ensures ∙ ap returned (c .before .gate .ensures)
+
+pub dihkelu-gate-spec : {M : Type 1} → statement M
+dihkelu-gate-spec = tie.close (tie.spec gate-requires number-of-requires returns)

@@ -1,0 +1,32 @@
+-- What dihkelu_start, dihkelu_step and dihkelu_run return and write, over document 01's train. Definitions only.
+use mathlib.Core.Bool.{cond}
+use Prim.Native.Nat.{ℕ}
+use lib.Dec.{eqb}
+use Rattle.refusal.specs.Outcome.{Outcome, answer, refusal}
+use Rattle.sheet.specs.Sheet.{Sheet}
+use Rattle.gate.specs.Gate.{surfaces-of}
+use Rattle.optical_train.specs.declared.State.{State}
+use Rattle.optical_train.specs.declared.Stepped.{Stepped}
+use Rattle.optical_train.specs.Train.{fresh, Ran}
+use Rattle.call.specs.Call.{Done, done, Reply, returned}
+use Rattle.call.specs.Layout.{both}
+
+-- s, p
+abbrev pub powers : ℕ → State → Reply
+powers returned st = both returned (st .s) (st .p)
+
+-- dihkelu_start: the count of surfaces, and the BEAM's powers
+abbrev pub begun : Sheet → Reply
+begun x = powers (surfaces-of x) (fresh x)
+
+-- dihkelu_step: the surfaces done, and the powers after them
+abbrev pub gone-on : State → Reply
+gone-on st = powers (st .done) st
+
+-- a step's state, or its refusal, whose number is not 0
+abbrev pub taken : Stepped → Outcome State
+taken r = cond (eqb (r .refusal .number) 0) (answer (r .state)) (refusal (r .refusal .number) (r .refusal .place))
+
+-- dihkelu_run: the count of surfaces, and the list as the run leaves it
+abbrev pub run-whole : Ran → Done
+run-whole r = done (returned (r .result)) (r .list)

@@ -1,0 +1,4 @@
+-- laws
+pub mod Triples
+pub mod Listed
+pub mod Plain

@@ -1,0 +1,166 @@
+-- Demand 3. Assumes nothing.
+use mathlib.Core.Path.{_≡_, refl, sym, ap, _∙_, subst}
+use mathlib.Core.Bool.{Bool, true, false, cond}
+use mathlib.Core.List.{List, [], _∷_, _++_}
+use Prim.Native.Nat.{ℕ, zero, suc, _+_, _*_, _≤_, _<_}
+use native.Mathlib.Nat.{add-zero, add-suc}
+use native.Mathlib.Omega.{arith}
+use lib.Dec.{T, ltb}
+use lib.ListN.{length, getD, take, drop}
+use lib.Ieee.{Float}
+use lib.Ieee.Fits.{and-l, and-r}
+use borrow.Author.Tests.{lt-ltb, le-ltb, le-leb, ltb-true, ltb-false}
+use Rattle.refusal.specs.Outcome.{Outcome, answer, refusal, map}
+use Rattle.surface.specs.declared.Powers.{Powers}
+use Rattle.surface.specs.Limits.{wavelength-passes, power-passes, beam-passes}
+use Rattle.surface.specs.Answers.{powers}
+use Rattle.surface.specs.Finite.{UnitPowers}
+use Rattle.surface.proofs.Alone.{powers-answered}
+use Rattle.sheet.specs.Sheet.{Surface, Sheet, All, GoodSurface, WellFormed, encode}
+use Rattle.sheet.proofs.Claim.{grammar-claim}
+use Rattle.sheet_values.specs.Values.{value, films, window}
+use Rattle.gate.specs.Gate.{gated}
+use Rattle.gate.specs.Claim.{Within}
+use Rattle.gate.proofs.Claim.{gate-claim}
+use Rattle.optical_train.specs.declared.Chosen.{Chosen}
+use Rattle.optical_train.specs.declared.State.{State}
+use Rattle.optical_train.specs.declared.Stepped.{Stepped}
+use Rattle.optical_train.specs.Train.{chosen, chosen-of, chosen-powers, nth, fresh, start, past, stepped, step, after-each, Ran, ran, run}
+use Rattle.optical_train.proofs.Answers.{all-nth, Good, wavelength-within, answered}
+use Rattle.train_claim.specs.Claim.{worked-out, Action, a-step, act, acts, steps, Falls, AllFall, AnsweredWhole, Admitted, TrainClaim}
+use Rattle.train_claim.proofs.Falls.{Unit-powers, stays, taken, unit, begun, power-finite, sum-finite}
+use Rattle.train_claim.proofs.Values.{first, done-is, taken-on, all-done, coasts}
+use Rattle.train_claim.proofs.Writes.{each-s, each-p, left-alone}
+
+-- ---- the chosen powers of a surface that is answered are from 0 to 1
+module _ (w : Float) (y : Surface) where
+  chosen-unit : (b : Bool) (r : Powers) → UnitPowers r → T (power-passes (chosen b r .s)) × T (power-passes (chosen b r .p))
+  chosen-unit true r u = (u .reflectance-s, u .reflectance-p)
+  chosen-unit false r u = (u .transmittance-s, u .transmittance-p)
+
+  factor-unit : AnsweredWhole w y → T (power-passes (chosen-powers w y .s)) × T (power-passes (chosen-powers w y .p))
+  unfolding chosen-powers
+  factor-unit a = rw (a .powers) (chosen-unit (window y .reflected) (a .answered .value .powers) (a .answered .powers))
+
+answered-all : (w : Float) → T (wavelength-passes w) → (ys : List Surface) → All GoodSurface ys → All (Good w) ys → All (AnsweredWhole w) ys
+answered-all w t [] g h = tt
+answered-all w t (y ∷ ys) g h =
+    let a = answered w t y (h .0) (g .0 .few) in
+    (record { answered = a; powers = powers-answered w (window y) (films (y .layers)) (a .value) (a .is) }, answered-all w t ys (g .1) (h .1))
+
+-- ---- one admitted sheet
+module _ (x : Sheet) (formed : WellFormed x) (inside : Within x) where
+  src : List ℕ
+  src = encode x
+
+  abbrev w : Float
+  w = value (x .wavelength)
+
+  abbrev xs : List Surface
+  xs = x .surfaces
+
+  is-admitted : gated src ≡ answer x
+  unfolding src
+  is-admitted = gate-claim .admits (encode x) (grammar-claim .fits x formed .1) x .1 ((formed, inside), refl)
+
+  all-answered : All (AnsweredWhole w) xs
+  all-answered = answered-all w (wavelength-within x inside) xs (formed .surfaces) (inside .surfaces)
+
+  -- ---- one step
+  fresh-unit : Unit-powers (fresh x)
+  unfolding beam-passes
+  fresh-unit =
+      let b = and-r (wavelength-passes w) _ (inside .beam) in
+      begun 0 (x .s) (x .p) (and-l (power-passes (value (x .s))) (power-passes (value (x .p))) b) (and-r (power-passes (value (x .s))) (power-passes (value (x .p))) b)
+
+  record Step (n : ℕ) (st : State) : Type 0 where
+    is : act src a-step st ≡ worked-out x (suc n)
+    falls : Falls st (act src a-step st)
+    powers : Unit-powers (act src a-step st)
+
+  moves : (n : ℕ) (st : State) → st ≡ worked-out x n → Unit-powers st → n < length xs → Step n st
+  unfolding step past
+  moves n st e u h =
+      let d : st .done ≡ n = ap (λ (z : State). z .done) e ∙ done-is x n h in
+      let l : st .done < length xs = omega arith in
+      let a : act src a-step st ≡ past w st (nth xs (st .done)) = steps-on l in
+      let f = factor-unit w (nth xs (st .done)) (all-nth (AnsweredWhole w) xs (st .done) all-answered l) in
+      record {
+        is = a ∙ ap (λ (k : ℕ). past w st (nth xs k)) d ∙ ap (λ (z : State). past w z (nth xs n)) e ∙ taken-on x n h;
+        falls = subst (Falls st) (sym a) (falling l f);
+        powers = subst Unit-powers (sym a) (still l f);
+      }
+    where
+      steps-on : st .done < length xs → act src a-step st ≡ past w st (nth xs (st .done))
+      steps-on l = ap (λ (o : Outcome Sheet). stepped st o .state) is-admitted ∙ rw (lt-ltb (st .done) (length xs) l)
+
+      falling : st .done < length xs → T (power-passes (chosen-powers w (nth xs (st .done)) .s)) × T (power-passes (chosen-powers w (nth xs (st .done)) .p)) → Falls st (past w st (nth xs (st .done)))
+      falling l f = taken st u (st .done + 1) (chosen-powers w (nth xs (st .done))) (f .0) (f .1)
+
+      still : st .done < length xs → T (power-passes (chosen-powers w (nth xs (st .done)) .s)) × T (power-passes (chosen-powers w (nth xs (st .done)) .p)) → Unit-powers (past w st (nth xs (st .done)))
+      still l f = unit st u (st .done + 1) (chosen-powers w (nth xs (st .done))) (f .0) (f .1)
+
+  rests : (n : ℕ) (st : State) → st ≡ worked-out x n → Unit-powers st → length xs ≤ n → Step n st
+  unfolding step
+  rests n st e u h =
+      let d : st .done ≡ length xs = ap (λ (z : State). z .done) e ∙ all-done x n h in
+      let a : act src a-step st ≡ st = refused (omega arith) in
+      record { is = a ∙ e ∙ coasts x n h; falls = subst (Falls st) (sym a) (stays st u); powers = subst Unit-powers (sym a) u }
+    where
+      refused : length xs ≤ st .done → act src a-step st ≡ st
+      refused l = ap (λ (o : Outcome Sheet). stepped st o .state) is-admitted ∙ rw (le-ltb (st .done) (length xs) l)
+
+  one-step : (n : ℕ) (st : State) → st ≡ worked-out x n → Unit-powers st → Step n st
+  one-step n st e u = go (ltb n (length xs)) refl
+    where
+      go : (b : Bool) → ltb n (length xs) ≡ b → Step n st
+      go true t = moves n st e u (ltb-true n (length xs) t)
+      go false t = rests n st e u (ltb-false n (length xs) t)
+
+  -- ---- every list
+  from : (actions : List Action) (n : ℕ) (st : State) → st ≡ worked-out x n → Unit-powers st → (acts src actions st ≡ worked-out x (n + steps actions)) × AllFall src actions st
+  from [] n st e u = (e ∙ ap (worked-out x) (sym (add-zero n)), tt)
+  from (a-step ∷ more) n st e u =
+      let s = one-step n st e u in
+      let r = from more (suc n) (act src a-step st) (s .is) (s .powers) in
+      (r .0 ∙ ap (worked-out x) (on n (steps more)), (s .falls, r .1))
+    where
+      on : (n m : ℕ) → suc n + m ≡ n + suc m
+      on n m = omega arith
+
+  lists : (actions : List Action) → (acts src actions (fresh x) ≡ worked-out x (steps actions)) × AllFall src actions (fresh x)
+  lists actions =
+      let r = from actions 0 (fresh x) (sym (first x)) fresh-unit in
+      (r .0 ∙ ap (worked-out x) (zero-on (steps actions)), r .1)
+    where
+      zero-on : (n : ℕ) → 0 + n ≡ n
+      zero-on n = omega arith
+
+  unit-after : (n : ℕ) → Unit-powers (worked-out x n)
+  unit-after zero = subst Unit-powers (sym (first x)) fresh-unit
+  unit-after (suc n) = let s = one-step n (worked-out x n) refl (unit-after n) in subst Unit-powers (s .is) (s .powers)
+
+  -- ---- the whole run
+  module _ (list : List Float) (room : 2 * length xs ≤ length list) where
+    ran-whole : run src list ≡ record { result = answer (length xs); list = after-each w (fresh x) xs ++ drop (2 * length xs) list }
+    unfolding run
+    ran-whole = ap (ran list) is-admitted ∙ rw (le-leb (2 * length xs) (length list) room)
+
+    entry : (d : Float) (i : ℕ) → getD (run src list .list) i d ≡ getD (after-each w (fresh x) xs ++ drop (2 * length xs) list) i d
+    entry d i = ap (λ (r : Ran). getD (r .list) i d) ran-whole
+
+  pub admitted : Admitted (encode x) x
+  unfolding src start worked-out
+  admitted = record {
+    starts = ap (map fresh) is-admitted;
+    lists = lists;
+    runs = λ list room. ap (λ (r : Ran). r .result) (ran-whole list room);
+    writes-s = λ list room d i h. entry list room d (2 * i) ∙ each-s w d (drop (2 * length xs) list) (fresh x) xs i h;
+    writes-p = λ list room d i h. entry list room d (2 * i + 1) ∙ each-p w d (drop (2 * length xs) list) (fresh x) xs i h;
+    leaves = λ list room d i h. entry list room d i ∙ left-alone w d (fresh x) xs list i h;
+    answers = all-answered;
+    finite = λ n. let u = unit-after n in ((power-finite _ (u .s), power-finite _ (u .p)), sum-finite _ _ (u .s) (u .p));
+  }
+
+pub train-claim : TrainClaim
+train-claim = record { gate = gate-claim; admitted = admitted }

@@ -1,0 +1,91 @@
+-- Demand 3, whole. Types only; `proofs/Claim.antt` inhabits `TrainClaim`.
+use mathlib.Core.Path.{_≡_}
+use mathlib.Core.Bool.{_&&_}
+use mathlib.Core.List.{List, [], _∷_}
+use Prim.Native.Nat.{ℕ, suc, _+_, _*_, _≤_, _<_, min}
+use lib.Dec.{T}
+use lib.ListN.{length, getD, take}
+use lib.Ieee.{Float, le}
+use Rattle.ieee.specs.Operators.{_⊗_, _⊕_}
+use Rattle.ieee.specs.Functions.{zero-f}
+use Rattle.refusal.specs.Outcome.{answer, refusal}
+use Rattle.surface.specs.Answers.{powers}
+use Rattle.surface.specs.Finite as Finite
+use Rattle.surface.specs.Finite.{Finite}
+use Rattle.sheet.specs.Sheet.{Surface, Sheet, All, WellFormed, encode}
+use Rattle.sheet_values.specs.Values.{value, films, window}
+use Rattle.gate.specs.Claim.{Within, GateClaim}
+use Rattle.optical_train.specs.declared.State.{State}
+use Rattle.optical_train.specs.Train.{chosen-powers, fresh, start, step, run}
+
+-- ---- section 7's values, from a sheet's data alone: the BEAM's powers, multiplied in sheet order by the chosen powers of so many surfaces from the first on
+unfoldable pub product : Float → List Float → Float
+product x [] = x
+product x (y ∷ ys) = product (x ⊗ y) ys
+
+unfoldable pub chosen-s : Float → List Surface → List Float
+chosen-s wavelength [] = []
+chosen-s wavelength (y ∷ ys) = chosen-powers wavelength y .s ∷ chosen-s wavelength ys
+
+unfoldable pub chosen-p : Float → List Surface → List Float
+chosen-p wavelength [] = []
+chosen-p wavelength (y ∷ ys) = chosen-powers wavelength y .p ∷ chosen-p wavelength ys
+
+-- after n steps: surfaces done is the smaller of the number of steps and END's count
+unfoldable pub worked-out : Sheet → ℕ → State
+worked-out x n =
+    let w = value (x .wavelength) in
+    record { done = min n (length (x .surfaces)); s = product (value (x .s)) (chosen-s w (take n (x .surfaces))); p = product (value (x .p)) (chosen-p w (take n (x .surfaces))) }
+
+-- ---- a list of actions, all with one sheet
+pub data Action : Type 0 where
+  a-step : Action
+
+-- the state that an action returns, which is the state as before where it was refused
+abbrev pub act : List ℕ → Action → State → State
+act src a-step st = step src st .state
+
+abbrev pub acts : List ℕ → List Action → State → State
+acts src [] st = st
+acts src (a ∷ more) st = acts src more (act src a st)
+
+-- how many of them are steps
+abbrev pub steps : List Action → ℕ
+steps [] = 0
+steps (a-step ∷ more) = suc (steps more)
+
+-- s and p are at least zero and no larger than they were, and so is their sum; by value, zeros of both signs being equal
+pub record Falls (old new : State) : Type 0 where
+  pub s : T (le zero-f (new .s) && le (new .s) (old .s))
+  pub p : T (le zero-f (new .p) && le (new .p) (old .p))
+  pub sum : T (le zero-f (new .s ⊕ new .p) && le (new .s ⊕ new .p) (old .s ⊕ old .p))
+
+-- at each action of a list
+abbrev pub AllFall : List ℕ → List Action → State → Type 0
+AllFall src [] st = Unit
+AllFall src (a ∷ more) st = Falls st (act src a st) × AllFall src more (act src a st)
+
+-- ---- every power, amplitude, phase, Jones and Mueller entry of a surface's answers is finite, and its powers alone are those of its answers
+pub record AnsweredWhole (wavelength : Float) (y : Surface) : Type 0 where
+  pub answered : Finite.Answered wavelength (window y) (films (y .layers))
+  pub powers : powers wavelength (window y) (films (y .layers)) ≡ answer (answered .value .powers)
+
+-- ---- the claim for one admitted sheet
+pub record Admitted (src : List ℕ) (x : Sheet) : Type 0 where
+  -- the first step has Start
+  pub starts : start src ≡ answer (fresh x)
+  -- over every list of actions, the refused ones included: the values at its end, and the bounds at each of its actions
+  pub lists : (actions : List Action) → (acts src actions (fresh x) ≡ worked-out x (steps actions)) × AllFall src actions (fresh x)
+  -- a whole run that is not refused writes the same, surface by surface; the rest of the list is untouched
+  pub runs : (list : List Float) → 2 * length (x .surfaces) ≤ length list → run src list .result ≡ answer (length (x .surfaces))
+  pub writes-s : (list : List Float) → 2 * length (x .surfaces) ≤ length list → (d : Float) (i : ℕ) → i < length (x .surfaces) → getD (run src list .list) (2 * i) d ≡ worked-out x (suc i) .s
+  pub writes-p : (list : List Float) → 2 * length (x .surfaces) ≤ length list → (d : Float) (i : ℕ) → i < length (x .surfaces) → getD (run src list .list) (2 * i + 1) d ≡ worked-out x (suc i) .p
+  pub leaves : (list : List Float) → 2 * length (x .surfaces) ≤ length list → (d : Float) (i : ℕ) → 2 * length (x .surfaces) ≤ i → getD (run src list .list) i d ≡ getD list i d
+  -- every answer is finite, and so are s, p and their sum after any number of steps
+  pub answers : All (AnsweredWhole (value (x .wavelength))) (x .surfaces)
+  pub finite : (n : ℕ) → (Finite (worked-out x n .s) × Finite (worked-out x n .p)) × Finite (worked-out x n .s ⊕ worked-out x n .p)
+
+-- ---- demand 3: the gate admits exactly the sheets of 01's grammar and limits, and every admitted sheet has all of this
+pub record TrainClaim : Type 0 where
+  pub gate : GateClaim
+  pub admitted : (x : Sheet) → WellFormed x → Within x → Admitted (encode x) x

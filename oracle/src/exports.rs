@@ -1,0 +1,239 @@
+// The train through the static library `dihkelu`: gate, start, step, whole run and answers, held against `sheet` and
+// `train`, with what a refusal leaves in the lent list.
+
+use crate::record::bits;
+use crate::reference::thin_film::CoatingResponse;
+use crate::sheet::{gate, Refusal};
+use crate::sheets::sheet;
+use crate::train::{answers, run, start, step, Light, State};
+use crate::values::{any, Rng};
+
+extern "C" {
+    fn dihkelu_gate(sheet: *const u8, sheet_count: usize) -> u64;
+    fn dihkelu_start(
+        sheet: *const u8,
+        sheet_count: usize,
+        list: *mut f64,
+        list_count: usize,
+    ) -> u64;
+    fn dihkelu_step(
+        sheet: *const u8,
+        sheet_count: usize,
+        done: u32,
+        s: f64,
+        p: f64,
+        list: *mut f64,
+        list_count: usize,
+    ) -> u64;
+    fn dihkelu_run(sheet: *const u8, sheet_count: usize, list: *mut f64, list_count: usize) -> u64;
+    fn dihkelu_answers(
+        sheet: *const u8,
+        sheet_count: usize,
+        surface: u32,
+        list: *mut f64,
+        list_count: usize,
+    ) -> u64;
+}
+
+// In each call both lists live for the call and do not overlap: one is borrowed mutably.
+
+pub fn linked_gate(sheet: &[u8]) -> u64 {
+    unsafe { dihkelu_gate(sheet.as_ptr(), sheet.len()) }
+}
+
+pub fn linked_start(sheet: &[u8], list: &mut [f64]) -> u64 {
+    unsafe { dihkelu_start(sheet.as_ptr(), sheet.len(), list.as_mut_ptr(), list.len()) }
+}
+
+pub fn linked_step(sheet: &[u8], state: State, list: &mut [f64]) -> u64 {
+    let (done, s, p) = (state.done as u32, state.s, state.p);
+    let (at, count) = (list.as_mut_ptr(), list.len());
+    unsafe { dihkelu_step(sheet.as_ptr(), sheet.len(), done, s, p, at, count) }
+}
+
+pub fn linked_run(sheet: &[u8], list: &mut [f64]) -> u64 {
+    unsafe { dihkelu_run(sheet.as_ptr(), sheet.len(), list.as_mut_ptr(), list.len()) }
+}
+
+pub fn linked_answers(sheet: &[u8], surface: u32, list: &mut [f64]) -> u64 {
+    let (at, count) = (list.as_mut_ptr(), list.len());
+    unsafe { dihkelu_answers(sheet.as_ptr(), sheet.len(), surface, at, count) }
+}
+
+/// A NaN with a payload of its own: a store, even of a NaN, would show.
+fn odd(i: usize) -> f64 {
+    f64::from_bits(0x7FF4_0000_0000_0001 + i as u64)
+}
+
+fn filled(count: usize) -> Vec<f64> {
+    (0..count).map(odd).collect()
+}
+
+fn packed(refusal: Refusal) -> u64 {
+    refusal.number << 32 | refusal.place
+}
+
+/// Whether a call returned what it should and left the list so: `written` at its front, the rest as it was.
+fn left(returned: u64, expected: u64, list: &[f64], written: &[f64]) -> bool {
+    let front = list.iter().zip(written).all(|(x, y)| bits(*x) == bits(*y));
+    let rest = |i: usize| list[i].to_bits() == odd(i).to_bits();
+    returned == expected && front && (written.len()..list.len()).all(rest)
+}
+
+/// What a call is expected to return and to write; 8 where the list is too short for it.
+fn expected(answer: Result<(u64, Vec<f64>), Refusal>, room: usize) -> (u64, Vec<f64>) {
+    match answer {
+        Err(refusal) => (packed(refusal), Vec::new()),
+        Ok((_, written)) if written.len() > room => (8 << 32, Vec::new()),
+        Ok((number, written)) => (number, written),
+    }
+}
+
+fn step_agrees(bytes: &[u8], state: State, room: usize) -> bool {
+    let mut list = filled(room);
+    let returned = linked_step(bytes, state, &mut list);
+    let answer = step(bytes, state).map(|next| (next.done, vec![next.s, next.p]));
+    let (number, written) = expected(answer, room);
+    left(returned, number, &list, &written)
+}
+
+fn numbers(r: &CoatingResponse) -> Vec<f64> {
+    let mut list: Vec<f64> = [r.rs, r.rp, r.ts, r.tp]
+        .iter()
+        .flat_map(|z| [z.re, z.im])
+        .collect();
+    list.extend([r.reflectance_s, r.reflectance_p]);
+    list.extend([r.transmittance_s, r.transmittance_p]);
+    list.extend([r.phase_rs_rad, r.phase_rp_rad]);
+    list
+}
+
+/// A surface's answers as `dihkelu_answers` lays them out; 7 where there is no such surface.
+fn laid_out(bytes: &[u8], surface: u32) -> Result<Vec<f64>, Refusal> {
+    let sheet = gate(bytes)?;
+    let none = Refusal {
+        number: 7,
+        place: 0,
+    };
+    let surface = sheet.surfaces.get(surface as usize).ok_or(none)?;
+    let answers = answers(surface, sheet.wavelength);
+    let (coated, powers, response) = match &answers.light {
+        Light::Bare(p) => (0.0, [p.reflected, p.transmitted].concat(), Vec::new()),
+        Light::Coated(r) => {
+            let powers = vec![
+                r.reflectance_s,
+                r.reflectance_p,
+                r.transmittance_s,
+                r.transmittance_p,
+            ];
+            (1.0, powers, numbers(r))
+        }
+    };
+    let mut list = vec![coated];
+    list.extend(powers);
+    for jones in &answers.jones {
+        list.extend(jones.m.iter().flatten().flat_map(|z| [z.re, z.im]));
+    }
+    for mueller in &answers.mueller {
+        list.extend(mueller.m.iter().flatten());
+    }
+    list.extend(response);
+    Ok(list)
+}
+
+fn answers_agree(bytes: &[u8], surface: u32, room: usize) -> bool {
+    let mut list = filled(room);
+    let returned = linked_answers(bytes, surface, &mut list);
+    let answer = laid_out(bytes, surface).map(|numbers| (numbers.len() as u64, numbers));
+    let (number, written) = expected(answer, room);
+    left(returned, number, &list, &written)
+}
+
+/// Every call on one sheet: calls made, and the name of the first that differs.
+fn sheet_agrees(bytes: &[u8], rng: &mut Rng) -> (u64, Option<&'static str>) {
+    let gated = gate(bytes);
+    let count = gated.as_ref().map_or(0, |sheet| sheet.surfaces.len());
+    let counted = gated.as_ref().map(|sheet| sheet.surfaces.len() as u64);
+    let mut calls = 1;
+    if linked_gate(bytes) != counted.map_or_else(|r| packed(*r), |n| n) {
+        return (calls, Some("gate"));
+    }
+    for room in [0, 1, 2, 3] {
+        let mut list = filled(room);
+        let returned = linked_start(bytes, &mut list);
+        let answer = gate(bytes).map(|x| (count as u64, vec![start(&x).s, start(&x).p]));
+        let (number, written) = expected(answer, room);
+        calls += 1;
+        if !left(returned, number, &list, &written) {
+            return (calls, Some("start"));
+        }
+    }
+    for room in [0, (2 * count).saturating_sub(1), 2 * count, 2 * count + 3] {
+        let mut list = filled(room);
+        let returned = linked_run(bytes, &mut list);
+        let mut theirs = vec![0.0; 2 * count];
+        let answer = run(bytes, &mut theirs).map(|n| (n as u64, theirs));
+        let (number, written) = expected(answer, room);
+        calls += 1;
+        if !left(returned, number, &list, &written) {
+            return (calls, Some("run"));
+        }
+    }
+    let mut state = gated.as_ref().map_or(
+        State {
+            done: 0,
+            s: 1.0,
+            p: 1.0,
+        },
+        start,
+    );
+    for _ in 0..count.min(6) + 2 {
+        calls += 1;
+        if !step_agrees(bytes, state, 2 + rng.below(2)) {
+            return (calls, Some("step"));
+        }
+        state = step(bytes, state).unwrap_or(state);
+    }
+    for done in [
+        0,
+        1,
+        rng.below(70) as u64,
+        rng.bits() >> 32,
+        u64::from(u32::MAX),
+    ] {
+        let state = State {
+            done,
+            s: any(rng),
+            p: any(rng),
+        };
+        calls += 1;
+        if !step_agrees(bytes, state, rng.below(4)) {
+            return (calls, Some("step of any state"));
+        }
+    }
+    for surface in [0, rng.below(count + 1), count, rng.bits() as usize >> 3] {
+        calls += 1;
+        if !answers_agree(bytes, surface as u32, rng.pick(&[0, 52, 53, 66, 67, 70])) {
+            return (calls, Some("answers"));
+        }
+    }
+    (calls, None)
+}
+
+/// Holds the exports against the Rust on `count` random sheets, valid and damaged. Returns calls and sheets that differ.
+pub fn compare_trains(seed: u64, count: u64) -> (u64, u64) {
+    let mut rng = Rng::new(seed);
+    let (mut calls, mut different) = (0, 0);
+    for _ in 0..count {
+        let bytes = sheet(&mut rng);
+        let (made, first) = sheet_agrees(&bytes, &mut rng);
+        calls += made;
+        if let Some(name) = first {
+            if different == 0 {
+                println!("{name}: sheet {bytes:02X?}");
+            }
+            different += 1;
+        }
+    }
+    (calls, different)
+}
