@@ -1,8 +1,4 @@
 -- `call::head` meets its contract. Assumes nothing.
-use mathlib.Core.Path.{_≡_, sym, ap, _∙_}
-use Prim.Native.Nat.{ℕ, _+_, _-_, _≤_, _<_}
-use native.Mathlib.Omega.{arith}
-use borrow.Author.Needs.{needs}
 use Rattle.call.proofs.head.Statement.{statement}
 use Rattle.call.proofs.head.Tie as tie
 

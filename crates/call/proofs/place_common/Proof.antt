@@ -6,7 +6,7 @@ use lib.ListN.{length, take, drop}
 use lib.Ieee.{Float}
 use Rattle.surface.specs.declared.Answers.{Answers}
 use Rattle.call.specs.Layout.{jones, mueller, head, common}
-use Rattle.call.proofs.Front.{Front, nothing, more}
+use Rattle.call.proofs.Front.{nothing, more}
 use borrow.Author.Needs.{needs}
 use Rattle.call.proofs.place_common.Statement.{statement}
 use Rattle.call.proofs.place_common.Tie as tie
