@@ -73,6 +73,14 @@ macro_rules! side {
                 s + p
             }
 
+            /// A step onto the last surface: the gate anew, then that surface.
+            fn last_step(bytes: &[u8]) -> f64 {
+                let Ok(sheet) = gate(bytes) else { return 0.0 };
+                let last = sheet.surfaces.len() - 1;
+                let [_, _, ts, tp] = answer(&sheet.surfaces[last], sheet.wavelength);
+                ts + tp
+            }
+
             fn answer(surface: &Surface, wavelength: f64) -> [f64; 4] {
                 let place = Place {
                     n_incident: surface.n_incident,
@@ -107,6 +115,9 @@ macro_rules! side {
                 for sheet in super::gate_sheets() {
                     works.push(Box::new(move || gate(&sheet).map_or(0.0, |x| x.s)));
                 }
+                for sheet in super::gate_sheets() {
+                    works.push(Box::new(move || last_step(&sheet)));
+                }
                 works.into_iter().map(Some).collect()
             }
         }
@@ -117,7 +128,7 @@ side!(authors, f64::cos);
 side!(reference, crate::section2::cos);
 
 /// The workloads, with the number of calls in each.
-pub const WORKS: [(&str, usize); 13] = [
+pub const WORKS: [(&str, usize); 15] = [
     ("bare surface", 64),
     ("MgF2", 64),
     ("15-layer mirror", 64),
@@ -131,6 +142,8 @@ pub const WORKS: [(&str, usize); 13] = [
     ("whole run, 64 bare surfaces", 1),
     ("gate, 1 surface of 16 layers", 1),
     ("gate, the longest sheet: 64 surfaces of 16 layers", 1),
+    ("step, 1 surface of 16 layers", 1),
+    ("step, the last surface of the longest sheet", 1),
 ];
 
 /// Sheets of so many surfaces with so many layers each; without layers they are bare.

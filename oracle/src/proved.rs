@@ -115,6 +115,21 @@ fn evaluations() -> Vec<Option<Work>> {
         Some(Box::new(move || crate::exports::linked_gate(&sheet) as f64))
     };
     works.extend(crate::bench::gate_sheets().into_iter().map(gate));
+    let step = |sheet: Vec<u8>| -> Option<Work> {
+        let count = crate::exports::linked_gate(&sheet);
+        let (s, p) = (1.0, 1.0);
+        let state = crate::train::State {
+            done: count - 1,
+            s,
+            p,
+        };
+        Some(Box::new(move || {
+            let mut list = [0.0; 2];
+            crate::exports::linked_step(&sheet, state, &mut list);
+            list[0] + list[1]
+        }))
+    };
+    works.extend(crate::bench::gate_sheets().into_iter().map(step));
     works
 }
 
