@@ -16,7 +16,7 @@ use Rattle.surface.specs.declared.Answers.{Answers}
 use Rattle.surface.specs.declared.Interface.{Interface}
 use Rattle.surface.specs.declared.Interface.the-variants.{Bare, Coated}
 use Rattle.surface.specs.Coating.{interface}
-use Rattle.surface.specs.Answers.{coated-answers, bare-answers, answers-of, answers}
+use Rattle.surface.specs.Answers.{coated-answers, bare-answers, answers-of}
 use Rattle.sheet.specs.Sheet.{Sheet}
 use Rattle.sheet_values.specs.Values.{value, films, window}
 use Rattle.gate.specs.Gate.{gated}

@@ -11,12 +11,12 @@ use Rattle.refusal.specs.Outcome.{Outcome, answer, refusal, map}
 use Rattle.surface.specs.Limits.{beam-passes, bend, layer-within, surface-passes}
 use Rattle.transfer_matrix.specs.declared.ThinFilmLayer.{ThinFilmLayer}
 use Rattle.surface.specs.declared.Surface as Window
-use Rattle.sheet.specs.Sheet.{Layer, Surface, Sheet}
+use Rattle.sheet.specs.Sheet.{Sheet}
 use Rattle.sheet.specs.Words.{word, count, kind, float}
 use Rattle.sheet.specs.Read.{Result, read, fault, Rest, layer-at, surface-at, decode}
 use Rattle.sheet.specs.Scan.{counted}
 use Rattle.sheet.proofs.Scan.{left, never}
-use Rattle.sheet.proofs.Blocks.{Next, next-surface, next-layer, next-end, next, Begins, begins}
+use Rattle.sheet.proofs.Blocks.{Next, next-surface, next-layer, next-end, next, begins}
 use Rattle.sheet_values.specs.Values.{value, film, window}
 use Rattle.gate.specs.Gate.{Test, layer-tests, surface-tests, tests, judged, within-limits, surfaces-of}
 

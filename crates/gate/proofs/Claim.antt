@@ -1,8 +1,8 @@
 -- The gate's claim. Assumes nothing.
 use mathlib.Core.Path.{_≡_, refl, sym, ap, _∙_, subst}
 use mathlib.Core.Logic.{_⊎_, inl, inr}
-use mathlib.Core.Bool.{Bool, true, false, cond, true≢false}
-use mathlib.Core.List.{List, _∷_, _++_}
+use mathlib.Core.Bool.{Bool, true, false, cond}
+use mathlib.Core.List.{List}
 use Prim.Native.Nat.{ℕ}
 use native.Mathlib.Omega.{arith}
 use lib.Dec.{T}
@@ -11,11 +11,11 @@ use Rattle.ieee.proofs.Signs.{of-true}
 use Rattle.refusal.specs.Outcome.{Outcome, answer, refusal}
 use Rattle.sheet.specs.Sheet.{Sheet, WellFormed, encode}
 use Rattle.sheet.specs.Read.{Result, read, fault, decode}
-use Rattle.sheet.specs.Claim.{_⇔_, Bytes, length-fits, Fault, GrammarClaim}
+use Rattle.sheet.specs.Claim.{Bytes, length-fits, Fault}
 use Rattle.sheet.proofs.Claim.{grammar-claim}
-use Rattle.gate.specs.Gate.{Test, tests, judged, within-limits, gated}
+use Rattle.gate.specs.Gate.{tests, judged, within-limits, gated}
 use Rattle.gate.specs.Claim.{Within, FirstOutside, GateClaim}
-use Rattle.gate.proofs.Judged.{Passed, First, Judged, all-pass, one-fails, judging, passed-judged, first-judged, within-passed, passed-within}
+use Rattle.gate.proofs.Judged.{Passed, Judged, all-pass, one-fails, judging, passed-judged, first-judged, within-passed, passed-within}
 
 -- ---- the gate, case by case
 pub data Case (src : List ℕ) : Outcome Sheet → Type 0 where

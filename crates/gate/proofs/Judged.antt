@@ -1,6 +1,6 @@
 -- What is judged of a list of tests; and that all tests of a sheet pass exactly when it is within the limits. Assumes nothing.
-use mathlib.Core.Path.{_≡_, refl, sym, ap, _∙_}
-use mathlib.Core.Bool.{Bool, true, false, _&&_, cond}
+use mathlib.Core.Path.{_≡_, refl, ap}
+use mathlib.Core.Bool.{Bool, true, false, cond}
 use mathlib.Core.List.{List, [], _∷_, _++_}
 use Prim.Native.Nat.{ℕ, _+_, _*_}
 use lib.Dec.{T}
@@ -10,7 +10,7 @@ use lib.Ieee.Bits.{is-true}
 use lib.Ieee.Fits.{and-l, and-r, and-i}
 use Rattle.ieee.proofs.Signs.{of-true}
 use Rattle.refusal.specs.Outcome.{Outcome, answer, refusal}
-use Rattle.surface.specs.Limits.{beam-passes, bend, layer-within, layers-within, surface-passes, passes}
+use Rattle.surface.specs.Limits.{bend, layer-within, layers-within, surface-passes, passes}
 use Rattle.sheet.specs.Sheet.{Layer, Surface, Sheet, All}
 use Rattle.sheet_values.specs.Values.{value, film, films, window}
 use Rattle.gate.specs.Gate.{Test, layer-tests, surface-tests, tests, judged}

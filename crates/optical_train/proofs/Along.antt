@@ -1,14 +1,14 @@
 -- Along the surfaces of a sheet: where the i-th stands. Assumes nothing.
-use mathlib.Core.Path.{_≡_, refl, sym, ap, _∙_}
-use mathlib.Core.List.{List, [], _∷_}
+use mathlib.Core.Path.{_≡_, sym, ap, _∙_}
+use mathlib.Core.List.{List, []}
 use Prim.Native.Nat.{ℕ, zero, suc, _+_, _*_, _≤_, _<_}
 use native.Mathlib.Numerals.{add-one}
 use native.Mathlib.Omega.{arith}
-use lib.ListN.{length, getD, drop}
+use lib.ListN.{length, drop}
 use lib.Seq.{drop-cons}
-use Rattle.sheet.specs.Sheet.{Layer, Surface, Sheet}
+use Rattle.sheet.specs.Sheet.{Surface, Sheet}
 use Rattle.sheet.specs.Words.{float}
-use Rattle.sheet.specs.Read.{read, Rest, decode, surface-at}
+use Rattle.sheet.specs.Read.{read, decode, surface-at}
 use Rattle.sheet.specs.Scan.{or-none, layer-follows, run}
 use Rattle.sheet.proofs.Scan.{left}
 use Rattle.sheet.proofs.Blocks.{begins}
@@ -16,7 +16,6 @@ use Rattle.sheet_values.specs.Values.{value, layers-at}
 use Rattle.sheet_values.proofs.Walk.{blocks, Stands, stands}
 use mathlib.Core.Bool.{Bool, true, false}
 use lib.Ieee.{Float}
-use Rattle.optical_train.specs.declared.State.{State}
 use Rattle.optical_train.specs.Train.{no-surface, nth, fresh}
 
 -- the i-th SURFACE of whatever sheet the bytes hold stands at a place

@@ -1,21 +1,19 @@
 -- Every surface of an admitted sheet is answered. Assumes nothing.
-use mathlib.Core.Path.{_≡_, sym, ap, _∙_}
+use mathlib.Core.Path.{_≡_, ap}
 use mathlib.Core.List.{List, [], _∷_}
 use Prim.Native.Nat.{ℕ, zero, suc, _+_, _≤_, _<_}
 use native.Mathlib.Omega.{arith}
 use lib.Dec.{T}
-use lib.ListN.{length, getD}
+use lib.ListN.{length}
 use lib.Ieee.{Float}
 use lib.Ieee.Fits.{and-l}
 use Rattle.surface.specs.Limits.{wavelength-passes, beam-passes, passes}
 use Rattle.surface.specs.Finite.{Answered}
 use Rattle.surface.proofs.Finite.{every-surface-answered}
 use Rattle.sheet.specs.Sheet.{Layer, Surface, Sheet, All}
-use Rattle.sheet.specs.Read.{surface-at}
-use Rattle.sheet.specs.Scan.{run}
 use Rattle.sheet_values.specs.Values.{value, films, window, layers-at}
 use Rattle.gate.specs.Claim.{Within}
-use Rattle.optical_train.specs.Train.{no-surface, nth}
+use Rattle.optical_train.specs.Train.{nth}
 
 pub all-nth : (P : Surface → Type 0) (ys : List Surface) (i : ℕ) → All P ys → i < length ys → P (nth ys i)
 all-nth P [] i a h = absurd (omega arith)

@@ -1,22 +1,21 @@
 -- The surface of a number: of an admitted sheet, and of one that is not. Assumes nothing.
-use mathlib.Core.Path.{_≡_, refl, sym, ap, _∙_}
+use mathlib.Core.Path.{_≡_, sym, ap, _∙_}
 use mathlib.Core.List.{List, []}
 use Prim.Native.Nat.{ℕ, _+_, _*_, _≤_, _<_}
 use native.Mathlib.Omega.{arith}
 use borrow.Author.Tests.{lt-ltb, le-ltb}
 use lib.ListN.{length}
 use Rattle.refusal.specs.declared.Refusal.{Refusal}
-use Rattle.refusal.specs.Outcome.{Outcome, answer, refusal, refused, map}
+use Rattle.refusal.specs.Outcome.{answer, refusal, refused, map}
 use Rattle.transfer_matrix.specs.declared.ThinFilmLayer.{ThinFilmLayer}
 use Rattle.surface.specs.declared.Surface as Window
-use Rattle.sheet.specs.Sheet.{Surface, Sheet}
+use Rattle.sheet.specs.Sheet.{Sheet}
 use Rattle.sheet.specs.Read.{read, decode, layer-at, surface-at}
 use Rattle.sheet.specs.Scan.{run}
-use Rattle.sheet_values.specs.Values.{film, films, window, layers-at}
+use Rattle.sheet_values.specs.Values.{film, window, layers-at}
 use Rattle.sheet_answers.proofs.Behind as Behind
 use Rattle.gate.specs.Gate.{gate, gated}
 use Rattle.gate.proofs.Admitted.{admitted, turned-back}
-use Rattle.optical_train.specs.declared.NumberedSurface.{NumberedSurface}
 use Rattle.optical_train.specs.Train.{nth, surface-of, numbered, nth-surface, no-film, layer-of, nth-layer}
 use Rattle.optical_train.proofs.Answers.{layers-length}
 

@@ -1,18 +1,16 @@
 -- What a whole run has written so far. Assumes nothing.
 use mathlib.Core.Path.{_≡_, refl, sym, ap, _∙_}
 use mathlib.Core.List.{List, [], _∷_, _++_, append-assoc}
-use Prim.Native.Nat.{ℕ, zero, suc, _+_, _*_, _≤_, _<_}
+use Prim.Native.Nat.{ℕ, suc, _+_, _*_, _≤_, _<_}
 use native.Mathlib.Numerals.{add-one}
 use native.Mathlib.Omega.{arith}
-use lib.ListN.{length, getD, set, take, drop, length-set, take-append-drop}
+use lib.ListN.{length, set, take, drop, length-set, take-append-drop}
 use lib.Seq.{drop-cons, drop-length, take-suc-set, drop-set-lt}
 use lib.Ieee.{Float}
 use Rattle.ieee.specs.Operators.{_⊗_}
-use Rattle.sheet.specs.Sheet.{Surface, Sheet}
-use Rattle.sheet.specs.Read.{read, decode}
-use Rattle.sheet_values.specs.Values.{value}
+use Rattle.sheet.specs.Sheet.{Surface}
 use Rattle.optical_train.specs.declared.State.{State}
-use Rattle.optical_train.specs.Train.{no-surface, nth, chosen-powers, fresh, past, after-each}
+use Rattle.optical_train.specs.Train.{no-surface, nth, chosen-powers, past, after-each}
 
 abbrev state : ℕ → Float → Float → State
 state i s p = record { done = i; s = s; p = p }

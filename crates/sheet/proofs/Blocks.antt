@@ -1,17 +1,15 @@
 -- Block after block of a sheet that is read whole: what stands at a place, and what is left after it. Whoever walks over a sheet cites these. Assumes nothing.
 use mathlib.Core.Path.{_≡_, refl, sym, ap, _∙_, subst}
-use mathlib.Core.Bool.{Bool, true, false, _&&_, cond, true≢false}
+use mathlib.Core.Bool.{Bool, true, false, cond, true≢false}
 use mathlib.Core.List.{List, [], _∷_}
-use Prim.Native.Nat.{ℕ, zero, suc, _+_, _-_, _^_, _≤_, _<_}
+use Prim.Native.Nat.{ℕ, zero, suc, _+_, _-_, _≤_, _<_}
 use native.Mathlib.Omega.{arith}
 use lib.Dec.{eqb, ltb}
 use lib.ListN.{length}
-use borrow.Author.Tests.{eqb-true, ltb-true, ltb-false, lt-ltb, eq-eqb}
-use lib.Ieee.Bits.{is-true}
-use Rattle.ieee.proofs.Signs.{and-true}
-use Rattle.sheet.specs.Sheet.{Layer, Surface, Sheet, kind-word}
+use borrow.Author.Tests.{eqb-true, lt-ltb, eq-eqb}
+use Rattle.sheet.specs.Sheet.{Sheet, kind-word}
 use Rattle.sheet.specs.Words.{word, count, kind, payload, float}
-use Rattle.sheet.specs.Read.{Result, read, fault, Follows, surface, layer, end, wrong, room-after, found, Rest, layer-at, with-layer, surface-at, with-surface, rest, with-beam, decode}
+use Rattle.sheet.specs.Read.{Result, read, fault, Follows, surface, layer, end, wrong, room-after, found, Rest, layer-at, with-layer, surface-at, with-surface, with-beam, decode}
 use Rattle.sheet.specs.Scan.{layer-follows, or-none, run}
 use Rattle.sheet.proofs.Scan.{left, never, and-second, surface-room, layer-room, surface-kind, layer-kind, end-kind, left-surface, left-layer, left-end, left-wrong}
 

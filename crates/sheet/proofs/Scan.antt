@@ -2,18 +2,18 @@
 use mathlib.Core.Path.{_≡_, refl, sym, ap, _∙_}
 use mathlib.Core.Bool.{Bool, true, false, _&&_, cond, true≢false}
 use mathlib.Core.List.{List, []}
-use Prim.Native.Nat.{ℕ, zero, suc, _+_, _-_, _*_, _/_, _^_, _≤_, _<_}
+use Prim.Native.Nat.{ℕ, zero, suc, _+_, _-_, _/_, _^_, _≤_, _<_}
 use native.Mathlib.Nat.{zero-add, add-zero}
 use native.Mathlib.Numerals.{add-one}
 use native.Mathlib.Omega.{arith}
-use lib.Dec.{T, eqb, leb, ltb, leb→le, ltb→lt}
+use lib.Dec.{eqb, leb, ltb}
 use lib.ListN.{length}
-use borrow.Author.Tests.{ltb-true, leb-true, le-ltb, eqb-true}
+use borrow.Author.Tests.{ltb-true, leb-true, eqb-true}
 use lib.Ieee.Bits.{is-true}
-use Rattle.ieee.proofs.Signs.{of-true, and-true}
+use Rattle.ieee.proofs.Signs.{and-true}
 use Rattle.sheet.specs.Sheet.{Layer}
 use Rattle.sheet.specs.Words.{word, count, kind, payload}
-use Rattle.sheet.specs.Read.{Result, read, fault, Follows, surface, layer, end, wrong, room-after, is-surface, is-layer, is-end, follows, found, Rest, layer-at, with-layer, surface-at, with-surface, rest, with-beam, decode}
+use Rattle.sheet.specs.Read.{Result, read, fault, Follows, surface, layer, end, wrong, room-after, is-surface, is-layer, is-end, follows, found, Rest, layer-at, with-layer, with-surface, rest, with-beam, decode}
 use Rattle.sheet.specs.Scan.{counted}
 
 -- ---- from what is found back to the tests

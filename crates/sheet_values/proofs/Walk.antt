@@ -1,15 +1,15 @@
 -- Surface after surface of a sheet that is read: the SURFACE at a place with the LAYERs behind it is the next of the sheet's data. Assumes nothing.
-use mathlib.Core.Path.{_≡_, refl, sym, ap, _∙_, subst}
+use mathlib.Core.Path.{_≡_, refl, sym, ap, _∙_}
 use mathlib.Core.List.{List, [], _∷_}
-use Prim.Native.Nat.{ℕ, zero, suc, _+_, _-_, _*_, _/_, _≤_, _<_}
+use Prim.Native.Nat.{ℕ, suc, _+_, _-_, _*_, _/_, _≤_, _<_}
 use native.Mathlib.Nat.{add-zero}
 use native.Mathlib.Omega.{arith}
 use mathlib.Core.Bool.{Bool, true, false, cond}
 use lib.Dec.{eqb}
 use lib.ListN.{length}
-use Rattle.sheet.specs.Sheet.{Layer, Surface, Sheet}
+use Rattle.sheet.specs.Sheet.{Layer, Surface}
 use Rattle.sheet.specs.Words.{word, count, payload}
-use Rattle.sheet.specs.Read.{read, Rest, room-after, layer-at, surface-at}
+use Rattle.sheet.specs.Read.{read, Rest, layer-at, surface-at}
 use Rattle.sheet.specs.Scan.{run}
 use Rattle.sheet.proofs.Scan.{left}
 use Rattle.sheet.proofs.Blocks.{Next, next-surface, next-layer, next-end, next, counts}

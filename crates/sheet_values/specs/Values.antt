@@ -4,7 +4,7 @@ use Prim.Native.Nat.{ℕ, zero, suc, _+_, _/_, _%_}
 use lib.Dec.{eqb}
 use lib.Ieee.{Float, binary64, ofBits}
 use Rattle.sheet.specs.Sheet.{Layer, Surface}
-use Rattle.sheet.specs.Read.{layer-at, surface-at}
+use Rattle.sheet.specs.Read.{layer-at}
 use Rattle.transfer_matrix.specs.declared.ThinFilmLayer.{ThinFilmLayer}
 use Rattle.surface.specs.declared.Surface as Coated
 

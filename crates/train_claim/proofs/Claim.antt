@@ -1,16 +1,16 @@
 -- Demand 3. Assumes nothing.
 use mathlib.Core.Path.{_≡_, refl, sym, ap, _∙_, subst}
-use mathlib.Core.Bool.{Bool, true, false, cond}
+use mathlib.Core.Bool.{Bool, true, false}
 use mathlib.Core.List.{List, [], _∷_, _++_}
 use Prim.Native.Nat.{ℕ, zero, suc, _+_, _*_, _≤_, _<_}
-use native.Mathlib.Nat.{add-zero, add-suc}
+use native.Mathlib.Nat.{add-zero}
 use native.Mathlib.Omega.{arith}
 use lib.Dec.{T, ltb}
-use lib.ListN.{length, getD, take, drop}
+use lib.ListN.{length, getD, drop}
 use lib.Ieee.{Float}
 use lib.Ieee.Fits.{and-l, and-r}
 use borrow.Author.Tests.{lt-ltb, le-ltb, le-leb, ltb-true, ltb-false}
-use Rattle.refusal.specs.Outcome.{Outcome, answer, refusal, map}
+use Rattle.refusal.specs.Outcome.{Outcome, answer, map}
 use Rattle.surface.specs.declared.Powers.{Powers}
 use Rattle.surface.specs.Limits.{wavelength-passes, power-passes, beam-passes}
 use Rattle.surface.specs.Answers.{powers}
@@ -22,10 +22,8 @@ use Rattle.sheet_values.specs.Values.{value, films, window}
 use Rattle.gate.specs.Gate.{gated}
 use Rattle.gate.specs.Claim.{Within}
 use Rattle.gate.proofs.Claim.{gate-claim}
-use Rattle.optical_train.specs.declared.Chosen.{Chosen}
 use Rattle.optical_train.specs.declared.State.{State}
-use Rattle.optical_train.specs.declared.Stepped.{Stepped}
-use Rattle.optical_train.specs.Train.{chosen, chosen-of, chosen-powers, nth, fresh, start, past, stepped, step, after-each, Ran, ran, run}
+use Rattle.optical_train.specs.Train.{chosen, chosen-powers, nth, fresh, start, past, stepped, step, after-each, Ran, ran, run}
 use Rattle.optical_train.proofs.Answers.{all-nth, Good, wavelength-within, answered}
 use Rattle.train_claim.specs.Claim.{worked-out, Action, a-step, act, acts, steps, Falls, AllFall, AnsweredWhole, Admitted, TrainClaim}
 use Rattle.train_claim.proofs.Falls.{Unit-powers, stays, taken, unit, begun, power-finite, sum-finite}

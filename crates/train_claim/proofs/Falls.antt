@@ -1,6 +1,5 @@
 -- Powers from 0 to 1 that are multiplied by powers from 0 to 1 fall, and so does their sum. Assumes nothing.
 use mathlib.Core.Path.{_≡_, refl, subst}
-use mathlib.Core.Bool.{_&&_}
 use Prim.Native.Nat.{ℕ, _*_, _≤_}
 use native.Mathlib.Nat.{le-refl}
 use native.Mathlib.Omega.{arith}
@@ -8,7 +7,7 @@ use lib.Dec.{T}
 use lib.Ieee.{Float, binary64, add, le, fits, ofBits}
 use lib.Ieee.Scale.{finite}
 use lib.Ieee.Positive.{num, den}
-use lib.Ieee.Fits.{and-l, and-r, and-i, mul-fits}
+use lib.Ieee.Fits.{and-l, and-i, mul-fits}
 use lib.Ieee.Bits.{ofBits-fits}
 use Rattle.ieee.specs.Operators.{_⊗_, _⊕_}
 use Rattle.ieee.specs.Functions.{zero-f, one}

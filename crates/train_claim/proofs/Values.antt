@@ -11,7 +11,6 @@ use lib.Ieee.{Float}
 use Rattle.ieee.specs.Operators.{_⊗_}
 use Rattle.sheet.specs.Sheet.{Surface, Sheet}
 use Rattle.sheet_values.specs.Values.{value}
-use Rattle.optical_train.specs.declared.State.{State}
 use Rattle.optical_train.specs.Train.{chosen-powers, nth, fresh, past}
 use Rattle.train_claim.specs.Claim.{product, chosen-s, chosen-p, worked-out}
 

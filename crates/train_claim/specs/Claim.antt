@@ -8,7 +8,7 @@ use lib.ListN.{length, getD, take}
 use lib.Ieee.{Float, le}
 use Rattle.ieee.specs.Operators.{_⊗_, _⊕_}
 use Rattle.ieee.specs.Functions.{zero-f}
-use Rattle.refusal.specs.Outcome.{answer, refusal}
+use Rattle.refusal.specs.Outcome.{answer}
 use Rattle.surface.specs.Answers.{powers}
 use Rattle.surface.specs.Finite as Finite
 use Rattle.surface.specs.Finite.{Finite}

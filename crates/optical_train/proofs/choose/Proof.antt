@@ -1,8 +1,5 @@
 -- `optical_train::choose` meets its contract. Assumes nothing.
-use mathlib.Core.Path.{_≡_, sym, ap, _∙_}
-use Prim.Native.Nat.{ℕ, _+_, _-_, _≤_, _<_}
-use native.Mathlib.Omega.{arith}
-use borrow.Author.Needs.{needs}
+use Prim.Native.Nat.{_-_}
 use Rattle.optical_train.proofs.choose.Statement.{statement}
 use Rattle.optical_train.proofs.choose.Tie as tie
 

@@ -1,7 +1,5 @@
 -- `optical_train::past` meets its contract. Assumes nothing.
-use mathlib.Core.Path.{_≡_, sym, ap, _∙_}
-use Prim.Native.Nat.{ℕ, _+_, _-_, _≤_, _<_}
-use native.Mathlib.Omega.{arith}
+use Prim.Native.Nat.{_-_}
 use borrow.Author.Needs.{needs}
 use Rattle.optical_train.specs.Train.{past}
 use Rattle.optical_train.proofs.past.Statement.{statement}

@@ -1,13 +1,11 @@
 -- `optical_train::refused` meets its contract. Assumes nothing.
-use mathlib.Core.Path.{_≡_, sym, ap, _∙_}
-use Prim.Native.Nat.{ℕ, _+_, _-_, _≤_, _<_}
-use native.Mathlib.Omega.{arith}
+use mathlib.Core.Path.{_≡_, ap}
+use Prim.Native.Nat.{_-_}
 use borrow.Author.Needs.{needs}
 use Rattle.refusal.specs.declared.Refusal.{Refusal}
 use Rattle.refusal.specs.Outcome.{refusal, refused}
 use Rattle.surface.specs.declared.Reply.{Reply}
 use Rattle.surface.specs.Answers.{returned}
-use Rattle.optical_train.specs.declared.SurfaceReply.{SurfaceReply}
 use Rattle.optical_train.specs.Train.{given}
 use Rattle.optical_train.proofs.refused.Statement.{statement}
 use Rattle.optical_train.proofs.refused.Tie as tie

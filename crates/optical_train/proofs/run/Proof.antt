@@ -8,16 +8,16 @@ use mathlib.Core.List.{List, _++_}
 use lib.ListN.{length, drop}
 use lib.Ieee.{Float}
 use Rattle.refusal.specs.declared.Refusal.{Refusal}
-use Rattle.refusal.specs.Outcome.{Outcome, answer, refusal, refused}
+use Rattle.refusal.specs.Outcome.{answer, refusal, refused}
 use Rattle.sheet.specs.Sheet.{Sheet}
 use Rattle.sheet.specs.Words.{float}
 use Rattle.sheet.specs.Read.{read, decode}
 use Rattle.sheet.proofs.Blocks.{begins}
 use Rattle.sheet_values.specs.Values.{value}
 use Rattle.gate.specs.Gate as Gate
-use Rattle.gate.specs.Gate.{gate, gated}
+use Rattle.gate.specs.Gate.{gate}
 use Rattle.gate.proofs.Admitted.{admitted, turned-back}
-use Rattle.optical_train.specs.Train.{fresh, after-each, Ran, ran, run}
+use Rattle.optical_train.specs.Train.{fresh, after-each, ran, run}
 use Rattle.optical_train.proofs.run.Statement.{statement}
 use Rattle.optical_train.proofs.run.Tie as tie
 

@@ -1,12 +1,11 @@
 -- `optical_train::start` meets its contract. Assumes nothing.
 use mathlib.Core.Path.{_≡_, sym, ap, _∙_}
-use Prim.Native.Nat.{ℕ, _+_, _-_, _≤_, _<_}
-use native.Mathlib.Omega.{arith}
+use Prim.Native.Nat.{ℕ, _-_}
 use borrow.Author.Needs.{needs}
 use mathlib.Core.List.{List}
 use lib.Ieee.{Float}
 use Rattle.refusal.specs.declared.Refusal.{Refusal}
-use Rattle.refusal.specs.Outcome.{answer, refusal, refused, map}
+use Rattle.refusal.specs.Outcome.{answer, refused, map}
 use Rattle.sheet.specs.Words.{float}
 use Rattle.sheet_values.specs.Values.{value}
 use Rattle.gate.specs.Gate as Gate

@@ -8,18 +8,17 @@ use mathlib.Core.List.{List}
 use lib.ListN.{length}
 use lib.Ieee.{Float}
 use Rattle.refusal.specs.declared.Refusal.{Refusal}
-use Rattle.refusal.specs.Outcome.{Outcome, answer, refused}
-use Rattle.sheet.specs.Sheet.{Surface, Sheet}
+use Rattle.refusal.specs.Outcome.{answer, refused}
+use Rattle.sheet.specs.Sheet.{Sheet}
 use Rattle.sheet.specs.Words.{float}
 use Rattle.sheet.specs.Read.{read, decode, surface-at}
 use Rattle.sheet.specs.Scan.{run}
 use Rattle.sheet.proofs.Blocks.{begins}
 use Rattle.sheet_values.specs.Values.{value, layers-at}
 use Rattle.gate.specs.Gate as Gate
-use Rattle.gate.specs.Gate.{gate, gated}
+use Rattle.gate.specs.Gate.{gate}
 use Rattle.gate.proofs.Admitted.{admitted, turned-back}
 use Rattle.optical_train.specs.declared.State.{State}
-use Rattle.optical_train.specs.declared.Stepped.{Stepped}
 use Rattle.optical_train.specs.Train.{nth, past, stepped, step}
 use Rattle.optical_train.proofs.step.Statement.{statement}
 use Rattle.optical_train.proofs.step.Tie as tie

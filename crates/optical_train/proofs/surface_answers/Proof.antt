@@ -8,7 +8,7 @@ use mathlib.Core.List.{List, []}
 use lib.ListN.{length}
 use lib.Ieee.{Float}
 use Rattle.refusal.specs.declared.Refusal.{Refusal}
-use Rattle.refusal.specs.Outcome.{Outcome, answer, refusal, refused}
+use Rattle.refusal.specs.Outcome.{answer, refusal, refused}
 use Rattle.surface.specs.declared.Answers.{Answers}
 use Rattle.surface.specs.declared.Reply.{Reply}
 use Rattle.surface.specs.Answers.{answers, returned}
@@ -19,9 +19,8 @@ use Rattle.sheet.specs.Scan.{run}
 use Rattle.sheet.proofs.Blocks.{begins}
 use Rattle.sheet_values.specs.Values.{value, films, window, layers-at}
 use Rattle.gate.specs.Gate as Gate
-use Rattle.gate.specs.Gate.{gate, gated}
+use Rattle.gate.specs.Gate.{gate}
 use Rattle.gate.proofs.Admitted.{admitted, turned-back}
-use Rattle.optical_train.specs.declared.SurfaceReply.{SurfaceReply}
 use Rattle.optical_train.specs.Train.{nth, answers-to, surface-answers, given}
 use Rattle.optical_train.proofs.Along.{few}
 use Rattle.optical_train.proofs.Answers.{all-nth, Good, layers-length, wavelength-within, answered}

@@ -13,7 +13,6 @@ use Rattle.sheet.specs.Read.{read, decode, surface-at}
 use Rattle.sheet.specs.Scan.{run}
 use Rattle.sheet_values.specs.Values.{value, layers-at}
 use Rattle.optical_train.specs.declared.Chosen.{Chosen}
-use Rattle.optical_train.specs.declared.State.{State}
 use Rattle.optical_train.specs.Train.{nth, chosen-powers, fresh, after-each}
 use Rattle.optical_train.proofs.Along.{At, fresh-is, first, surface-here, onward, few}
 use Rattle.optical_train.proofs.Written.{Half, nothing, written, whole}

@@ -4,7 +4,7 @@ use mathlib.Core.List.{List}
 use lib.Ieee.{Float}
 use borrow.Author.Needs.{needs}
 use Rattle.refusal.specs.declared.Refusal.{Refusal}
-use Rattle.refusal.specs.Outcome.{Outcome, answer, refusal, map}
+use Rattle.refusal.specs.Outcome.{Outcome, refusal, map}
 use Rattle.transfer_matrix.specs.declared.ThinFilmLayer.{ThinFilmLayer}
 use Rattle.transfer_matrix.specs.declared.CoatingResponse.{CoatingResponse}
 use Rattle.thin_film.specs.declared.SurfaceCoating.{SurfaceCoating}

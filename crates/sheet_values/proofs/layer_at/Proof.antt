@@ -1,7 +1,5 @@
 -- `sheet_values::layer_at` meets its contract. Assumes nothing.
-use mathlib.Core.Path.{_≡_, sym, ap, _∙_}
-use Prim.Native.Nat.{ℕ, _+_, _-_, _≤_, _<_}
-use native.Mathlib.Omega.{arith}
+use Prim.Native.Nat.{_-_}
 use borrow.Author.Needs.{needs}
 use Rattle.sheet_values.proofs.Past.{layer-past}
 use Rattle.sheet_values.proofs.layer_at.Statement.{statement}
