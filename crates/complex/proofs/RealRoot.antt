@@ -17,8 +17,8 @@ use Rattle.ieee.proofs.Range.Laws.{in-lit, in-mag, sq-in, plus-finite}
 use Rattle.ieee.proofs.Range.Quotients.{div-mag}
 use Rattle.ieee.proofs.Range.Tests.{gate-in, never-above}
 use Rattle.ieee.proofs.Range.Zero.{zero-mul-mag, add-zero-same, sub-self-mag}
-use Rattle.sqrt.specs.Root.{squareRoot}
-use Rattle.sqrt.proofs.Range.{sqrt-law}
+use Rattle.square_root.specs.Root.{squareRoot}
+use Rattle.square_root.proofs.Range.{sqrt-law}
 use Rattle.complex.specs.declared.Complex.{Complex}
 use Rattle.complex.specs.Complex.{norm-sq, norm, half-root, sqrt}
 

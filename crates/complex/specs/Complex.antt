@@ -3,7 +3,7 @@ use mathlib.Core.Bool.{cond}
 use lib.Ieee.{Float, binary64, neg, lt, le, ofBits}
 use Rattle.ieee.specs.Operators.{_⊕_, _⊖_, _⊗_, _⊘_}
 use Rattle.ieee.specs.Functions.{zero-f, two, max}
-use Rattle.sqrt.specs.Root.{squareRoot}
+use Rattle.square_root.specs.Root.{squareRoot}
 use Rattle.elementary.specs.Trig.{sin, cos}
 use Rattle.elementary.specs.Exp as Exp
 use Rattle.elementary.specs.Atan.{atan2}

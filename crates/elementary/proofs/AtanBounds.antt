@@ -18,8 +18,8 @@ use Rattle.ieee.proofs.Range.Constants.{zero-mag, one-in, two-in}
 use Rattle.ieee.proofs.Range.Sums.{add-mag, sub-mag, add-in, sub-in}
 use Rattle.ieee.proofs.Range.Quotients.{div-mag}
 use Rattle.ieee.proofs.Range.Tests.{choose, cond-mag, lt-in, nlt-most}
-use Rattle.sqrt.specs.Root.{sqrt}
-use Rattle.sqrt.proofs.Range.{sqrt-in}
+use Rattle.square_root.specs.Root.{sqrt}
+use Rattle.square_root.proofs.Range.{sqrt-in}
 use Rattle.elementary.specs.Angles.{pi, half-pi, quarter-pi}
 use Rattle.elementary.specs.Atan.{three, four, with-sign, half-angle, atan-series, atan-poly, atan-abs, atan, asin, turned, atan2}
 

@@ -6,7 +6,7 @@ use lib.Ieee.{Float, nan, binary64, neg, lt, ofInt, ofBits, isNan}
 use Rattle.ieee.specs.Operators.{_⊕_, _⊖_, _⊗_, _⊘_}
 use Rattle.ieee.specs.Functions.{zero-f, one, two, is-inf, is-zero, abs}
 use Rattle.ieee.specs.Range.{sgn}
-use Rattle.sqrt.specs.Root.{sqrt}
+use Rattle.square_root.specs.Root.{sqrt}
 use Rattle.elementary.specs.Angles.{pi, half-pi, quarter-pi}
 
 -- 3

@@ -1,5 +1,5 @@
 -- The starred known answers, each computed in the crate that it lives in. Assumes nothing.
-use Rattle.sqrt.proofs.Known.{sqrt-known}
+use Rattle.square_root.proofs.Known.{sqrt-known}
 use Rattle.complex.proofs.Known as complex
 use Rattle.thin_film.proofs.Known as thin-film
 use Rattle.fresnel.proofs.Known as fresnel

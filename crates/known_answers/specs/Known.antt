@@ -4,7 +4,7 @@ use mathlib.Core.List.{[], _∷_}
 use mathlib.Core.Option.{none, some}
 use lib.Ieee.{Float, binary64, ofBits}
 use Rattle.ieee.specs.Functions.{zero-f, one, two, half}
-use Rattle.sqrt.specs.Root.{sqrt}
+use Rattle.square_root.specs.Root.{sqrt}
 use Rattle.elementary.specs.Angles.{pi}
 use Rattle.complex.specs.Complex.{real, zero, div}
 use Rattle.refusal.specs.Outcome.{answer}

@@ -6,7 +6,7 @@ use lib.ListN.{getD}
 use lib.Ieee.{Float, binary64, neg, le, ofBits}
 use Rattle.ieee.specs.Operators.{_⊕_, _⊗_, _⊘_}
 use Rattle.ieee.specs.Functions.{zero-f, one, half}
-use Rattle.sqrt.specs.Root.{sqrt}
+use Rattle.square_root.specs.Root.{sqrt}
 use Rattle.elementary.specs.Angles.{pi, half-pi}
 use Rattle.elementary.specs.Trig.{sin, cos}
 use Rattle.complex.specs.declared.Complex.{Complex}

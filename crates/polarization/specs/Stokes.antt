@@ -3,7 +3,7 @@ use mathlib.Core.Bool.{cond}
 use lib.Ieee.{Float, binary64, neg, le, ofBits}
 use Rattle.ieee.specs.Operators.{_⊕_, _⊗_, _⊘_}
 use Rattle.ieee.specs.Functions.{zero-f, one, half, abs, max, clamp}
-use Rattle.sqrt.specs.Root.{sqrt}
+use Rattle.square_root.specs.Root.{sqrt}
 use Rattle.elementary.specs.Atan.{asin, atan2}
 use Rattle.polarization.specs.declared.StokesVector.{StokesVector}
 

@@ -5,7 +5,7 @@ use lib.Ieee.{Float, neg, lt, le}
 use lib.Ieee.Scale.{finite}
 use Rattle.ieee.specs.Operators.{_⊕_, _⊖_, _⊗_, _⊘_}
 use Rattle.ieee.specs.Functions.{zero-f, one, two, abs, max, powi2}
-use Rattle.sqrt.specs.Root.{sqrt}
+use Rattle.square_root.specs.Root.{sqrt}
 use Rattle.elementary.specs.Trig.{sin, cos}
 use Rattle.elementary.specs.Atan.{atan}
 use Rattle.complex.specs.declared.Complex.{Complex}

@@ -2,7 +2,7 @@
 // and the benchmark link.
 ghost use mathlib.Core.Path.{_≡_};
 ghost use lib.Ieee.{binary64};
-ghost use Rattle.sqrt.specs.Root.{squareRoot};
+ghost use Rattle.square_root.specs.Root.{squareRoot};
 ghost use Rattle.elementary.specs.Trig.{sin, cos};
 ghost use Rattle.elementary.specs.Exp.{exp};
 ghost use Rattle.elementary.specs.Atan.{atan, asin, atan2};

@@ -18,8 +18,8 @@ use Rattle.ieee.proofs.Range.Ratio.{slope, ratio-mag}
 use Rattle.ieee.proofs.Range.Powers.{to-pow, mul-pow}
 use Rattle.ieee.proofs.Range.Plus.{mul-plus, plus-in}
 use Rattle.ieee.proofs.Range.Constants.{zero-in, zero-foot, one-in, two-in}
-use Rattle.sqrt.specs.Root.{sqrt}
-use Rattle.sqrt.proofs.Range.{sqrt-in}
+use Rattle.square_root.specs.Root.{sqrt}
+use Rattle.square_root.proofs.Range.{sqrt-in}
 use Rattle.elementary.specs.Trig.{sin, cos}
 use Rattle.elementary.proofs.TrigBounds.{sin-mag}
 use Rattle.elementary.proofs.AtanBounds.{finite-number, atan2-mag}

@@ -13,7 +13,7 @@ use lib.Ieee.Positive.{above, first-pos}
 use Rattle.ieee.specs.Range.{clear}
 use Rattle.ieee.proofs.Signs.{zero-is, of-true, and-true, not-zero, nothing′, zero-level}
 use Rattle.ieee.proofs.Patterns.{nan-is, no-nan}
-use Rattle.sqrt.specs.Root.{squareRoot}
+use Rattle.square_root.specs.Root.{squareRoot}
 
 -- 0 < x
 lt-above : (x : Float) → lt (fin false 0 (pos 0)) x ≡ true → T (above x)

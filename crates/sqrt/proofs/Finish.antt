@@ -15,10 +15,10 @@ use lib.Ieee.Fits.{down-pos}
 use lib.Ieee.Exact.{HasValue, units-val}
 use lib.Ieee.Scale.{overflow}
 use lib.Ieee.Positive.{num, den, den-pos, value→cross, positive-of-value}
-use Rattle.sqrt.specs.Root.{closestRoot, roundRoot, squareRoot}
-use Rattle.sqrt.proofs.Closest.{closestRoot-mono, closestRoot-square}
-use Rattle.sqrt.proofs.Grid.{size-gt, roundRoot-same, roundRoot-at}
-use Rattle.sqrt.proofs.Laws.{squareRoot-is, units-fits}
+use Rattle.square_root.specs.Root.{closestRoot, roundRoot, squareRoot}
+use Rattle.square_root.proofs.Closest.{closestRoot-mono, closestRoot-square}
+use Rattle.square_root.proofs.Grid.{size-gt, roundRoot-same, roundRoot-at}
+use Rattle.square_root.proofs.Laws.{squareRoot-is, units-fits}
 use Rattle.sqrt.specs.Steps.{radicand, rootBits}
 use Rattle.sqrt.proofs.Lift.{Normal, lifted, from-subnormal, from-normal}
 

@@ -1,12 +1,4 @@
--- What the functions' proofs use, and the laws of the square root for callers.
-pub mod Floor
-pub mod Closest
-pub mod Grid
-pub mod Laws
-pub mod Square
-pub mod Nearest
-pub mod Range
-pub mod Known
+-- What the functions' proofs use.
 mod Digits
 mod Product
 mod Patterns

@@ -16,10 +16,10 @@ use lib.Ieee.Scale.{finite}
 use Rattle.ieee.specs.Rounding.{OnePart}
 use Rattle.ieee.proofs.Rounding.{rounding}
 use Rattle.ieee.proofs.Range.Round.{round-clear}
-use Rattle.sqrt.specs.Root.{closestRoot}
+use Rattle.square_root.specs.Root.{closestRoot}
 use Rattle.sqrt.specs.Steps.{radicand, Nearest}
 use Rattle.sqrt.proofs.Patterns.{normal}
-use Rattle.sqrt.proofs.Closest.{closestRoot-at}
+use Rattle.square_root.proofs.Closest.{closestRoot-at}
 use Rattle.sqrt.proofs.Cases.{clear-no-nan}
 
 -- ---- the digits of a pattern, and the float that they make

@@ -1,6 +1,2 @@
--- The square root's definition, the claim that it is the nearest f64, and what its callers and its own functions are told.
-pub mod Root
+-- What the functions on the way to a root are told of their results.
 pub mod Steps
-pub mod Nearest
-pub mod Known
-pub mod RootLaw

@@ -10,7 +10,7 @@ ghost use mathlib.Core.Path.{_≡_};
 ghost use Prim.Native.Nat.{_+_, _*_, _/_, _%_, _^_, _≤_, _<_};
 ghost use lib.Dec.{T};
 ghost use lib.Ieee.{binary64, ofBits};
-ghost use Rattle.sqrt.specs.Root.{squareRoot, closestRoot};
+ghost use Rattle.square_root.specs.Root.{squareRoot, closestRoot};
 ghost use Rattle.sqrt.specs.Steps.{radicand, rootBits, Rooted, Nearest};
 
 // A root cut to a whole number, and what its square leaves of the number.

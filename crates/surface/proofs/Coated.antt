@@ -17,8 +17,8 @@ use Rattle.ieee.proofs.Range.Laws.{in-mag, in-up, mag-up, neg-mag, plus-finite}
 use Rattle.ieee.proofs.Range.FromZero.{above-zero}
 use Rattle.ieee.proofs.Range.Falls.{in-zero-to-one, to-tests}
 use Rattle.ieee.proofs.Range.Constants.{zero-mag, zero-foot, half-in, one-in, one-mag}
-use Rattle.sqrt.specs.Root.{sqrt}
-use Rattle.sqrt.proofs.Range.{sqrt-in}
+use Rattle.square_root.specs.Root.{sqrt}
+use Rattle.square_root.proofs.Range.{sqrt-in}
 use Rattle.elementary.proofs.AtanBounds.{pi-mag}
 use Rattle.elementary.specs.Trig.{sin}
 use Rattle.refusal.specs.Outcome.{Outcome, answer}

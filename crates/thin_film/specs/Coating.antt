@@ -7,7 +7,7 @@ use lib.ListN.{length, replicate}
 use lib.Ieee.{Float, binary64, ofBits}
 use Rattle.ieee.specs.Operators.{_⊗_, _⊘_}
 use Rattle.ieee.specs.Functions.{zero-f}
-use Rattle.sqrt.specs.Root.{squareRoot}
+use Rattle.square_root.specs.Root.{squareRoot}
 use Rattle.transfer_matrix.specs.declared.ThinFilmLayer.{ThinFilmLayer}
 use Rattle.transfer_matrix.specs.Solve.{dielectric}
 use Rattle.thin_film.specs.declared.Coating.{Coating}

@@ -4,7 +4,7 @@ use mathlib.Core.List.{[]}
 use lib.Ieee as Ieee
 use lib.Ieee.{Float, binary64, ofBits}
 use Rattle.ieee.specs.Functions.{zero-f, one, half, abs, max, clamp}
-use Rattle.sqrt.specs.Root.{squareRoot}
+use Rattle.square_root.specs.Root.{squareRoot}
 use Rattle.elementary.specs.Angles.{pi}
 use Rattle.elementary.specs.Trig.{wrap, fold, tuck, series, sin-at, sin, cos-at, cos-of, cos}
 use Rattle.elementary.specs.Atan.{with-sign, atan2}

@@ -1,7 +1,7 @@
 -- `complex::half_root` meets its contract. Assumes nothing.
 use mathlib.Core.Path.{_∙_, ap}
 use lib.Ieee.{binary64}
-use Rattle.sqrt.specs.Root.{squareRoot}
+use Rattle.square_root.specs.Root.{squareRoot}
 use Rattle.complex.specs.Complex.{half-root}
 use borrow.Author.Needs.{needs}
 use Rattle.complex.proofs.half_root.Statement.{statement}

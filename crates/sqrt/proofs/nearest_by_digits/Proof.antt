@@ -3,8 +3,8 @@ use mathlib.Core.Path.{sym, ap, _∙_}
 use Prim.Native.Nat.{ℕ}
 use native.Mathlib.Numerals.{add-one}
 use borrow.Author.Needs.{needs}
-use Rattle.sqrt.specs.Root.{closestRoot}
-use Rattle.sqrt.proofs.Closest.{closestRoot-down, closestRoot-up}
+use Rattle.square_root.specs.Root.{closestRoot}
+use Rattle.square_root.proofs.Closest.{closestRoot-down, closestRoot-up}
 use Rattle.sqrt.proofs.nearest_by_digits.Statement.{statement}
 use Rattle.sqrt.proofs.nearest_by_digits.Tie as tie
 

@@ -8,7 +8,7 @@ use mathlib.Core.Bool.{not}
 use lib.Dec.{T}
 use lib.Ieee.{binary64, nanBits, toBits, ofBits}
 use Rattle.ieee.proofs.Signs.{of-true}
-use Rattle.sqrt.specs.Root.{closestRoot}
+use Rattle.square_root.specs.Root.{closestRoot}
 use Rattle.sqrt.specs.Steps.{radicand, rootBits, Nearest}
 use Rattle.sqrt.proofs.Cases.{is-above, above-no-nan, below-no-nan}
 use Rattle.sqrt.proofs.Finish.{own-most, normal-root-lt}

@@ -5,7 +5,7 @@ use lib.Dec.{T}
 use lib.Ieee.{Float, binary64, fits, toBits, ofBits}
 use lib.Ieee.Bits.{ofBits-toBits}
 use lib.Ieee.Positive.{above}
-use Rattle.sqrt.specs.Root.{squareRoot}
+use Rattle.square_root.specs.Root.{squareRoot}
 use Rattle.sqrt.proofs.Patterns.{above-pos, above-inf}
 use Rattle.sqrt.proofs.Cases.{is-above, above-no-nan, root-inf, root-zero, root-none}
 use Rattle.sqrt.proofs.Finish.{normal-root}

@@ -8,7 +8,7 @@ use lib.Dec.{T}
 use lib.Ieee.{Float, binary64, le, isNan, fits, toBits, ofBits}
 use lib.Ieee.Bits.{ofBits-toBits}
 use Rattle.ieee.proofs.Signs.{of-true}
-use Rattle.sqrt.specs.Root.{squareRoot, closestRoot}
+use Rattle.square_root.specs.Root.{squareRoot, closestRoot}
 use Rattle.sqrt.specs.Steps.{radicand, Nearest}
 use Rattle.sqrt.proofs.Cases.{above-no-nan, below-no-nan}
 use Rattle.sqrt.proofs.Patterns.{one, one-above, one-least}

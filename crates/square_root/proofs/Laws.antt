@@ -15,8 +15,8 @@ use lib.Ieee.Order.{le-of-values}
 use lib.Ieee.Scale.{overflow}
 use lib.Ieee.Positive.{num, den, positive, positive-finite, den-pos, first-pos, value-pos, own-value, between}
 use Rattle.ieee.proofs.Range.Values.{Whole, whole, unique}
-use Rattle.sqrt.specs.Root.{roundRoot, squareRoot}
-use Rattle.sqrt.proofs.Grid.{rootDrop, rootKept, rootGrid, roundRoot-is, rootGrid-mono, rootGrid-exact, kept-le}
+use Rattle.square_root.specs.Root.{roundRoot, squareRoot}
+use Rattle.square_root.proofs.Grid.{rootDrop, rootKept, rootGrid, roundRoot-is, rootGrid-mono, rootGrid-exact, kept-le}
 
 pub squareRoot-is : (f : Format) (x : Float) → T (positive x) → squareRoot f x ≡ roundRoot f (num x) (den x)
 unfolding squareRoot

@@ -18,11 +18,11 @@ use Rattle.ieee.specs.Range.{plus, clear, In, Mag, Size, Pow, holds}
 use Rattle.ieee.proofs.Range.Round.{rep-value, round-clear, units-clear, to-plus, below-finite, le-cross, value-cross, value-finite}
 use Rattle.ieee.proofs.Range.Laws.{zero-under, rep-small, in-size, in-up}
 use Rattle.ieee.proofs.Range.Powers.{to-pow, mul-pow}
-use Rattle.sqrt.specs.Root.{squareRoot, sqrt}
-use Rattle.sqrt.specs.RootLaw.{roots, RootLaw}
-use Rattle.sqrt.proofs.Grid.{rootDrop, rootKept, roundRoot-is}
-use Rattle.sqrt.proofs.Laws.{squareRoot-is, squareRoot-ge, squareRoot-le}
-use Rattle.sqrt.proofs.Square.{squareRoot-of-square, squareRoot-of-square-negative}
+use Rattle.square_root.specs.Root.{squareRoot, sqrt}
+use Rattle.square_root.specs.RootLaw.{roots, RootLaw}
+use Rattle.square_root.proofs.Grid.{rootDrop, rootKept, roundRoot-is}
+use Rattle.square_root.proofs.Laws.{squareRoot-is, squareRoot-ge, squareRoot-le}
+use Rattle.square_root.proofs.Square.{squareRoot-of-square, squareRoot-of-square-negative}
 
 -- ---- the root of a number above zero has a clear sign
 root-clear : (x : Float) → T (positive x) → T (clear (sqrt x))

@@ -13,10 +13,10 @@ use lib.Ieee.Digits.{size-lt, size-le, size-reaches, back}
 use lib.Ieee.Fits.{two, two-le-pos}
 use Rattle.ieee.proofs.Range.Relative.{Cmp, cmp, near}
 use Rattle.ieee.proofs.Range.Values.{Whole, whole, pow-lt-back}
-use Rattle.sqrt.specs.Root.{midSquare, isqrt, closestRoot, squareRoot}
-use Rattle.sqrt.proofs.Closest.{isqrt-ge, isqrt-below, closestRoot-is}
-use Rattle.sqrt.proofs.Grid.{rootDrop, rootKept, rootGrid, roundRoot-is, roundRoot-same, rootDrop-in, rootGrid-exact, kept-le, size-gt}
-use Rattle.sqrt.proofs.Laws.{squareRoot-is, units-fits, fits-unique}
+use Rattle.square_root.specs.Root.{midSquare, isqrt, closestRoot, squareRoot}
+use Rattle.square_root.proofs.Closest.{isqrt-ge, isqrt-below, closestRoot-is}
+use Rattle.square_root.proofs.Grid.{rootDrop, rootKept, rootGrid, roundRoot-is, roundRoot-same, rootDrop-in, rootGrid-exact, kept-le, size-gt}
+use Rattle.square_root.proofs.Laws.{squareRoot-is, units-fits, fits-unique}
 use lib.Ieee.Exact.{HasValue, units-val}
 use lib.Ieee.Order.{drop, kept}
 use lib.Ieee.Scale.{finite, overflow, round-val, round-under}

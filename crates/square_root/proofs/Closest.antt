@@ -9,8 +9,8 @@ use lib.Ieee.{nearest}
 use lib.Ieee.Fits.{nearest-le}
 use lib.Ieee.Nearest.{nearest-ge, div-mono}
 use Rattle.ieee.proofs.Range.Relative.{Cmp, cmp}
-use Rattle.sqrt.specs.Root.{midSquare, isqrt, closestRoot}
-use Rattle.sqrt.proofs.Floor.{isqrt-le, isqrt-lt}
+use Rattle.square_root.specs.Root.{midSquare, isqrt, closestRoot}
+use Rattle.square_root.proofs.Floor.{isqrt-le, isqrt-lt}
 
 -- ---- `isqrt`
 

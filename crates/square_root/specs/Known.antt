@@ -1,7 +1,7 @@
 -- The starred known answers of 01 that are square roots. Definitions only; proofs/Known.antt computes them.
 use mathlib.Core.Path.{_≡_}
 use lib.Ieee.{binary64, ofBits}
-use Rattle.sqrt.specs.Root.{sqrt}
+use Rattle.square_root.specs.Root.{sqrt}
 
 pub record SqrtKnown : Type 0 where
   -- sqrt(2^-1074) = 2^-537

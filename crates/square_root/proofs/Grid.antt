@@ -11,9 +11,9 @@ use lib.Ieee.{Format, prec, low, size, units}
 use lib.Ieee.Digits.{size-lt, size-le, size-reaches, back}
 use lib.Ieee.Fits.{nearest-le, two, two-le-pos}
 use lib.Ieee.Nearest.{nearest-ge, div-mono, div-same}
-use Rattle.sqrt.specs.Root.{midSquare, isqrt, closestRoot, roundRoot}
-use Rattle.sqrt.proofs.Floor.{isqrt-le, isqrt-lt}
-use Rattle.sqrt.proofs.Closest.{isqrt-ge, isqrt-below, isqrt-mono, isqrt-square, closestRoot-is, closestRoot-mono, closestRoot-same, closestRoot-square}
+use Rattle.square_root.specs.Root.{midSquare, isqrt, closestRoot, roundRoot}
+use Rattle.square_root.proofs.Floor.{isqrt-le, isqrt-lt}
+use Rattle.square_root.proofs.Closest.{isqrt-ge, isqrt-below, isqrt-mono, isqrt-square, closestRoot-is, closestRoot-mono, closestRoot-same, closestRoot-square}
 
 abbrev pub rootDrop : ℕ → ℕ → ℕ → ℕ
 rootDrop p n den = size (isqrt (n / den)) - p

@@ -19,11 +19,11 @@ use Rattle.ieee.proofs.Count.{count-of}
 use Rattle.ieee.proofs.Range.Round.{value-cross}
 use Rattle.ieee.proofs.Range.Laws.{plus-finite}
 use Rattle.ieee.proofs.Range.Values.{split-pow, Whole, whole}
-use Rattle.sqrt.specs.Root.{midSquare, squareRoot, sqrt}
-use Rattle.sqrt.specs.Nearest.{square, RootIsNearest}
-use Rattle.sqrt.proofs.Closest.{Half, closestRoot-half, closestRoot-same}
-use Rattle.sqrt.proofs.Grid.{rootDrop, rootKept, roundRoot-is, root-reaches, kept-ge}
-use Rattle.sqrt.proofs.Laws.{squareRoot-is, squareRoot-fits, squareRoot-positive}
+use Rattle.square_root.specs.Root.{midSquare, squareRoot, sqrt}
+use Rattle.square_root.specs.Nearest.{square, RootIsNearest}
+use Rattle.square_root.proofs.Closest.{Half, closestRoot-half, closestRoot-same}
+use Rattle.square_root.proofs.Grid.{rootDrop, rootKept, roundRoot-is, root-reaches, kept-ge}
+use Rattle.square_root.proofs.Laws.{squareRoot-is, squareRoot-fits, squareRoot-positive}
 
 -- ---- an odd s with s * 2 ^ a = m * 2 ^ b is no more than m, and b is no more than a
 no-lower : (s m a b : ℕ) → s % 2 ≡ 1 → a < b → s * 2 ^ a ≡ m * 2 ^ b → ⊥

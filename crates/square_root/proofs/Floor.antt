@@ -7,7 +7,7 @@ use mathlib.Core.Bool.{Bool, true, false, not, cond}
 use lib.Dec.{T, leb, leb→le, nleb→lt}
 use lib.Ieee.{size}
 use lib.Ieee.Digits.{size-lt}
-use Rattle.sqrt.specs.Root.{digit, floorRoot, isqrt}
+use Rattle.square_root.specs.Root.{digit, floorRoot, isqrt}
 
 -- r is the root of n, cut to a whole number
 abbrev pub IsRoot : ℕ → ℕ → Type 0

@@ -1,8 +1,8 @@
 -- `sqrt` computed: 01's starred answers, and some others. Assumes nothing.
 use mathlib.Core.Path.{_≡_, refl}
 use lib.Ieee.{nan, binary64, ofBits}
-use Rattle.sqrt.specs.Root.{squareRoot, sqrt}
-use Rattle.sqrt.specs.Known.{SqrtKnown}
+use Rattle.square_root.specs.Root.{squareRoot, sqrt}
+use Rattle.square_root.specs.Known.{SqrtKnown}
 
 pub sqrt-known : SqrtKnown
 unfolding ofBits squareRoot

@@ -7,7 +7,7 @@ use lib.Ieee.{Float, binary64, fits}
 use lib.Ieee.Positive.{positive}
 use Rattle.ieee.specs.Count.{count}
 use Rattle.ieee.specs.Range.{plus}
-use Rattle.sqrt.specs.Root.{sqrt}
+use Rattle.square_root.specs.Root.{sqrt}
 
 abbrev pub square : ℕ → ℕ
 square n = n * n

@@ -1,0 +1,9 @@
+-- The laws of the square root.
+pub mod Floor
+pub mod Closest
+pub mod Grid
+pub mod Laws
+pub mod Square
+pub mod Nearest
+pub mod Range
+pub mod Known
