@@ -115,7 +115,7 @@ macro_rules! side {
                 for sheet in super::gate_sheets() {
                     works.push(Box::new(move || gate(&sheet).map_or(0.0, |x| x.s)));
                 }
-                for sheet in super::gate_sheets() {
+                for sheet in super::step_sheets() {
                     works.push(Box::new(move || last_step(&sheet)));
                 }
                 works.into_iter().map(Some).collect()
@@ -128,8 +128,8 @@ side!(authors, f64::cos);
 side!(reference, crate::section2::cos);
 
 /// The workloads, with the number of calls in each.
-pub const WORKS: [(&str, usize); 15] = [
-    ("bare surface", 64),
+pub const WORKS: [(&str, usize); 17] = [
+    ("bare surface, the two powers alone", 64),
     ("MgF2", 64),
     ("15-layer mirror", 64),
     ("16 custom layers", 64),
@@ -139,22 +139,30 @@ pub const WORKS: [(&str, usize); 15] = [
     ("whole run, 64 surfaces of 16 layers", 1),
     ("whole run, 64 surfaces of 4 layers", 1),
     ("whole run, 64 surfaces of 1 layer", 1),
+    ("whole run, 1 bare surface", 1),
     ("whole run, 64 bare surfaces", 1),
     ("gate, 1 surface of 16 layers", 1),
     ("gate, the longest sheet: 64 surfaces of 16 layers", 1),
     ("step, 1 surface of 16 layers", 1),
     ("step, the last surface of the longest sheet", 1),
+    ("step, 1 bare surface", 1),
 ];
 
 /// Sheets of so many surfaces with so many layers each; without layers they are bare.
 pub fn run_sheets() -> Vec<Vec<u8>> {
-    [(1, 16), (8, 16), (64, 16), (64, 4), (64, 1), (64, 0)]
+    [(1, 16), (8, 16), (64, 16), (64, 4), (64, 1), (1, 0), (64, 0)]
         .map(|(surfaces, layers)| even(surfaces, layers).bytes())
         .to_vec()
 }
 
 pub fn gate_sheets() -> Vec<Vec<u8>> {
     [(1, 16), (64, 16)]
+        .map(|(surfaces, layers)| even(surfaces, layers).bytes())
+        .to_vec()
+}
+
+pub fn step_sheets() -> Vec<Vec<u8>> {
+    [(1, 16), (64, 16), (1, 0)]
         .map(|(surfaces, layers)| even(surfaces, layers).bytes())
         .to_vec()
 }

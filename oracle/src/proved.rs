@@ -129,7 +129,7 @@ fn evaluations() -> Vec<Option<Work>> {
             list[0] + list[1]
         }))
     };
-    works.extend(crate::bench::gate_sheets().into_iter().map(step));
+    works.extend(crate::bench::step_sheets().into_iter().map(step));
     works
 }
 

@@ -15,6 +15,7 @@ use Rattle.sheet.specs.Claim.{Bytes, length-fits, Fault}
 use Rattle.sheet.proofs.Claim.{grammar-claim}
 use Rattle.gate.specs.Gate.{tests, judged, within-limits, gated}
 use Rattle.gate.specs.Claim.{Within, FirstOutside, GateClaim}
+use Rattle.gate.proofs.Placed as Placed
 use Rattle.gate.proofs.Judged.{Passed, Judged, all-pass, one-fails, judging, passed-judged, first-judged, within-passed, passed-within}
 
 -- ---- the gate, case by case
@@ -132,5 +133,6 @@ gate-claim = record {
   four = λ src bs place. (is-four src (cases src) place, turned-back src bs place);
   five = λ src bs place. (out-of-grammar src bs place, λ h. by-grammar src (h .0) (fault place) (grammar-claim .faults src bs (h .0) place .1 (h .1)));
   six = λ src bs place. (out-of-limits src bs place, λ h. limits-out src bs place (h .0) (h .1 .0) (h .1 .1));
+  placed = Placed.placed;
   no-other = λ src number place e. is-number src (cases src) number place e;
 }

@@ -3,12 +3,12 @@
 use mathlib.Core.Path.{_≡_}
 use mathlib.Core.Logic.{_⊎_}
 use mathlib.Core.Bool.{true, false}
-use mathlib.Core.List.{List, _∷_, _++_}
+use mathlib.Core.List.{List, [], _∷_, _++_, map}
 use Prim.Native.Nat.{ℕ}
 use lib.Dec.{T}
 use Rattle.refusal.specs.Outcome.{answer, refusal}
 use Rattle.surface.specs.Limits.{beam-passes, passes}
-use Rattle.sheet.specs.Sheet.{Surface, Sheet, All, WellFormed, encode}
+use Rattle.sheet.specs.Sheet.{Surface, Sheet, All, WellFormed, encode, places}
 use Rattle.sheet.specs.Claim.{_⇔_, Bytes, length-fits, Fault}
 use Rattle.sheet_values.specs.Values.{value, films, window}
 use Rattle.gate.specs.Gate.{Test, tests, gated}
@@ -25,6 +25,10 @@ pub record FirstOutside (x : Sheet) (place : ℕ) : Type 0 where
   pub split : tests x ≡ before ++ (record { at = place; passes = false } ∷ after)
   pub inside : All (λ (t : Test). t .passes ≡ true) before
 
+-- where each test stands
+abbrev pub tested : List Test → List ℕ
+tested ts = map (λ (t : Test). t .at) ts
+
 pub record GateClaim : Type 0 where
   -- admitted exactly when the bytes are those of a well-formed sheet within the limits; that sheet is then the answer, so it is the only one
   pub admits : (src : List ℕ) → Bytes src → (x : Sheet) → (gated src ≡ answer x) ⇔ ((WellFormed x × Within x) × (encode x ≡ src))
@@ -34,5 +38,7 @@ pub record GateClaim : Type 0 where
   pub five : (src : List ℕ) → Bytes src → (place : ℕ) → (gated src ≡ refusal 5 place) ⇔ (T (length-fits src) × (((x : Sheet) → WellFormed x → encode x ≡ src → ⊥) × Fault src place))
   -- 6 exactly when a well-formed sheet does and is outside the limits
   pub six : (src : List ℕ) → Bytes src → (place : ℕ) → (gated src ≡ refusal 6 place) ⇔ ((x : Sheet) × ((WellFormed x × (encode x ≡ src)) × FirstOutside x place))
+  -- the tests stand at the kind words in their order, each at its own: all of them but OPEN's, in front, and END's
+  pub placed : (x : Sheet) → (end : ℕ) × (0 ∷ (tested (tests x) ++ (end ∷ [])) ≡ places x)
   -- and there is no other refusal
   pub no-other : (src : List ℕ) → (number place : ℕ) → gated src ≡ refusal number place → (number ≡ 4) ⊎ ((number ≡ 5) ⊎ (number ≡ 6))

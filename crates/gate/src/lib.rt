@@ -48,10 +48,11 @@ fn limits(src: &[u8], count: u32) -> Gated
         let kind = sheet::word_from(src, at) / 0x1000_0000;
         if kind == 3 {
             let s = sheet_values::surface_at(src, at);
-            if !surface::surface_passes(s) {
+            let judgement = surface::judge_surface(s);
+            if !judgement.passes {
                 return outside(at);
             }
-            bend = surface::bend(s.n_incident, s.angle_rad);
+            bend = judgement.bend;
             at += 7;
         } else if kind == 4 {
             if !surface::layer_within(bend, sheet_values::layer_at(src, at)) {

@@ -10,6 +10,7 @@ use Rattle.elementary.specs.Trig.{sin, cos}
 use Rattle.elementary.specs.Atan.{four}
 use Rattle.transfer_matrix.specs.declared.ThinFilmLayer.{ThinFilmLayer}
 use Rattle.surface.specs.declared.Surface.{Surface}
+use Rattle.surface.specs.declared.Judgement.{Judgement}
 use Rattle.surface.specs.Coating.{interface, preset-layers}
 
 -- 0.25, 100, 10,000 and 100,000
@@ -59,14 +60,23 @@ layer-passes n-incident angle layer = layer-within (bend n-incident angle) layer
 abbrev pub layers-pass : Float → Float → List ThinFilmLayer → Bool
 layers-pass n-incident angle layers = layers-within (bend n-incident angle) layers
 
--- ---- a SURFACE without its LAYERs: both indices 1 to 4; angle finite with cos at least 0.25; n_incident·abs(sin) at most 0.875·n_substrate; preset layers too
+-- ---- a SURFACE without its LAYERs, from b = n_incident·abs(sin) and c = cos: both indices 1 to 4; angle finite with cos at least 0.25;
+-- n_incident·abs(sin) at most 0.875·n_substrate; preset layers too
+abbrev pub angle-within : Float → Float → Surface → Bool
+angle-within b c s = le quarter c && (bends b (s .«n_substrate») && layers-within b (preset-layers (interface (s .coating))))
+
+abbrev pub surface-within : Float → Float → Surface → Bool
+surface-within b c s = within one four (s .«n_incident») && (within one four (s .«n_substrate») && (finite (s .«angle_rad») && angle-within b c s))
+
 unfoldable pub angle-passes : Surface → Bool
-angle-passes s =
-    let b = bend (s .«n_incident») (s .«angle_rad») in
-    le quarter (cos (s .«angle_rad»)) && (bends b (s .«n_substrate») && layers-within b (preset-layers (interface (s .coating))))
+angle-passes s = angle-within (bend (s .«n_incident») (s .«angle_rad»)) (cos (s .«angle_rad»)) s
 
 unfoldable pub surface-passes : Surface → Bool
 surface-passes s = within one four (s .«n_incident») && (within one four (s .«n_substrate») && (finite (s .«angle_rad») && angle-passes s))
+
+-- both that a surface passes and its n_incident·abs(sin), for its LAYERs
+abbrev pub judgement : Surface → Judgement
+judgement s = record { passes = surface-passes s; bend = bend (s .«n_incident») (s .«angle_rad») }
 
 -- ---- a SURFACE with its LAYERs at the wavelength that it is met with, on which none of these limits depends
 unfoldable pub passes : Float → Surface → List ThinFilmLayer → Bool

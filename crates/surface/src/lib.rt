@@ -3,7 +3,7 @@
 ghost use mathlib.Core.Path.{_≡_};
 ghost use Rattle.refusal.specs.Outcome.{refusal};
 ghost use Rattle.surface.specs.Coating.{interface, preset-layers};
-ghost use Rattle.surface.specs.Limits.{within, beam-passes, bend, layer-within, layers-within, layer-passes, angle-passes, surface-passes};
+ghost use Rattle.surface.specs.Limits.{within, beam-passes, bend, layer-within, layers-within, layer-passes, angle-within, surface-within, judgement};
 ghost use Rattle.surface.specs.Answers.{assembled, coated-powers, coated-answers, bare-powers, no-response, bare-answers, no-answers, returned};
 use complex::Complex;
 use polarization::JonesMatrix;
@@ -110,23 +110,39 @@ fn presets_within(bend: f64, coating: u32) -> bool
     true
 }
 
-// The angle of a SURFACE, where it is finite: one sine and one cosine for all of its limits.
-fn angle_passes(surface: Surface) -> bool
-    ensures { λ r. ⌜ r ≡ angle-passes surface ⌝ }
+// The angle of a SURFACE, where it is finite: from how far the light leans, and its cosine.
+fn angle_within(bend: f64, cos: f64, surface: Surface) -> bool
+    ensures { λ r. ⌜ r ≡ angle-within bend cos surface ⌝ }
 {
-    let theta = elementary::sin_cos(surface.angle_rad);
-    let bend = surface.n_incident * ieee::abs(theta.sin);
-    0.25 <= theta.cos
-        && (bend <= 0.875 * surface.n_substrate && presets_within(bend, surface.coating))
+    0.25 <= cos && (bend <= 0.875 * surface.n_substrate && presets_within(bend, surface.coating))
 }
 
-// A SURFACE without its LAYERs; those of a preset coating count as its own.
-pub fn surface_passes(surface: Surface) -> bool
-    ensures { λ r. ⌜ r ≡ surface-passes surface ⌝ }
+// A SURFACE without its LAYERs, from how far the light leans and the cosine of its angle; the layers of a
+// preset coating count as its own.
+fn surface_within(bend: f64, cos: f64, surface: Surface) -> bool
+    ensures { λ r. ⌜ r ≡ surface-within bend cos surface ⌝ }
 {
     within(1.0, 4.0, surface.n_incident)
         && (within(1.0, 4.0, surface.n_substrate)
-            && (ieee::is_finite(surface.angle_rad) && angle_passes(surface)))
+            && (ieee::is_finite(surface.angle_rad) && angle_within(bend, cos, surface)))
+}
+
+// Whether a SURFACE is within the limits, and how far its light leans, which those of its LAYERs ask for.
+pub struct Judgement {
+    pub passes: bool,
+    pub bend: f64,
+}
+
+// One sine and one cosine for all of a surface's limits.
+pub fn judge_surface(surface: Surface) -> Judgement
+    ensures { λ r. ⌜ r ≡ judgement surface ⌝ }
+{
+    let theta = elementary::sin_cos(surface.angle_rad);
+    let bend = surface.n_incident * ieee::abs(theta.sin);
+    Judgement {
+        passes: surface_within(bend, theta.cos, surface),
+        bend,
+    }
 }
 
 // ---- answers

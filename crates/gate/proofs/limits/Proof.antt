@@ -1,13 +1,24 @@
 -- `gate::limits` meets its contract. Assumes nothing.
-use mathlib.Core.Path.{_∙_}
+use mathlib.Core.Path.{_≡_, ap, _∙_}
 use Prim.Native.Nat.{_+_, _-_}
 use native.Mathlib.Omega.{arith}
 use borrow.Author.Needs.{needs}
 use borrow.Author.Tests.{not-true, not-false}
+use Rattle.surface.specs.declared.Surface.{Surface}
+use Rattle.surface.specs.declared.Judgement.{Judgement}
+use Rattle.surface.specs.Limits.{bend, surface-passes, judgement}
 use Rattle.sheet.specs.Words.{count}
 use Rattle.gate.proofs.Blocks.{Left, beam-fails, beam-holds, surface-fails, surface-inside, surface-holds, layer-fails, layer-inside, layer-holds, all-within}
 use Rattle.gate.proofs.limits.Statement.{statement}
 use Rattle.gate.proofs.limits.Tie as tie
+
+-- the two parts of a surface's judgement
+module _ (j : Judgement) (s : Surface) (e : j ≡ judgement s) where
+  passes-of : j .passes ≡ surface-passes s
+  passes-of = ap (λ (z : Judgement). z .passes) e
+
+  bend-of : j .bend ≡ bend (s .«n_incident») (s .«angle_rad»)
+  bend-of = ap (λ (z : Judgement). z .bend) e
 
 abbrev Inv-loop : tie.InvT-loop
 Inv-loop src n at₀ bend₀ at b = Left src n at b
@@ -42,26 +53,23 @@ word-from-requires c κs = search needs
 surface-at-requires : tie.Need-surface-at-requires Inv-loop μ-loop
 surface-at-requires c κs = search needs
 
-surface-passes-requires : tie.Need-surface-passes-requires Inv-loop μ-loop
-surface-passes-requires c κs = search needs
+judge-surface-requires : tie.Need-judge-surface-requires Inv-loop μ-loop
+judge-surface-requires c κs = search needs
 
 outside-requires-2 : tie.Need-outside-requires-2 Inv-loop μ-loop
 outside-requires-2 c κs = search needs
 
 returns-2 : tie.Need-returns-2 Inv-loop μ-loop
-returns-2 c = c .outside2 .ensures ∙ surface-fails _ _ _ _ (c .before .before .before .before .before .before .loop .inv) _ (c .before .before .before .before .before .word-from .ensures) (c .before .before .before .before .if2 .taken) _ (c .before .before .before .surface-at .ensures) _ (c .before .before .surface-passes .ensures) (not-true _ (c .before .if3 .taken))
-
-bend-requires : tie.Need-bend-requires Inv-loop μ-loop
-bend-requires c κs = search needs
+returns-2 c = c .outside2 .ensures ∙ surface-fails _ _ _ _ (c .before .before .before .before .before .before .before .loop .inv) _ (c .before .before .before .before .before .before .word-from .ensures) (c .before .before .before .before .before .if2 .taken) _ (c .before .before .before .before .surface-at .ensures) _ (passes-of _ _ (c .before .before .before .judge-surface .ensures)) (not-true _ (c .before .if3 .taken))
 
 add-at : tie.Need-add-at Inv-loop μ-loop
-add-at c = record { fits = omega (arith, surface-inside _ _ _ _ (c .before .before .before .before .before .before .loop .inv) _ (c .before .before .before .before .before .word-from .ensures) (c .before .before .before .before .if2 .taken) _ (c .before .before .before .surface-at .ensures) _ (c .before .before .surface-passes .ensures)) }
+add-at c = record { fits = omega (arith, surface-inside _ _ _ _ (c .before .before .before .before .before .before .loop .inv) _ (c .before .before .before .before .before .word-from .ensures) (c .before .before .before .before .if2 .taken) _ (c .before .before .before .surface-at .ensures) _ (passes-of _ _ (c .before .before .judge-surface .ensures))) }
 
 loop-less : tie.Need-loop-less Inv-loop μ-loop
-loop-less c = omega (arith, surface-inside _ _ _ _ (c .before .before .before .before .before .before .loop .inv) _ (c .before .before .before .before .before .word-from .ensures) (c .before .before .before .before .if2 .taken) _ (c .before .before .before .surface-at .ensures) _ (c .before .before .surface-passes .ensures))
+loop-less c = omega (arith, surface-inside _ _ _ _ (c .before .before .before .before .before .before .loop .inv) _ (c .before .before .before .before .before .word-from .ensures) (c .before .before .before .before .if2 .taken) _ (c .before .before .before .surface-at .ensures) _ (passes-of _ _ (c .before .before .judge-surface .ensures)))
 
 loop-again : tie.Need-loop-again Inv-loop μ-loop
-loop-again c = surface-holds _ _ _ _ (c .before .before .before .before .before .before .loop .inv) _ (c .before .before .before .before .before .word-from .ensures) (c .before .before .before .before .if2 .taken) _ (c .before .before .before .surface-at .ensures) _ (c .before .before .surface-passes .ensures) (not-false _ (c .before .if3 .left)) _ (c .bend .ensures)
+loop-again c = surface-holds _ _ _ _ (c .before .before .before .before .before .before .loop .inv) _ (c .before .before .before .before .before .word-from .ensures) (c .before .before .before .before .if2 .taken) _ (c .before .before .before .surface-at .ensures) _ (passes-of _ _ (c .before .before .judge-surface .ensures)) (not-false _ (c .if3 .left)) _ (bend-of _ _ (c .before .before .judge-surface .ensures))
 
 layer-at-requires : tie.Need-layer-at-requires Inv-loop μ-loop
 layer-at-requires c κs = search needs
@@ -88,4 +96,4 @@ returns-4 : tie.Need-returns-4 Inv-loop μ-loop
 returns-4 c = all-within _ _ _ _ (c .before .before .before .loop .inv) _ (c .before .before .word-from .ensures) (c .before .if2 .left) (c .if4 .left)
 
 pub limits-spec : {M : Type 1} → statement M
-limits-spec = tie.close (tie.spec Inv-loop μ-loop float-from-requires float-from-requires-2 float-from-requires-3 beam-passes-requires outside-requires returns loop-holds word-from-requires surface-at-requires surface-passes-requires outside-requires-2 returns-2 bend-requires add-at loop-less loop-again layer-at-requires layer-within-requires outside-requires-3 returns-3 add-at-2 loop-less-2 loop-again-2 returns-4)
+limits-spec = tie.close (tie.spec Inv-loop μ-loop float-from-requires float-from-requires-2 float-from-requires-3 beam-passes-requires outside-requires returns loop-holds word-from-requires surface-at-requires judge-surface-requires outside-requires-2 returns-2 add-at loop-less loop-again layer-at-requires layer-within-requires outside-requires-3 returns-3 add-at-2 loop-less-2 loop-again-2 returns-4)
