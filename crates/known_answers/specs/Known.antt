@@ -5,7 +5,7 @@ use mathlib.Core.Option.{none, some}
 use lib.Ieee.{Float, binary64, ofBits}
 use Rattle.ieee.specs.Functions.{zero-f, one, two, half}
 use Rattle.sqrt.specs.Root.{sqrt}
-use Rattle.elementary.specs.Angles.{pi}
+use Rattle.trig.specs.Angles.{pi}
 use Rattle.complex.specs.Complex.{real, zero, div}
 use Rattle.refusal.specs.Outcome.{answer}
 use Rattle.thin_film.specs.declared.Coating.the-variants as C

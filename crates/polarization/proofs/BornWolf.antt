@@ -7,7 +7,7 @@ use lib.IntN.{ℤ, pos, negsuc, negℤ, _+ℤ_, _*ℤ_, negℤ-negℤ, *ℤ-zero
 use lib.Ieee.{Float, nan, inf, fin, binary64, unlike, up, down, round, neg, mul}
 use Rattle.ieee.specs.Operators.{_⊗_}
 use Rattle.ieee.proofs.Range.Laws.{sub-is}
-use Rattle.elementary.proofs.Opposites.{mul-neg, round-neg, sub-opposite}
+use Rattle.trig.proofs.Opposites.{mul-neg, round-neg, sub-opposite}
 use Rattle.polarization.specs.BornWolf.{Arithmetic, Number, born-and-wolf, in-parts, exact, rounded, WrittenOut}
 
 -- ---- the rules of the minus sign

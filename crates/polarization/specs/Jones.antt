@@ -7,8 +7,8 @@ use lib.Ieee.{Float, binary64, neg, le, ofBits}
 use Rattle.ieee.specs.Operators.{_⊕_, _⊗_, _⊘_}
 use Rattle.ieee.specs.Functions.{zero-f, one, half}
 use Rattle.sqrt.specs.Root.{sqrt}
-use Rattle.elementary.specs.Angles.{pi, half-pi}
-use Rattle.elementary.specs.Trig.{sin, cos}
+use Rattle.trig.specs.Angles.{pi, half-pi}
+use Rattle.trig.specs.Trig.{sin, cos}
 use Rattle.complex.specs.declared.Complex.{Complex}
 use Rattle.complex.specs.Complex.{real, zero, scale, norm-sq, add, sub}
 use Rattle.transfer_matrix.specs.Matrix.{none, dot}

@@ -4,7 +4,7 @@ use lib.Ieee.{Float, binary64, neg, le, ofBits}
 use Rattle.ieee.specs.Operators.{_⊕_, _⊗_, _⊘_}
 use Rattle.ieee.specs.Functions.{zero-f, one, half, abs, max, clamp}
 use Rattle.sqrt.specs.Root.{sqrt}
-use Rattle.elementary.specs.Atan.{asin, atan2}
+use Rattle.arctangent.specs.Atan.{asin, atan2}
 use Rattle.polarization.specs.declared.StokesVector.{StokesVector}
 
 unfoldable pub unpolarized : Float → StokesVector

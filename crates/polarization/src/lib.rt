@@ -163,7 +163,7 @@ impl StokesVector {
     pub fn orientation_angle_rad(self) -> f64
         ensures { λ r. ⌜ r ≡ orientation-angle-rad self ⌝ }
     {
-        0.5 * elementary::atan2(self.s2, self.s1)
+        0.5 * arctangent::atan2(self.s2, self.s1)
     }
 
     // Half of arcsin(S3 / S0).
@@ -174,7 +174,7 @@ impl StokesVector {
             return 0.0;
         }
         let ratio = ieee::clamp(self.s3 / self.s0, -1.0, 1.0);
-        0.5 * elementary::asin(ratio)
+        0.5 * arctangent::asin(ratio)
     }
 }
 
@@ -271,8 +271,8 @@ impl JonesMatrix {
     pub fn linear_polarizer(angle_rad: f64) -> Self
         ensures { λ r. ⌜ r ≡ linear-polarizer «angle_rad» ⌝ }
     {
-        let c = elementary::cos(angle_rad);
-        let s = elementary::sin(angle_rad);
+        let c = trig::cos(angle_rad);
+        let s = trig::sin(angle_rad);
         let cc = Complex::real(c * c);
         let cs = Complex::real(c * s);
         let ss = Complex::real(s * s);
@@ -284,10 +284,10 @@ impl JonesMatrix {
     pub fn retarder(retardance_rad: f64, fast_axis_rad: f64) -> Self
         ensures { λ r. ⌜ r ≡ retarder «retardance_rad» «fast_axis_rad» ⌝ }
     {
-        let half_delta = elementary::sin_cos(retardance_rad * 0.5);
+        let half_delta = trig::sin_cos(retardance_rad * 0.5);
         let exp_pos = Complex::new(half_delta.cos, half_delta.sin);
         let exp_neg = Complex::new(half_delta.cos, -half_delta.sin);
-        let axis = elementary::sin_cos(fast_axis_rad);
+        let axis = trig::sin_cos(fast_axis_rad);
         retarding(exp_pos, exp_neg, axis.cos, axis.sin)
     }
 
@@ -464,7 +464,7 @@ fn excess(n1: f64, n2: f64, sin_i: f64) -> f64
 fn turned(phase: f64) -> Complex
     ensures { λ r. ⌜ r ≡ turned phase ⌝ }
 {
-    let p = elementary::sin_cos(phase);
+    let p = trig::sin_cos(phase);
     Complex::new(p.cos, p.sin)
 }
 
@@ -473,8 +473,8 @@ fn totally_reflected(n1: f64, n2: f64, sin_i: f64, cos_i: f64) -> SurfaceJones
     ensures { λ r. ⌜ r ≡ totally-reflected n1 n2 «sin_i» «cos_i» ⌝ }
 {
     let excess = excess(n1, n2, sin_i);
-    let rs_phase = -2.0 * elementary::atan(excess / cos_i);
-    let rp_phase = -2.0 * elementary::atan(ieee::powi2(n1 / n2) * excess / cos_i);
+    let rs_phase = -2.0 * arctangent::atan(excess / cos_i);
+    let rp_phase = -2.0 * arctangent::atan(ieee::powi2(n1 / n2) * excess / cos_i);
     let reflection = JonesMatrix::diattenuator(turned(rs_phase), turned(rp_phase));
     let transmission = JonesMatrix::diattenuator(Complex::zero(), Complex::zero());
     SurfaceJones {
@@ -538,7 +538,7 @@ pub fn surface_fresnel_jones(n1: f64, n2: f64, angle_i_rad: f64) -> FresnelJones
             },
         };
     }
-    let i = elementary::sin_cos(angle_i_rad);
+    let i = trig::sin_cos(angle_i_rad);
     let matrices = bare(n1, n2, i.sin, i.cos);
     FresnelJones {
         refusal: 0,

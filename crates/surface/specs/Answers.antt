@@ -5,7 +5,7 @@ use lib.Dec.{eqb}
 use lib.Ieee.{Float}
 use Rattle.ieee.specs.Operators.{_⊖_}
 use Rattle.ieee.specs.Functions.{zero-f, one}
-use Rattle.elementary.specs.Trig.{cos}
+use Rattle.trig.specs.Trig.{cos}
 use Rattle.complex.specs.Complex.{zero}
 use Rattle.refusal.specs.Outcome.{Outcome, answer, refusal, map}
 use Rattle.transfer_matrix.specs.declared.ThinFilmLayer.{ThinFilmLayer}

@@ -74,7 +74,7 @@ pub fn beam_passes(wavelength_nm: f64, s: f64, p: f64) -> bool
 pub fn bend(n_incident: f64, angle_rad: f64) -> f64
     ensures { λ r. ⌜ r ≡ bend «n_incident» «angle_rad» ⌝ }
 {
-    n_incident * ieee::abs(elementary::sin(angle_rad))
+    n_incident * ieee::abs(trig::sin(angle_rad))
 }
 
 // A layer, for light that leans so far.
@@ -114,7 +114,7 @@ fn presets_within(bend: f64, coating: u32) -> bool
 fn angle_passes(surface: Surface) -> bool
     ensures { λ r. ⌜ r ≡ angle-passes surface ⌝ }
 {
-    let theta = elementary::sin_cos(surface.angle_rad);
+    let theta = trig::sin_cos(surface.angle_rad);
     let bend = surface.n_incident * ieee::abs(theta.sin);
     0.25 <= theta.cos
         && (bend <= 0.875 * surface.n_substrate && presets_within(bend, surface.coating))
@@ -208,7 +208,7 @@ pub fn bare_powers(surface: Surface) -> Powers
     ensures { λ r. ⌜ r ≡ bare-powers surface ⌝ }
 {
     let r = fresnel::fresnel_dielectric(
-        elementary::cos(surface.angle_rad),
+        trig::cos(surface.angle_rad),
         surface.n_incident,
         surface.n_substrate,
     );

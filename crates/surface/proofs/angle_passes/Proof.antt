@@ -4,8 +4,8 @@ use mathlib.Core.Bool.{Bool, true, false, _&&_}
 use lib.Ieee.{Float, le}
 use Rattle.ieee.specs.Operators.{_⊗_}
 use Rattle.ieee.specs.Functions.{abs}
-use Rattle.elementary.specs.declared.SinCos.{SinCos}
-use Rattle.elementary.specs.Trig.{sin-cos}
+use Rattle.trig.specs.declared.SinCos.{SinCos}
+use Rattle.trig.specs.Trig.{sin-cos}
 use Rattle.surface.specs.declared.Surface.{Surface}
 use Rattle.surface.specs.Coating.{interface, preset-layers}
 use Rattle.surface.specs.Limits.{quarter, bends, layers-within, angle-passes}
