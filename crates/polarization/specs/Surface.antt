@@ -12,9 +12,9 @@ use Rattle.complex.specs.declared.Complex.{Complex}
 use Rattle.complex.specs.Complex.{real, zero}
 use Rattle.refusal.specs.Outcome.{Outcome, answer, refusal, invalid-parameter}
 use Rattle.transfer_matrix.specs.declared.CoatingResponse.{CoatingResponse}
+use Rattle.mueller.specs.Jones.{diattenuator}
 use Rattle.polarization.specs.declared.SurfaceJones.{SurfaceJones}
 use Rattle.polarization.specs.declared.FresnelJones.{FresnelJones}
-use Rattle.polarization.specs.Jones.{diattenuator}
 
 -- ---- surface_coating_jones
 unfoldable pub surface-coating-jones : CoatingResponse → SurfaceJones
