@@ -5,10 +5,10 @@ use mathlib.Core.List.{List, [], _∷_, _++_}
 use lib.Ieee.{Float}
 use Rattle.ieee.specs.Functions.{zero-f, one}
 use Rattle.transfer_matrix.specs.declared.CoatingResponse.{CoatingResponse}
-use Rattle.polarization.specs.declared.JonesMatrix.{JonesMatrix}
-use Rattle.polarization.specs.declared.MuellerMatrix.{MuellerMatrix}
-use Rattle.polarization.specs.Jones as Jones
-use Rattle.polarization.specs.Mueller as Mueller
+use Rattle.mueller.specs.declared.JonesMatrix.{JonesMatrix}
+use Rattle.mueller.specs.declared.MuellerMatrix.{MuellerMatrix}
+use Rattle.mueller.specs.Jones as Jones
+use Rattle.mueller.specs.Mueller as Mueller
 use Rattle.surface.specs.declared.Powers.{Powers}
 use Rattle.surface.specs.declared.Answers.{Answers}
 use Rattle.call.specs.Call.{Reply, reply, counted}

@@ -4,9 +4,9 @@ use lib.Ieee.{Float, binary64, neg, lt, le, ofBits}
 use Rattle.ieee.specs.Operators.{_⊕_, _⊖_, _⊗_, _⊘_}
 use Rattle.ieee.specs.Functions.{zero-f, two, max}
 use Rattle.square_root.specs.Root.{squareRoot}
-use Rattle.elementary.specs.Trig.{sin, cos}
-use Rattle.elementary.specs.Exp as Exp
-use Rattle.elementary.specs.Atan.{atan2}
+use Rattle.trig.specs.Trig.{sin, cos}
+use Rattle.exponential.specs.Exp as Exp
+use Rattle.arctangent.specs.Atan.{atan2}
 use Rattle.complex.specs.declared.Complex.{Complex}
 
 -- z = x + 0 i

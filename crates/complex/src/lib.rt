@@ -60,15 +60,15 @@ impl Complex {
     pub fn arg(self) -> f64
         ensures { λ r. ⌜ r ≡ arg self ⌝ }
     {
-        elementary::atan2(self.im, self.re)
+        arctangent::atan2(self.im, self.re)
     }
 
     // e^z = e^x (cos y + i sin y)
     pub fn exp(self) -> Self
         ensures { λ r. ⌜ r ≡ exp self ⌝ }
     {
-        let exp_x = elementary::exp(self.re);
-        let y = elementary::sin_cos(self.im);
+        let exp_x = exponential::exp(self.re);
+        let y = trig::sin_cos(self.im);
         Self {
             re: exp_x * y.cos,
             im: exp_x * y.sin,

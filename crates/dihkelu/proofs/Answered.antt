@@ -7,7 +7,7 @@ use lib.Dec.{ltb}
 use lib.ListN.{length}
 use lib.Ieee.{Float}
 use Rattle.refusal.specs.Outcome.{Outcome, answer, refusal, refused, invalid-parameter}
-use Rattle.elementary.specs.Trig.{sin, cos}
+use Rattle.trig.specs.Trig.{sin, cos}
 use Rattle.transfer_matrix.specs.declared.ThinFilmLayer.{ThinFilmLayer}
 use Rattle.thin_film.specs.Evaluate.{evaluate-surface}
 use Rattle.polarization.specs.Surface.{invalid, bare, surface-fresnel-jones}

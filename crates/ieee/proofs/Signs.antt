@@ -2,7 +2,7 @@
 use mathlib.Core.Path.{_≡_, refl, sym, ap, _∙_, subst}
 use Prim.Native.Nat.{ℕ, suc, _*_, _<_}
 use native.Mathlib.Nat.{lt-irrefl, mul-one, zero-mul, mul-pos, zero-lt-suc}
-use mathlib.Core.Bool.{Bool, true, false, _&&_, true≢false, false≢true}
+use mathlib.Core.Bool.{Bool, true, false, not, _&&_, true≢false, false≢true}
 use lib.IntN.{pos}
 use lib.Dec.{T}
 use lib.Ieee.{Float, nan, inf, fin, binary64, lt, eq, ne, neg, div, isNan, ofBits, level}
@@ -32,6 +32,12 @@ not-nan nan e = absurd (true≢false e)
 not-nan (inf s) e = refl
 not-nan (fin s m d) e = refl
 
+pub finite-number : (x : Float) → T (finite x) → T (not (isNan x))
+unfolding isNan
+finite-number nan f = absurd f
+finite-number (inf s) f = absurd f
+finite-number (fin s m e) f = tt
+
 -- ---- x == 0.0
 pub not-zero : (m u v : ℕ) → 0 < u → suc m * u * 1 ≡ 0 * 1 * v → ⊥
 not-zero m u v U e = lt-irrefl 0 (subst (λ (x : ℕ). 0 < x) (sym (mul-one (suc m * u)) ∙ e ∙ ap (λ (x : ℕ). x * v) (zero-mul 1) ∙ zero-mul v) (mul-pos (zero-lt-suc m) U))
@@ -50,10 +56,10 @@ pub zero-level : (s : Bool) (u v : ℕ) → level s (0 * u * 1) false (0 * 1 * v
 zero-level s u v = ap (λ (x : ℕ). level s x false (0 * 1 * v)) (nothing u) ∙ ap (level s 0 false) (nothing′ v) ∙ level-zero s
 
 -- ---- finite: strictly between the infinities, which the source has as 1.0 / 0.0
-abbrev infinity : Float
+abbrev pub infinity : Float
 infinity = div binary64 (ofBits binary64 0x3FF0_0000_0000_0000) (ofBits binary64 0)
 
-inf-is : infinity ≡ inf false
+pub inf-is : infinity ≡ inf false
 unfolding ofBits div
 inf-is = refl
 

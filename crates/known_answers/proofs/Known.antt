@@ -3,7 +3,7 @@ use Rattle.square_root.proofs.Known.{sqrt-known}
 use Rattle.complex.proofs.Known as complex
 use Rattle.thin_film.proofs.Known as thin-film
 use Rattle.fresnel.proofs.Known as fresnel
-use Rattle.polarization.proofs.Known as polarization
+use Rattle.stokes.proofs.Known as stokes
 use Rattle.coating_name.proofs.Known as coating-name
 use Rattle.known_answers.specs.Known.{KnownAnswers}
 
@@ -17,8 +17,8 @@ known-answers = record {
   straight = fresnel.dielectric-straight;
   grazing = fresnel.dielectric-grazing;
   schlick = fresnel.schlick-grazing;
-  stokes = polarization.stokes-of-one-i;
-  degree = polarization.dark-degree;
+  stokes = stokes.stokes-of-one-i;
+  degree = stokes.dark-degree;
   mgf2 = coating-name.mgf2-in-blanks;
   custom = coating-name.custom-is-ideal;
   no-name = coating-name.none-is-none;

@@ -5,7 +5,7 @@ use mathlib.Core.Option.{none, some}
 use lib.Ieee.{Float, binary64, ofBits}
 use Rattle.ieee.specs.Functions.{zero-f, one, two, half}
 use Rattle.square_root.specs.Root.{sqrt}
-use Rattle.elementary.specs.Angles.{pi}
+use Rattle.trig.specs.Angles.{pi}
 use Rattle.complex.specs.Complex.{real, zero, div}
 use Rattle.refusal.specs.Outcome.{answer}
 use Rattle.thin_film.specs.declared.Coating.the-variants as C
@@ -13,8 +13,8 @@ use Rattle.thin_film.specs.declared.SurfaceCoating.the-variants as S
 use Rattle.thin_film.specs.Coating.{mgf2-default}
 use Rattle.thin_film.specs.Evaluate.{evaluate-surface}
 use Rattle.fresnel.specs.Fresnel.{fresnel-dielectric, schlick-approx}
-use Rattle.polarization.specs.Stokes.{degree-of-polarization}
-use Rattle.polarization.specs.Jones.{to-stokes}
+use Rattle.stokes.specs.Stokes.{degree-of-polarization}
+use Rattle.stokes.specs.Jones.{to-stokes}
 use Rattle.coating_name.specs.Name.{from-format-name}
 
 -- -0.5, 0.25, 0.75, 3, 500, 1e-15, 2^-537, 2^-46, 2^-47 and 2^46

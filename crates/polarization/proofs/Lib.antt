@@ -1,4 +1,2 @@
--- The Stokes parameters are Born and Wolf's; the outcome of a refusal; answers of document 01 that are computed.
-pub mod BornWolf
+-- The outcome of a refusal.
 pub mod Refusals
-pub mod Known

@@ -1,6 +1,2 @@
--- polarization.rs: Jones and Stokes vectors, Jones and Mueller matrices, and those of a surface.
-pub mod BornWolf
-pub mod Stokes
-pub mod Jones
-pub mod Mueller
+-- polarization.rs: the Jones matrices of a surface. Definitions only.
 pub mod Surface

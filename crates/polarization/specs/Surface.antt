@@ -6,15 +6,15 @@ use lib.Ieee.Scale.{finite}
 use Rattle.ieee.specs.Operators.{_⊕_, _⊖_, _⊗_, _⊘_}
 use Rattle.ieee.specs.Functions.{zero-f, one, two, abs, max, powi2}
 use Rattle.square_root.specs.Root.{sqrt}
-use Rattle.elementary.specs.Trig.{sin, cos}
-use Rattle.elementary.specs.Atan.{atan}
+use Rattle.trig.specs.Trig.{sin, cos}
+use Rattle.arctangent.specs.Atan.{atan}
 use Rattle.complex.specs.declared.Complex.{Complex}
 use Rattle.complex.specs.Complex.{real, zero}
 use Rattle.refusal.specs.Outcome.{Outcome, answer, refusal, invalid-parameter}
 use Rattle.transfer_matrix.specs.declared.CoatingResponse.{CoatingResponse}
+use Rattle.mueller.specs.Jones.{diattenuator}
 use Rattle.polarization.specs.declared.SurfaceJones.{SurfaceJones}
 use Rattle.polarization.specs.declared.FresnelJones.{FresnelJones}
-use Rattle.polarization.specs.Jones.{diattenuator}
 
 -- ---- surface_coating_jones
 unfoldable pub surface-coating-jones : CoatingResponse → SurfaceJones

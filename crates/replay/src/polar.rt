@@ -1,11 +1,11 @@
-// The functions 80 to 139: of fresnel and polarization.
+// The functions 80 to 139: of fresnel, stokes, mueller and polarization.
 use super::words::bits;
 use super::words::num;
 use complex::Complex;
-use polarization::JonesMatrix;
-use polarization::JonesVector;
-use polarization::MuellerMatrix;
-use polarization::StokesVector;
+use mueller::JonesMatrix;
+use mueller::MuellerMatrix;
+use stokes::JonesVector;
+use stokes::StokesVector;
 use transfer_matrix::CoatingResponse;
 
 fn one(out: &mut [u64; 256], x: f64) -> usize {

@@ -1,4 +1,4 @@
-// The functions 1 to 59: of ieee, sqrt, elementary and complex.
+// The functions 1 to 59: of ieee, sqrt, trig, exponential, arctangent and complex.
 use super::words::bits;
 use super::words::num;
 use super::words::small;
@@ -49,12 +49,12 @@ fn ieee_call(f: usize, a: &[u64; 512], out: &mut [u64; 256]) -> usize {
 
 fn elementary_call(f: usize, a: &[u64; 512], out: &mut [u64; 256]) -> usize {
     match f {
-        20 => one(out, elementary::sin(num(a[0]))),
-        21 => one(out, elementary::cos(num(a[0]))),
-        22 => one(out, elementary::exp(num(a[0]))),
-        23 => one(out, elementary::atan(num(a[0]))),
-        24 => one(out, elementary::asin(num(a[0]))),
-        25 => one(out, elementary::atan2(num(a[0]), num(a[1]))),
+        20 => one(out, trig::sin(num(a[0]))),
+        21 => one(out, trig::cos(num(a[0]))),
+        22 => one(out, exponential::exp(num(a[0]))),
+        23 => one(out, arctangent::atan(num(a[0]))),
+        24 => one(out, arctangent::asin(num(a[0]))),
+        25 => one(out, arctangent::atan2(num(a[0]), num(a[1]))),
         _ => 0,
     }
 }

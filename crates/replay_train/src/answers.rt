@@ -1,8 +1,8 @@
 // The words of a surface's answers.
 use super::words::bits;
 use complex::Complex;
-use polarization::JonesMatrix;
-use polarization::MuellerMatrix;
+use mueller::JonesMatrix;
+use mueller::MuellerMatrix;
 use surface::Answers;
 use surface::Powers;
 use transfer_matrix::CoatingResponse;

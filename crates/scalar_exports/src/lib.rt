@@ -3,9 +3,9 @@
 ghost use mathlib.Core.Path.{_≡_};
 ghost use lib.Ieee.{binary64};
 ghost use Rattle.square_root.specs.Root.{squareRoot};
-ghost use Rattle.elementary.specs.Trig.{sin, cos};
-ghost use Rattle.elementary.specs.Exp.{exp};
-ghost use Rattle.elementary.specs.Atan.{atan, asin, atan2};
+ghost use Rattle.trig.specs.Trig.{sin, cos};
+ghost use Rattle.exponential.specs.Exp.{exp};
+ghost use Rattle.arctangent.specs.Atan.{atan, asin, atan2};
 
 #[no_mangle]
 pub extern "C" fn dihkelu_sqrt(x: f64) -> f64
@@ -18,40 +18,40 @@ pub extern "C" fn dihkelu_sqrt(x: f64) -> f64
 pub extern "C" fn dihkelu_sin(x: f64) -> f64
     ensures { λ r. ⌜ r ≡ sin x ⌝ }
 {
-    elementary::sin(x)
+    trig::sin(x)
 }
 
 #[no_mangle]
 pub extern "C" fn dihkelu_cos(x: f64) -> f64
     ensures { λ r. ⌜ r ≡ cos x ⌝ }
 {
-    elementary::cos(x)
+    trig::cos(x)
 }
 
 #[no_mangle]
 pub extern "C" fn dihkelu_exp(x: f64) -> f64
     ensures { λ r. ⌜ r ≡ exp x ⌝ }
 {
-    elementary::exp(x)
+    exponential::exp(x)
 }
 
 #[no_mangle]
 pub extern "C" fn dihkelu_atan(x: f64) -> f64
     ensures { λ r. ⌜ r ≡ atan x ⌝ }
 {
-    elementary::atan(x)
+    arctangent::atan(x)
 }
 
 #[no_mangle]
 pub extern "C" fn dihkelu_asin(x: f64) -> f64
     ensures { λ r. ⌜ r ≡ asin x ⌝ }
 {
-    elementary::asin(x)
+    arctangent::asin(x)
 }
 
 #[no_mangle]
 pub extern "C" fn dihkelu_atan2(y: f64, x: f64) -> f64
     ensures { λ r. ⌜ r ≡ atan2 y x ⌝ }
 {
-    elementary::atan2(y, x)
+    arctangent::atan2(y, x)
 }

@@ -17,8 +17,8 @@ use Rattle.ieee.proofs.Range.Tests.{cond-mag, never-under, max-keep}
 use Rattle.ieee.proofs.Range.Zero.{zero-mul-mag, mul-zero-mag, add-zero-same, sub-zero-in}
 use Rattle.ieee.proofs.Range.Constants.{zero-in, zero-mag, two-in}
 use Rattle.square_root.proofs.Range.{sqrt-in}
-use Rattle.elementary.specs.Exp as Exp
-use Rattle.elementary.proofs.TrigBounds.{sin-mag, cos-mag}
+use Rattle.exponential.specs.Exp as Exp
+use Rattle.trig.proofs.TrigBounds.{sin-mag, cos-mag}
 use Rattle.complex.specs.declared.Complex.{Complex}
 use Rattle.complex.specs.Complex.{real, zero, norm-sq, exp, half-root, sqrt, mul, quotient, div, least-denom}
 use Rattle.complex.proofs.RealRoot.{root-at}

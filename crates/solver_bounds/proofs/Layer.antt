@@ -16,10 +16,10 @@ use Rattle.ieee.proofs.Range.Quotients.{div-mag, div-in}
 use Rattle.ieee.proofs.Range.Zero.{zero-mul-mag, mul-zero-mag, add-zero-in, sub-zero-in, add-zero-size}
 use Rattle.ieee.proofs.Range.Ratio.{slope, quotient-mag}
 use Rattle.ieee.proofs.Range.Constants.{zero-mag, half-in, one-in, one-mag, two-in}
-use Rattle.elementary.specs.Angles.{pi}
-use Rattle.elementary.specs.Exp as Exp
-use Rattle.elementary.proofs.ExpBounds.{exp-zero}
-use Rattle.elementary.proofs.AtanBounds.{pi-mag}
+use Rattle.trig.specs.Angles.{pi}
+use Rattle.exponential.specs.Exp as Exp
+use Rattle.exponential.proofs.ExpBounds.{exp-zero}
+use Rattle.arctangent.proofs.AtanBounds.{pi-mag}
 use Rattle.complex.specs.declared.Complex.{Complex}
 use Rattle.complex.specs.Complex.{real, scale, norm-sq, add, sub, mul, quotient, div}
 use Rattle.transfer_matrix.specs.declared.ThinFilmLayer.{ThinFilmLayer}

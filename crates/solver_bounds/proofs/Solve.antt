@@ -20,9 +20,10 @@ use Rattle.ieee.proofs.Range.Plus.{mul-plus, plus-in}
 use Rattle.ieee.proofs.Range.Constants.{zero-in, zero-foot, one-in, two-in}
 use Rattle.square_root.specs.Root.{sqrt}
 use Rattle.square_root.proofs.Range.{sqrt-in}
-use Rattle.elementary.specs.Trig.{sin, cos}
-use Rattle.elementary.proofs.TrigBounds.{sin-mag}
-use Rattle.elementary.proofs.AtanBounds.{finite-number, atan2-mag}
+use Rattle.trig.specs.Trig.{sin, cos}
+use Rattle.trig.proofs.TrigBounds.{sin-mag}
+use Rattle.ieee.proofs.Signs.{finite-number}
+use Rattle.arctangent.proofs.AtanBounds.{atan2-mag}
 use Rattle.complex.specs.declared.Complex.{Complex}
 use Rattle.complex.specs.Complex.{real, scale, norm-sq, arg, add, sub, mul}
 use Rattle.transfer_matrix.specs.declared.ThinFilmLayer.{ThinFilmLayer}

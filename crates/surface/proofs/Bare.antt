@@ -17,7 +17,7 @@ use Rattle.ieee.proofs.Range.Ratio.{slope, ratio-mag}
 use Rattle.ieee.proofs.Range.Falls.{in-zero-to-one, to-tests}
 use Rattle.ieee.proofs.Range.Constants.{zero-in, zero-foot, one-in, two-in}
 use Rattle.square_root.proofs.Range.{sqrt-in}
-use Rattle.elementary.specs.Trig.{sin, cos}
+use Rattle.trig.specs.Trig.{sin, cos}
 use Rattle.refusal.specs.Outcome.{answer}
 use Rattle.fresnel.specs.declared.Reflectances.{Reflectances}
 use Rattle.fresnel.specs.Fresnel as Fresnel

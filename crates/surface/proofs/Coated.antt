@@ -19,8 +19,8 @@ use Rattle.ieee.proofs.Range.Falls.{in-zero-to-one, to-tests}
 use Rattle.ieee.proofs.Range.Constants.{zero-mag, zero-foot, half-in, one-in, one-mag}
 use Rattle.square_root.specs.Root.{sqrt}
 use Rattle.square_root.proofs.Range.{sqrt-in}
-use Rattle.elementary.proofs.AtanBounds.{pi-mag}
-use Rattle.elementary.specs.Trig.{sin}
+use Rattle.arctangent.proofs.AtanBounds.{pi-mag}
+use Rattle.trig.specs.Trig.{sin}
 use Rattle.refusal.specs.Outcome.{Outcome, answer}
 use Rattle.transfer_matrix.specs.declared.ThinFilmLayer.{ThinFilmLayer}
 use Rattle.transfer_matrix.specs.declared.CoatingResponse.{CoatingResponse}

@@ -11,7 +11,7 @@ use Rattle.ieee.specs.Functions.{zero-f, one, seven-eighths}
 use Rattle.ieee.specs.Range.{In}
 use Rattle.ieee.proofs.Range.Laws.{in-lit, mul-in}
 use Rattle.ieee.proofs.Range.Falls.{le-up}
-use Rattle.elementary.specs.Atan.{four}
+use Rattle.arctangent.specs.Atan.{four}
 use Rattle.transfer_matrix.specs.Solve.{dielectric}
 use Rattle.thin_film.specs.declared.Coating.the-variants as C
 use Rattle.thin_film.specs.declared.SurfaceCoating.the-variants as S

@@ -15,9 +15,9 @@ use Rattle.ieee.proofs.Range.Tests.{gate-in, gate-least}
 use Rattle.ieee.proofs.Range.FromZero.{from-zero, equals-zero}
 use Rattle.ieee.proofs.Range.AbsProduct.{abs-mul}
 use Rattle.ieee.proofs.Range.Constants.{one-in}
-use Rattle.elementary.specs.Trig.{sin, cos}
-use Rattle.elementary.specs.Atan.{four}
-use Rattle.elementary.proofs.TrigBounds.{sin-mag, cos-mag}
+use Rattle.trig.specs.Trig.{sin, cos}
+use Rattle.arctangent.specs.Atan.{four}
+use Rattle.trig.proofs.TrigBounds.{sin-mag, cos-mag}
 use Rattle.transfer_matrix.specs.declared.ThinFilmLayer.{ThinFilmLayer}
 use Rattle.solver_bounds.specs.Solver.{Bends, AdmittedLayer, AdmittedLayers}
 use Rattle.surface.specs.declared.Surface.{Surface}

@@ -3,7 +3,7 @@ use mathlib.Core.Path.{_≡_, refl, ap}
 use Prim.Native.Nat.{ℕ}
 use native.Mathlib.Omega.{arith}
 use mathlib.Core.Bool.{Bool, true, false, cond}
-use Rattle.elementary.specs.Trig.{sin, cos}
+use Rattle.trig.specs.Trig.{sin, cos}
 use Rattle.refusal.specs.Outcome.{answer, refusal, map, invalid-parameter}
 use Rattle.polarization.specs.declared.SurfaceJones.{SurfaceJones}
 use Rattle.polarization.specs.declared.FresnelJones.{FresnelJones}

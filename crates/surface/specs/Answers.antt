@@ -5,7 +5,7 @@ use lib.Dec.{eqb}
 use lib.Ieee.{Float}
 use Rattle.ieee.specs.Operators.{_⊖_}
 use Rattle.ieee.specs.Functions.{zero-f, one}
-use Rattle.elementary.specs.Trig.{cos}
+use Rattle.trig.specs.Trig.{cos}
 use Rattle.complex.specs.Complex.{zero}
 use Rattle.refusal.specs.Outcome.{Outcome, answer, refusal, map}
 use Rattle.transfer_matrix.specs.declared.ThinFilmLayer.{ThinFilmLayer}
@@ -13,8 +13,8 @@ use Rattle.transfer_matrix.specs.declared.CoatingResponse.{CoatingResponse}
 use Rattle.thin_film.specs.Evaluate.{evaluate-surface}
 use Rattle.fresnel.specs.Fresnel.{fresnel-dielectric}
 use Rattle.polarization.specs.declared.SurfaceJones.{SurfaceJones}
-use Rattle.polarization.specs.Jones.{diattenuator}
-use Rattle.polarization.specs.Mueller.{to-mueller}
+use Rattle.mueller.specs.Jones.{diattenuator}
+use Rattle.mueller.specs.Mueller.{to-mueller}
 use Rattle.polarization.specs.Surface.{surface-coating-jones, surface-fresnel-jones}
 use Rattle.surface.specs.declared.Surface.{Surface}
 use Rattle.surface.specs.declared.Interface.{Interface}

@@ -13,10 +13,10 @@ use Rattle.complex.specs.declared.Complex.{Complex}
 use Rattle.refusal.specs.Outcome.{answer}
 use Rattle.transfer_matrix.specs.declared.ThinFilmLayer.{ThinFilmLayer}
 use Rattle.transfer_matrix.specs.declared.CoatingResponse.{CoatingResponse}
-use Rattle.polarization.specs.declared.JonesMatrix.{JonesMatrix}
-use Rattle.polarization.specs.declared.MuellerMatrix.{MuellerMatrix}
-use Rattle.polarization.specs.Jones as Jones
-use Rattle.polarization.specs.Mueller as Mueller
+use Rattle.mueller.specs.declared.JonesMatrix.{JonesMatrix}
+use Rattle.mueller.specs.declared.MuellerMatrix.{MuellerMatrix}
+use Rattle.mueller.specs.Jones as Jones
+use Rattle.mueller.specs.Mueller as Mueller
 use Rattle.surface.specs.declared.Surface.{Surface}
 use Rattle.surface.specs.declared.Powers.{Powers}
 use Rattle.surface.specs.declared.Answers.{Answers}

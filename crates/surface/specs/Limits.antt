@@ -6,8 +6,8 @@ use lib.Ieee.{Float, binary64, le, eq, ofBits}
 use lib.Ieee.Scale.{finite}
 use Rattle.ieee.specs.Operators.{_⊗_}
 use Rattle.ieee.specs.Functions.{zero-f, one, seven-eighths, abs}
-use Rattle.elementary.specs.Trig.{sin, cos}
-use Rattle.elementary.specs.Atan.{four}
+use Rattle.trig.specs.Trig.{sin, cos}
+use Rattle.arctangent.specs.Atan.{four}
 use Rattle.transfer_matrix.specs.declared.ThinFilmLayer.{ThinFilmLayer}
 use Rattle.surface.specs.declared.Surface.{Surface}
 use Rattle.surface.specs.declared.Judgement.{Judgement}

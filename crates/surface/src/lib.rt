@@ -6,8 +6,8 @@ ghost use Rattle.surface.specs.Coating.{interface, preset-layers};
 ghost use Rattle.surface.specs.Limits.{within, beam-passes, bend, layer-within, layers-within, layer-passes, angle-within, surface-within, judgement};
 ghost use Rattle.surface.specs.Answers.{assembled, coated-powers, coated-answers, bare-powers, no-response, bare-answers, no-answers, returned};
 use complex::Complex;
-use polarization::JonesMatrix;
-use polarization::MuellerMatrix;
+use mueller::JonesMatrix;
+use mueller::MuellerMatrix;
 use polarization::SurfaceJones;
 use thin_film::Coating;
 use thin_film::SurfaceCoating;
@@ -74,7 +74,7 @@ pub fn beam_passes(wavelength_nm: f64, s: f64, p: f64) -> bool
 pub fn bend(n_incident: f64, angle_rad: f64) -> f64
     ensures { λ r. ⌜ r ≡ bend «n_incident» «angle_rad» ⌝ }
 {
-    n_incident * ieee::abs(elementary::sin(angle_rad))
+    n_incident * ieee::abs(trig::sin(angle_rad))
 }
 
 // A layer, for light that leans so far.
@@ -137,7 +137,7 @@ pub struct Judgement {
 pub fn judge_surface(surface: Surface) -> Judgement
     ensures { λ r. ⌜ r ≡ judgement surface ⌝ }
 {
-    let theta = elementary::sin_cos(surface.angle_rad);
+    let theta = trig::sin_cos(surface.angle_rad);
     let bend = surface.n_incident * ieee::abs(theta.sin);
     Judgement {
         passes: surface_within(bend, theta.cos, surface),
@@ -224,7 +224,7 @@ pub fn bare_powers(surface: Surface) -> Powers
     ensures { λ r. ⌜ r ≡ bare-powers surface ⌝ }
 {
     let r = fresnel::fresnel_dielectric(
-        elementary::cos(surface.angle_rad),
+        trig::cos(surface.angle_rad),
         surface.n_incident,
         surface.n_substrate,
     );

@@ -7,7 +7,7 @@ use lib.Ieee.{Float, binary64, lt, le, neg}
 use lib.Ieee.Scale.{finite}
 use Rattle.ieee.specs.Functions.{zero-f, one, half}
 use Rattle.square_root.specs.Root.{squareRoot}
-use Rattle.elementary.specs.Angles.{pi}
+use Rattle.trig.specs.Angles.{pi}
 use Rattle.complex.specs.Complex.{real, zero}
 use Rattle.refusal.specs.Outcome.{Outcome, answer, refused, invalid-parameter, too-many-layers}
 use Rattle.transfer_matrix.specs.declared.ThinFilmLayer.{ThinFilmLayer}

@@ -14,9 +14,9 @@ use Rattle.ieee.specs.Functions.{zero-f, one}
 use Rattle.ieee.specs.Range.{Mag, sgn, clear}
 use Rattle.ieee.proofs.Signs.{zero-is}
 use Rattle.ieee.proofs.Range.Round.{round-clear}
-use Rattle.elementary.specs.Opposite.{Opposite}
-use Rattle.elementary.proofs.Opposites.{round-zero}
-use Rattle.elementary.specs.Exp.{exp, exp-at, exp-series, squares, kilo, exp-most, exp-least}
+use Rattle.trig.specs.Opposite.{Opposite}
+use Rattle.trig.proofs.Opposites.{round-zero}
+use Rattle.exponential.specs.Exp.{exp, exp-at, exp-series, squares, kilo, exp-most, exp-least}
 
 -- ---- the sign of an exponential is clear, or it is a NaN
 clear-sgn : (x : Float) → T (clear x) → sgn x ≡ false

@@ -5,9 +5,9 @@ use lib.Ieee as Ieee
 use lib.Ieee.{Float, binary64, ofBits}
 use Rattle.ieee.specs.Functions.{zero-f, one, half, abs, max, clamp}
 use Rattle.square_root.specs.Root.{squareRoot}
-use Rattle.elementary.specs.Angles.{pi}
-use Rattle.elementary.specs.Trig.{wrap, fold, tuck, series, sin-at, sin, cos-at, cos-of, cos}
-use Rattle.elementary.specs.Atan.{with-sign, atan2}
+use Rattle.trig.specs.Angles.{pi}
+use Rattle.trig.specs.Trig.{wrap, fold, tuck, series, sin-at, sin, cos-at, cos-of, cos}
+use Rattle.arctangent.specs.Atan.{with-sign, atan2}
 use Rattle.complex.specs.Complex.{real, scale, norm-sq, arg, add, sub, mul, quotient, div}
 use Rattle.transfer_matrix.specs.declared.CoatingResponse.{CoatingResponse}
 use Rattle.transfer_matrix.specs.Solve.{eta0-s, eta0-p, cos-theta-sub, eta-sub-s, eta-sub-p, through-s, through-p, b-of, c-of, reflection, transmission, reflectance, transmittance, solve, respond, evaluate}

@@ -3,7 +3,7 @@
 use lib.Ieee.{Float, neg}
 use Rattle.ieee.specs.Operators.{_⊗_, _⊘_}
 use Rattle.ieee.specs.Functions.{zero-f, one, two, half}
-use Rattle.elementary.specs.Angles.{pi}
+use Rattle.trig.specs.Angles.{pi}
 use Rattle.complex.specs.declared.Complex.{Complex}
 use Rattle.complex.specs.Complex.{real, scale, add, sub, mul, div, exp, sqrt}
 use Rattle.transfer_matrix.specs.declared.ThinFilmLayer.{ThinFilmLayer}

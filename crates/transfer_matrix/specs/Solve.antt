@@ -5,7 +5,7 @@ use lib.Ieee.{Float, binary64, neg, le, ofBits}
 use Rattle.ieee.specs.Operators.{_⊕_, _⊖_, _⊗_, _⊘_}
 use Rattle.ieee.specs.Functions.{zero-f, one, two, half, abs, max, clamp}
 use Rattle.square_root.specs.Root.{squareRoot}
-use Rattle.elementary.specs.Trig.{sin, cos}
+use Rattle.trig.specs.Trig.{sin, cos}
 use Rattle.complex.specs.declared.Complex.{Complex}
 use Rattle.complex.specs.Complex.{real, scale, norm-sq, arg, add, sub, mul, div}
 use Rattle.transfer_matrix.specs.declared.ThinFilmLayer.{ThinFilmLayer}

@@ -2,7 +2,7 @@
 use mathlib.Core.List.{List, [], _∷_}
 use lib.Ieee.{Float}
 use Rattle.ieee.specs.Operators.{_⊗_}
-use Rattle.elementary.specs.Trig.{sin, cos}
+use Rattle.trig.specs.Trig.{sin, cos}
 use Rattle.transfer_matrix.specs.declared.ThinFilmLayer.{ThinFilmLayer}
 use Rattle.transfer_matrix.specs.declared.CoatingResponse.{CoatingResponse}
 use Rattle.transfer_matrix.specs.declared.Product.{Product}

@@ -3,7 +3,7 @@
 // A stack is begun at the incident medium, takes each layer in turn, and is finished at the
 // substrate. Whoever has layers, in a list, by index or in a sheet, calls these three.
 ghost use mathlib.Core.Path.{_≡_};
-ghost use Rattle.elementary.specs.Exp.{exp};
+ghost use Rattle.exponential.specs.Exp.{exp};
 ghost use Rattle.complex.specs.Complex.{mul, div};
 ghost use Rattle.transfer_matrix.specs.Matrix.{matrix, dot, mat-mul};
 ghost use Rattle.transfer_matrix.specs.Layer.{cos-theta, cos-delta, i-sin-delta};
@@ -112,7 +112,7 @@ struct Phase {
 fn exp_of(x: f64) -> f64
     ensures { λ r. ⌜ r ≡ exp x ⌝ }
 {
-    if x == 0.0 { 1.0 } else { elementary::exp(x) }
+    if x == 0.0 { 1.0 } else { exponential::exp(x) }
 }
 
 // Both exponentials from one sine and one cosine: -sin(x) stands for sin(-x). Where these differ,
@@ -120,7 +120,7 @@ fn exp_of(x: f64) -> f64
 fn phase_of(delta: Complex) -> Phase
     ensures { λ r. ⌜ r ≡ record { cos = cos-delta delta; «i_sin» = i-sin-delta delta } ⌝ }
 {
-    let y = elementary::sin_cos(delta.re);
+    let y = trig::sin_cos(delta.re);
     let pos = exp_of(-delta.im);
     let neg = exp_of(delta.im);
     let exp_pos = Complex::new(pos * y.cos, pos * y.sin);
@@ -190,7 +190,7 @@ pub fn begin(
 ) -> Stack
     ensures { λ r. ⌜ r ≡ begin «n_incident» «n_substrate» «angle_incident_rad» «wavelength_nm» ⌝ }
 {
-    let theta0 = elementary::sin_cos(angle_incident_rad);
+    let theta0 = trig::sin_cos(angle_incident_rad);
     let one = Complex::real(1.0);
     let zero = Complex::zero();
     let identity = Product {

@@ -4,8 +4,8 @@ use mathlib.Core.Bool.{Bool}
 use lib.Ieee.{Float}
 use Rattle.ieee.specs.Operators.{_⊗_}
 use Rattle.ieee.specs.Functions.{abs}
-use Rattle.elementary.specs.declared.SinCos.{SinCos}
-use Rattle.elementary.specs.Trig.{sin-cos}
+use Rattle.trig.specs.declared.SinCos.{SinCos}
+use Rattle.trig.specs.Trig.{sin-cos}
 use Rattle.surface.specs.declared.Surface.{Surface}
 use Rattle.surface.specs.declared.Judgement.{Judgement}
 use Rattle.surface.specs.Limits.{angle-passes, surface-within, surface-passes, judgement}

@@ -3,8 +3,8 @@ use mathlib.Core.Path.{_≡_}
 use lib.Ieee.{Float}
 use Rattle.ieee.specs.Operators.{_⊗_}
 use Rattle.ieee.specs.Functions as F
-use Rattle.elementary.specs.declared.SinCos.{SinCos}
-use Rattle.elementary.specs.Trig.{sin-cos}
+use Rattle.trig.specs.declared.SinCos.{SinCos}
+use Rattle.trig.specs.Trig.{sin-cos}
 use Rattle.complex.specs.declared.Complex.{Complex}
 use Rattle.complex.specs.Complex.{real, zero}
 use Rattle.transfer_matrix.specs.declared.Stack.{Stack}

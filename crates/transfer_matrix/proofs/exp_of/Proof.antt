@@ -2,7 +2,7 @@
 use mathlib.Core.Path.{sym}
 use Rattle.ieee.proofs.Signs.{of-true}
 use Rattle.ieee.proofs.Range.FromZero.{equals-zero}
-use Rattle.elementary.proofs.ExpBounds.{exp-zero}
+use Rattle.exponential.proofs.ExpBounds.{exp-zero}
 use borrow.Author.Needs.{needs}
 use Rattle.transfer_matrix.proofs.exp_of.Statement.{statement}
 use Rattle.transfer_matrix.proofs.exp_of.Tie as tie

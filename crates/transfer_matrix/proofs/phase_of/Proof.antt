@@ -3,10 +3,10 @@ use mathlib.Core.Path.{_≡_, ap, sym, _∙_}
 use lib.Ieee.{Float, neg}
 use Rattle.ieee.specs.Operators.{_⊕_, _⊖_, _⊗_}
 use Rattle.ieee.specs.Functions.{zero-f, half}
-use Rattle.elementary.specs.declared.SinCos.{SinCos}
-use Rattle.elementary.specs.Trig.{sin, cos, sin-cos}
-use Rattle.elementary.specs.Exp as Exp
-use Rattle.elementary.proofs.Parity.{sin-odd, cos-even}
+use Rattle.trig.specs.declared.SinCos.{SinCos}
+use Rattle.trig.specs.Trig.{sin, cos, sin-cos}
+use Rattle.exponential.specs.Exp as Exp
+use Rattle.trig.proofs.Parity.{sin-odd, cos-even}
 use Rattle.complex.specs.declared.Complex.{Complex}
 use Rattle.complex.specs.Complex.{scale, add, sub, mul, exp}
 use Rattle.transfer_matrix.specs.declared.Phase.{Phase}

@@ -3,9 +3,9 @@ use mathlib.Core.Path.{_≡_}
 use borrow.Author.Needs.{needs}
 use lib.Ieee.{Float}
 use Rattle.ieee.specs.Operators.{_⊗_}
-use Rattle.elementary.specs.declared.SinCos.{SinCos}
-use Rattle.elementary.specs.Trig.{sin-cos}
-use Rattle.elementary.specs.Exp as Exp
+use Rattle.trig.specs.declared.SinCos.{SinCos}
+use Rattle.trig.specs.Trig.{sin-cos}
+use Rattle.exponential.specs.Exp as Exp
 use Rattle.complex.specs.declared.Complex.{Complex}
 use Rattle.complex.specs.Complex.{exp}
 use Rattle.complex.proofs.Complex.exp.Statement.{statement}

@@ -1,0 +1,31 @@
+-- `arctangent::atan_abs` meets its contract. Assumes nothing.
+use borrow.Author.Needs.{needs}
+use Rattle.arctangent.specs.Atan.{atan-abs}
+use Rattle.arctangent.proofs.atan_abs.Statement.{statement}
+use Rattle.arctangent.proofs.atan_abs.Tie as tie
+
+at-most-one-requires : tie.Need-at-most-one-requires
+at-most-one-requires c κs = search needs
+
+quarter-angle-requires : tie.Need-quarter-angle-requires
+quarter-angle-requires c κs = search needs
+
+atan-poly-requires : tie.Need-atan-poly-requires
+atan-poly-requires c κs = search needs
+
+returns : tie.Need-returns
+unfolding atan-abs
+returns c =
+    let q = c .before in
+    simp (q .atan-poly .ensures, q .before .quarter-angle .ensures, q .before .before .at-most-one .ensures, c .if1 .taken)
+
+returns-2 : tie.Need-returns-2
+unfolding atan-abs
+returns-2 c =
+    let q = c .before in
+    simp (q .atan-poly .ensures, q .before .quarter-angle .ensures, q .before .before .at-most-one .ensures, c .if1 .left)
+
+pub atan-abs-spec : {M : Type 1} → statement M
+atan-abs-spec =
+    tie.close
+    (tie.spec at-most-one-requires quarter-angle-requires atan-poly-requires returns returns-2)

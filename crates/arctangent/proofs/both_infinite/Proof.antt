@@ -1,0 +1,21 @@
+-- `arctangent::both_infinite` meets its contract. Assumes nothing.
+use borrow.Author.Needs.{needs}
+use mathlib.Core.Path.{sym, _∙_}
+use Rattle.arctangent.proofs.both_infinite.Statement.{statement}
+use Rattle.arctangent.proofs.both_infinite.Tie as tie
+
+is-infinite-requires : tie.Need-is-infinite-requires
+is-infinite-requires c κs = search needs
+
+is-infinite-requires-2 : tie.Need-is-infinite-requires-2
+is-infinite-requires-2 c κs = search needs
+
+returns : tie.Need-returns
+returns c = simp (sym (c .before .before .is-infinite .ensures) ∙ c .before .if1 .taken, c .is-infinite2 .ensures)
+
+returns-2 : tie.Need-returns-2
+returns-2 c = simp (sym (c .before .is-infinite .ensures) ∙ c .if1 .left)
+
+pub both-infinite-spec : {M : Type 1} → statement M
+both-infinite-spec =
+    tie.close (tie.spec is-infinite-requires is-infinite-requires-2 returns returns-2)

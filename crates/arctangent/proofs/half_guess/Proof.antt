@@ -1,0 +1,24 @@
+-- `arctangent::half_guess` promises nothing, and is safe. Assumes nothing.
+use mathlib.Core.Path.{sym, subst}
+use mathlib.Core.Bool.{Bool, not}
+use borrow.Author.Needs.{needs}
+use lib.Dec.{T}
+use Rattle.ieee.proofs.Signs.{not-nan}
+use Rattle.arctangent.proofs.half_guess.Statement.{statement}
+use Rattle.arctangent.proofs.half_guess.Tie as tie
+
+float-to-bits-half-piece : tie.Need-float-to-bits-half-piece
+float-to-bits-half-piece c = subst (λ (b : Bool). T (not b)) (sym (not-nan _ (c .if1 .left))) tt
+
+half-piece-requires : tie.Need-half-piece-requires
+half-piece-requires c κs = search needs
+
+returns : tie.Need-returns
+returns c = search needs
+
+returns-2 : tie.Need-returns-2
+returns-2 c = search needs
+
+pub half-guess-spec : {M : Type 1} → statement M
+half-guess-spec =
+    tie.close (tie.spec float-to-bits-half-piece half-piece-requires returns returns-2)

@@ -1,9 +1,0 @@
--- The laws for callers, and what the functions share in their proofs.
-pub mod TrigBounds
-pub mod ExpBounds
-pub mod AtanBounds
-pub mod Opposites
-pub mod Parity
-pub mod Examples
-mod Constants
-mod Tests

@@ -1,0 +1,2 @@
+-- exp of 01 section 2. Definitions only.
+pub mod Exp

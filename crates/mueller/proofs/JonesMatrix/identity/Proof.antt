@@ -1,0 +1,18 @@
+-- `mueller::JonesMatrix::identity` meets its contract. Assumes nothing.
+use Rattle.mueller.specs.Jones.{identity}
+use borrow.Author.Needs.{needs}
+use Rattle.mueller.proofs.JonesMatrix.identity.Statement.{statement}
+use Rattle.mueller.proofs.JonesMatrix.identity.Tie as tie
+
+real-requires : tie.Need-real-requires
+real-requires c κs = search needs
+
+zero-requires : tie.Need-zero-requires
+zero-requires c κs = search needs
+
+returns : tie.Need-returns
+unfolding identity
+returns c = simp (c .zero .ensures, c .before .real .ensures)
+
+pub identity-spec : {M : Type 1} → statement M
+identity-spec = tie.close (tie.spec real-requires zero-requires returns)

@@ -1,0 +1,3 @@
+-- polarization.rs: Jones and Mueller matrices. Definitions only.
+pub mod Jones
+pub mod Mueller

@@ -1,0 +1,22 @@
+-- `stokes::StokesVector::ellipticity_angle_rad` meets its contract. Assumes nothing.
+use Rattle.stokes.specs.Stokes.{guarded, ellipticity-angle-rad}
+use borrow.Author.Needs.{needs}
+use Rattle.stokes.proofs.StokesVector.ellipticity_angle_rad.Statement.{statement}
+use Rattle.stokes.proofs.StokesVector.ellipticity_angle_rad.Tie as tie
+
+returns : tie.Need-returns
+unfolding guarded ellipticity-angle-rad
+returns c = simp (c .if1 .taken)
+
+clamp-requires : tie.Need-clamp-requires
+clamp-requires c κs = search needs
+
+asin-requires : tie.Need-asin-requires
+asin-requires c κs = search needs
+
+returns-2 : tie.Need-returns-2
+unfolding guarded ellipticity-angle-rad
+returns-2 c = simp (c .asin .ensures, c .before .clamp .ensures, c .before .before .before .if1 .left)
+
+pub ellipticity-angle-rad-spec : {M : Type 1} → statement M
+ellipticity-angle-rad-spec = tie.close (tie.spec returns clamp-requires asin-requires returns-2)

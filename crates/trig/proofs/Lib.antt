@@ -1,0 +1,6 @@
+-- The laws for callers, and what the functions share in their proofs.
+pub mod TrigBounds
+pub mod Opposites
+pub mod Parity
+pub mod Examples
+mod Constants

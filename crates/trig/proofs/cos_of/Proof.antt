@@ -1,0 +1,22 @@
+-- `trig::cos_of` meets its contract. Assumes nothing.
+use borrow.Author.Needs.{needs}
+use Rattle.trig.specs.Trig.{cos-of}
+use Rattle.trig.proofs.cos_of.Statement.{statement}
+use Rattle.trig.proofs.cos_of.Tie as tie
+
+cos-at-requires : tie.Need-cos-at-requires
+cos-at-requires c κs = search needs
+
+cos-at-requires-2 : tie.Need-cos-at-requires-2
+cos-at-requires-2 c κs = search needs
+
+returns : tie.Need-returns
+unfolding cos-of
+returns c = simp (c .before .if1 .taken, c .cos-at .ensures)
+
+returns-2 : tie.Need-returns-2
+unfolding cos-of
+returns-2 c = simp (c .before .if1 .left, c .cos-at2 .ensures)
+
+pub cos-of-spec : {M : Type 1} → statement M
+cos-of-spec = tie.close (tie.spec cos-at-requires cos-at-requires-2 returns returns-2)

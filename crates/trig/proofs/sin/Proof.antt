@@ -1,0 +1,21 @@
+-- `trig::sin` meets its contract. Assumes nothing.
+use borrow.Author.Needs.{needs}
+use Rattle.trig.specs.Trig.{sin}
+use Rattle.trig.proofs.sin.Statement.{statement}
+use Rattle.trig.proofs.sin.Tie as tie
+
+fold-requires : tie.Need-fold-requires
+fold-requires c κs = search needs
+
+tuck-requires : tie.Need-tuck-requires
+tuck-requires c κs = search needs
+
+sin-at-requires : tie.Need-sin-at-requires
+sin-at-requires c κs = search needs
+
+returns : tie.Need-returns
+unfolding sin
+returns c = cc
+
+pub sin-spec : {M : Type 1} → statement M
+sin-spec = tie.close (tie.spec fold-requires tuck-requires sin-at-requires returns)

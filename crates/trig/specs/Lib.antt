@@ -1,0 +1,4 @@
+-- sin and cos of 01 section 2, the angles that the section names, and what an opposite is. Definitions only.
+pub mod Angles
+pub mod Trig
+pub mod Opposite
