@@ -3,7 +3,7 @@ use mathlib.Core.Bool.{cond}
 use lib.Ieee.{Float, binary64, neg, le, ofBits}
 use Rattle.ieee.specs.Operators.{_⊕_, _⊘_}
 use Rattle.ieee.specs.Functions.{zero-f, one}
-use Rattle.sqrt.specs.Root.{sqrt}
+use Rattle.square_root.specs.Root.{sqrt}
 use Rattle.complex.specs.declared.Complex.{Complex}
 use Rattle.complex.specs.Complex.{real, zero, scale, norm-sq}
 use Rattle.stokes.specs.declared.JonesVector.{JonesVector}
