@@ -13,11 +13,11 @@ use Rattle.thin_film.specs.declared.SurfaceCoating.the-variants as S
 use Rattle.thin_film.specs.Coating.{mgf2-default}
 use Rattle.thin_film.specs.Evaluate.{evaluate-surface}
 use Rattle.fresnel.specs.Fresnel.{fresnel-dielectric, schlick-approx}
-use Rattle.stokes.specs.Stokes.{degree-of-polarization}
+use Rattle.stokes.specs.Stokes.{least-s0, degree-of-polarization, degree-of-linear-polarization, degree-of-circular-polarization}
 use Rattle.stokes.specs.Jones.{to-stokes}
 use Rattle.coating_name.specs.Name.{from-format-name}
 
--- -0.5, 0.25, 0.75, 3, 500, 1e-15, 2^-537, 2^-46, 2^-47 and 2^46
+-- -0.5, 0.25, 0.75, 3 and 500
 abbrev pub minus-half : Float
 minus-half = ofBits binary64 0xBFE0_0000_0000_0000
 
@@ -32,9 +32,6 @@ three = ofBits binary64 0x4008_0000_0000_0000
 
 abbrev pub five-hundred : Float
 five-hundred = ofBits binary64 0x407F_4000_0000_0000
-
-abbrev pub dark : Float
-dark = ofBits binary64 0x3CD2_03AF_9EE7_5616
 
 pub record KnownAnswers : Type 0 where
   -- sqrt(2^-1074) = 2^-537
@@ -65,8 +62,10 @@ pub record KnownAnswers : Type 0 where
   pub schlick : schlick-approx zero-f one three ≡ one
   -- Jones (1, i): Stokes (2,0,0,2)
   pub stokes : to-stokes (record { ex = real one; ey = record { re = zero-f; im = one } }) ≡ record { s0 = two; s1 = zero-f; s2 = zero-f; s3 = two }
-  -- s0 = 1e-15: degree 0
-  pub degree : (s1 s2 s3 : Float) → degree-of-polarization (record { s0 = dark; s1 = s1; s2 = s2; s3 = s3 }) ≡ zero-f
+  -- s0 = 1e-15: degree 0, each of the three
+  pub degree : (s1 s2 s3 : Float) → degree-of-polarization (record { s0 = least-s0; s1 = s1; s2 = s2; s3 = s3 }) ≡ zero-f
+  pub linear-degree : (s1 s2 s3 : Float) → degree-of-linear-polarization (record { s0 = least-s0; s1 = s1; s2 = s2; s3 = s3 }) ≡ zero-f
+  pub circular-degree : (s1 s2 s3 : Float) → degree-of-circular-polarization (record { s0 = least-s0; s1 = s1; s2 = s2; s3 = s3 }) ≡ zero-f
   -- " mgf2 " is MgF2 550; "CUSTOM" is IdealAr; "none" is none
   pub mgf2 : from-format-name (32 ∷ 109 ∷ 103 ∷ 102 ∷ 50 ∷ 32 ∷ []) ≡ answer (some mgf2-default)
   pub custom : from-format-name (67 ∷ 85 ∷ 83 ∷ 84 ∷ 79 ∷ 77 ∷ []) ≡ answer (some S.IdealAr)
