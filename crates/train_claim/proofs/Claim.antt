@@ -9,8 +9,8 @@ use lib.Dec.{T, ltb}
 use lib.ListN.{length, getD, drop}
 use lib.Ieee.{Float}
 use lib.Ieee.Fits.{and-l, and-r}
-use borrow.Author.Tests.{lt-ltb, le-ltb, le-leb, ltb-true, ltb-false}
-use Rattle.refusal.specs.Outcome.{Outcome, answer, map}
+use borrow.Author.Tests.{lt-ltb, le-ltb, le-leb, lt-leb, ltb-true, ltb-false}
+use Rattle.refusal.specs.Outcome.{Outcome, answer, refusal, map}
 use Rattle.surface.specs.declared.Powers.{Powers}
 use Rattle.surface.specs.Limits.{wavelength-passes, power-passes, beam-passes}
 use Rattle.surface.specs.Answers.{powers}
@@ -23,9 +23,11 @@ use Rattle.gate.specs.Gate.{gated}
 use Rattle.gate.specs.Claim.{Within}
 use Rattle.gate.proofs.Claim.{gate-claim}
 use Rattle.optical_train.specs.declared.State.{State}
-use Rattle.optical_train.specs.Train.{chosen, chosen-powers, nth, fresh, start, past, stepped, step, after-each, Ran, ran, run}
+use Rattle.optical_train.specs.declared.Stepped.{Stepped}
+use Rattle.optical_train.specs.Train.{chosen, chosen-powers, nth, fresh, start, past, stepped, step, after-each, Ran, ran, run, answers-to, surface-answers}
 use Rattle.optical_train.proofs.Answers.{all-nth, Good, wavelength-within, answered}
-use Rattle.train_claim.specs.Claim.{worked-out, Action, a-step, act, acts, steps, Falls, AllFall, AnsweredWhole, Admitted, TrainClaim}
+use Rattle.train_claim.specs.Claim.{worked-out, Action, a-step, act, acts, steps, Falls, AllFall, AnsweredWhole, Admitted, TurnedBack, TrainClaim}
+use Rattle.train_claim.proofs.One.{one}
 use Rattle.train_claim.proofs.Falls.{Unit-powers, stays, taken, unit, begun, power-finite, sum-finite}
 use Rattle.train_claim.proofs.Values.{first, done-is, taken-on, all-done, coasts}
 use Rattle.train_claim.proofs.Writes.{each-s, each-p, left-alone}
@@ -147,8 +149,15 @@ module _ (x : Sheet) (formed : WellFormed x) (inside : Within x) where
     entry : (d : Float) (i : ℕ) → getD (run src list .list) i d ≡ getD (after-each w (fresh x) xs ++ drop (2 * length xs) list) i d
     entry d i = ap (λ (r : Ran). getD (r .list) i d) ran-whole
 
+  on-step : (st : State) → step src st ≡ stepped st (answer x)
+  unfolding step
+  on-step st = ap (stepped st) is-admitted
+
+  on-taken : (st : State) → st .done < length xs → step src st ≡ record { refusal = record { number = 0; place = 0 }; state = past w st (nth xs (st .done)) }
+  on-taken st l = on-step st ∙ rw (lt-ltb (st .done) (length xs) l)
+
   pub admitted : Admitted (encode x) x
-  unfolding src start worked-out
+  unfolding src start run surface-answers worked-out
   admitted = record {
     starts = ap (map fresh) is-admitted;
     lists = lists;
@@ -156,9 +165,24 @@ module _ (x : Sheet) (formed : WellFormed x) (inside : Within x) where
     writes-s = λ list room d i h. entry list room d (2 * i) ∙ each-s w d (drop (2 * length xs) list) (fresh x) xs i h;
     writes-p = λ list room d i h. entry list room d (2 * i + 1) ∙ each-p w d (drop (2 * length xs) list) (fresh x) xs i h;
     leaves = λ list room d i h. entry list room d i ∙ left-alone w d (fresh x) xs list i h;
+    taken = λ st l. ap (λ (r : Stepped). r .refusal) (on-taken st l);
+    seven = λ st l. on-step st ∙ rw (le-ltb (st .done) (length xs) l);
+    eight = λ list l. ap (ran list) is-admitted ∙ rw (lt-leb (2 * length xs) (length list) l);
+    asked = λ i l. ap (answers-to i) is-admitted ∙ rw (lt-ltb i (length xs) l);
+    no-surface = λ i l. ap (answers-to i) is-admitted ∙ rw (le-ltb i (length xs) l);
     answers = all-answered;
     finite = λ n. let u = unit-after n in ((power-finite _ (u .s), power-finite _ (u .p)), sum-finite _ _ (u .s) (u .p));
   }
 
+-- ---- bytes that the gate refuses
+turned-back : (src : List ℕ) (number place : ℕ) → gated src ≡ refusal number place → TurnedBack src number place
+unfolding start step run surface-answers
+turned-back src number place e = record {
+  starts = ap (map fresh) e;
+  steps = λ st. ap (stepped st) e;
+  runs = λ list. ap (ran list) e;
+  asked = λ i. ap (answers-to i) e;
+}
+
 pub train-claim : TrainClaim
-train-claim = record { gate = gate-claim; admitted = admitted }
+train-claim = record { gate = gate-claim; admitted = admitted; turned-back = turned-back; one = one }

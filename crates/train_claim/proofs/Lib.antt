@@ -2,4 +2,5 @@
 pub mod Falls
 pub mod Values
 pub mod Writes
+mod One
 pub mod Claim

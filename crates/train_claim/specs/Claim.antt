@@ -8,15 +8,16 @@ use lib.ListN.{length, getD, take}
 use lib.Ieee.{Float, le}
 use Rattle.ieee.specs.Operators.{_⊗_, _⊕_}
 use Rattle.ieee.specs.Functions.{zero-f}
-use Rattle.refusal.specs.Outcome.{answer}
-use Rattle.surface.specs.Answers.{powers}
+use Rattle.refusal.specs.Outcome.{answer, refusal}
+use Rattle.surface.specs.Answers.{answers, powers}
 use Rattle.surface.specs.Finite as Finite
 use Rattle.surface.specs.Finite.{Finite}
 use Rattle.sheet.specs.Sheet.{Surface, Sheet, All, WellFormed, encode}
 use Rattle.sheet_values.specs.Values.{value, films, window}
+use Rattle.gate.specs.Gate.{gated}
 use Rattle.gate.specs.Claim.{Within, GateClaim}
 use Rattle.optical_train.specs.declared.State.{State}
-use Rattle.optical_train.specs.Train.{chosen-powers, fresh, start, step, run}
+use Rattle.optical_train.specs.Train.{chosen-powers, nth, fresh, start, step, run, surface-answers}
 
 -- ---- section 7's values, from a sheet's data alone: the BEAM's powers, multiplied in sheet order by the chosen powers of so many surfaces from the first on
 unfoldable pub product : Float → List Float → Float
@@ -81,11 +82,28 @@ pub record Admitted (src : List ℕ) (x : Sheet) : Type 0 where
   pub writes-s : (list : List Float) → 2 * length (x .surfaces) ≤ length list → (d : Float) (i : ℕ) → i < length (x .surfaces) → getD (run src list .list) (2 * i) d ≡ worked-out x (suc i) .s
   pub writes-p : (list : List Float) → 2 * length (x .surfaces) ≤ length list → (d : Float) (i : ℕ) → i < length (x .surfaces) → getD (run src list .list) (2 * i + 1) d ≡ worked-out x (suc i) .p
   pub leaves : (list : List Float) → 2 * length (x .surfaces) ≤ length list → (d : Float) (i : ℕ) → 2 * length (x .surfaces) ≤ i → getD (run src list .list) i d ≡ getD list i d
+  -- a step is not refused where surfaces done is under the sheet's count; otherwise it is, with 7, and the state is as before
+  pub taken : (st : State) → st .done < length (x .surfaces) → step src st .refusal ≡ record { number = 0; place = 0 }
+  pub seven : (st : State) → length (x .surfaces) ≤ st .done → step src st ≡ record { refusal = record { number = 7; place = 0 }; state = st }
+  -- a whole run is refused with 8 where its list is shorter than 2 × surfaces, and the list is as before
+  pub eight : (list : List Float) → length list < 2 * length (x .surfaces) → run src list ≡ record { result = refusal 8 0; list = list }
+  -- the answers of a surface that a sheet has are that surface's; 7 where it has none
+  pub asked : (i : ℕ) → i < length (x .surfaces) → let y = nth (x .surfaces) i in surface-answers src i ≡ answers (value (x .wavelength)) (window y) (films (y .layers))
+  pub no-surface : (i : ℕ) → length (x .surfaces) ≤ i → surface-answers src i ≡ refusal 7 0
   -- every answer is finite, and so are s, p and their sum after any number of steps
   pub answers : All (AnsweredWhole (value (x .wavelength))) (x .surfaces)
   pub finite : (n : ℕ) → (Finite (worked-out x n .s) × Finite (worked-out x n .p)) × Finite (worked-out x n .s ⊕ worked-out x n .p)
 
--- ---- demand 3: the gate admits exactly the sheets of 01's grammar and limits, and every admitted sheet has all of this
+-- ---- the claim for bytes that the gate refuses: every call has the same refusal and leaves what it was lent
+pub record TurnedBack (src : List ℕ) (number place : ℕ) : Type 0 where
+  pub starts : start src ≡ refusal number place
+  pub steps : (st : State) → step src st ≡ record { refusal = record { number = number; place = place }; state = st }
+  pub runs : (list : List Float) → run src list ≡ record { result = refusal number place; list = list }
+  pub asked : (i : ℕ) → surface-answers src i ≡ refusal number place
+
+-- ---- demand 3: the gate admits exactly the sheets of 01's grammar and limits, and every admitted sheet has all of this; there is such a sheet
 pub record TrainClaim : Type 0 where
   pub gate : GateClaim
   pub admitted : (x : Sheet) → WellFormed x → Within x → Admitted (encode x) x
+  pub turned-back : (src : List ℕ) (number place : ℕ) → gated src ≡ refusal number place → TurnedBack src number place
+  pub one : (x : Sheet) × (WellFormed x × Within x)
