@@ -13,9 +13,10 @@ use Rattle.ieee.proofs.Range.Laws.{in-lit, mul-in}
 use Rattle.ieee.proofs.Range.Falls.{le-up}
 use Rattle.elementary.specs.Atan.{four}
 use Rattle.transfer_matrix.specs.Solve.{dielectric}
-use Rattle.thin_film.specs.declared.Coating.the-variants as C
+use Rattle.coating.specs.declared.Coating.the-variants as C
 use Rattle.thin_film.specs.declared.SurfaceCoating.the-variants as S
-use Rattle.thin_film.specs.Coating.{standard-wavelength, n-mgf2, n-sio2, n-tio2, quarter-wave, mgf2-layers, broadband-layers, bragg-layers, mirror-layers, layers-of}
+use Rattle.thin_film.specs.Coating.{standard-wavelength, n-mgf2, mgf2-layers, mirror-layers, layers-of}
+use Rattle.preset_layers.specs.Layers.{n-sio2, n-tio2, quarter-wave, broadband-layers, bragg-layers}
 use Rattle.surface.specs.declared.Interface.the-variants.{Bare, Coated}
 use Rattle.surface.specs.Coating.{interface, preset-layers}
 use Rattle.surface.specs.Limits.{hundred-thousand, within, bends, layer-within, layers-within}

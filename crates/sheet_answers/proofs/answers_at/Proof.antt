@@ -8,9 +8,10 @@ use Rattle.refusal.specs.Outcome.{Outcome, refusal, map}
 use Rattle.transfer_matrix.specs.declared.ThinFilmLayer.{ThinFilmLayer}
 use Rattle.transfer_matrix.specs.declared.CoatingResponse.{CoatingResponse}
 use Rattle.thin_film.specs.declared.SurfaceCoating.{SurfaceCoating}
-use Rattle.thin_film.specs.declared.Evaluation.{Evaluation}
-use Rattle.thin_film.specs.declared.Evaluation.the-variants as E
-use Rattle.thin_film.specs.Evaluate.{outcome, evaluate-surface}
+use Rattle.evaluation.specs.declared.Evaluation.{Evaluation}
+use Rattle.evaluation.specs.declared.Evaluation.the-variants as E
+use Rattle.evaluation.specs.Walk.{outcome}
+use Rattle.thin_film.specs.Evaluate.{evaluate-surface}
 use Rattle.surface.specs.declared.Surface.{Surface}
 use Rattle.surface.specs.declared.Interface.{Interface}
 use Rattle.surface.specs.declared.Interface.the-variants.{Bare, Coated}
