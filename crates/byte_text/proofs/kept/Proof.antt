@@ -1,13 +1,13 @@
--- `coating_name::kept` meets its contract. Assumes nothing.
+-- `byte_text::kept` meets its contract. Assumes nothing.
 use mathlib.Core.Path.{sym, _∙_}
 use Prim.Native.Nat.{_≤_}
 use native.Mathlib.Omega.{arith}
 use lib.ListN.{length}
 use borrow.Author.Tests.{not-true, not-false}
-use Rattle.coating_name.proofs.Scan.{Left, left-all, left-more, left-stop, left-none}
+use Rattle.byte_text.proofs.Scan.{Left, left-all, left-more, left-stop, left-none}
 use borrow.Author.Needs.{needs}
-use Rattle.coating_name.proofs.kept.Statement.{statement}
-use Rattle.coating_name.proofs.kept.Tie as tie
+use Rattle.byte_text.proofs.kept.Statement.{statement}
+use Rattle.byte_text.proofs.kept.Tie as tie
 
 abbrev Inv-loop : tie.InvT-loop
 Inv-loop s e₀ e = (e ≤ length s) × Left s e

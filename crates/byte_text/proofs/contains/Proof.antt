@@ -1,13 +1,13 @@
--- `coating_name::contains` meets its contract. Assumes nothing.
+-- `byte_text::contains` meets its contract. Assumes nothing.
 use mathlib.Core.Path.{_≡_, refl, sym, _∙_}
 use Prim.Native.Nat.{_-_, _≤_}
 use native.Mathlib.Omega.{arith}
 use lib.ListN.{length, drop}
-use Rattle.coating_name.specs.Search.{contains}
-use Rattle.coating_name.proofs.Search.{contains-more, contains-here, contains-end}
+use Rattle.byte_text.specs.Search.{contains}
+use Rattle.byte_text.proofs.Search.{contains-more, contains-here, contains-end}
 use borrow.Author.Needs.{needs}
-use Rattle.coating_name.proofs.contains.Statement.{statement}
-use Rattle.coating_name.proofs.contains.Tie as tie
+use Rattle.byte_text.proofs.contains.Statement.{statement}
+use Rattle.byte_text.proofs.contains.Tie as tie
 
 abbrev Inv-loop : tie.InvT-loop
 Inv-loop s p k₀ k = (k ≤ length s) × (contains s p ≡ contains (drop k s) p)

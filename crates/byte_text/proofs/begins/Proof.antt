@@ -1,13 +1,13 @@
--- `coating_name::begins` meets its contract. Assumes nothing.
+-- `byte_text::begins` meets its contract. Assumes nothing.
 use mathlib.Core.Path.{_≡_, refl, sym, _∙_}
 use Prim.Native.Nat.{_-_, _≤_}
 use native.Mathlib.Omega.{arith}
 use lib.ListN.{length, drop}
-use Rattle.coating_name.specs.Search.{begins}
-use Rattle.coating_name.proofs.Search.{begins-more, begins-differs, begins-short, begins-end}
+use Rattle.byte_text.specs.Search.{begins}
+use Rattle.byte_text.proofs.Search.{begins-more, begins-differs, begins-short, begins-end}
 use borrow.Author.Needs.{needs}
-use Rattle.coating_name.proofs.begins.Statement.{statement}
-use Rattle.coating_name.proofs.begins.Tie as tie
+use Rattle.byte_text.proofs.begins.Statement.{statement}
+use Rattle.byte_text.proofs.begins.Tie as tie
 
 abbrev Inv-loop : tie.InvT-loop
 Inv-loop s p i₀ i = (i ≤ length p) × (begins s p ≡ begins (drop i s) (drop i p))

@@ -7,7 +7,7 @@ use mathlib.Core.Bool.{Bool, true, false}
 use mathlib.Core.List.{List, [], _∷_, reverse, reverse-append}
 use lib.ListN.{length, getD, take, drop, drop-of-length-le}
 use lib.Seq.{drop-cons, take-suc, take-length}
-use Rattle.coating_name.specs.Trim.{blank, prefix, kept}
+use Rattle.byte_text.specs.Trim.{blank, prefix, kept}
 
 -- ---- from the first byte
 module _ (test : ℕ → Bool) where

@@ -7,7 +7,7 @@ use mathlib.Core.List.{List, [], _∷_, _++_, append-nil}
 use lib.Dec.{T, eqb, eqb→eq, eqb-refl}
 use lib.ListN.{length, drop}
 use lib.Seq.{drop-length}
-use Rattle.coating_name.specs.Search.{begins, is, contains, Somewhere, Searching}
+use Rattle.byte_text.specs.Search.{begins, is, contains, Somewhere, Searching}
 
 -- ---- tests
 first : (a b : Bool) → T (a && b) → T a

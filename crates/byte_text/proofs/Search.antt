@@ -8,7 +8,7 @@ use mathlib.Core.List.{List, [], _∷_}
 use lib.ListN.{length, getD, take, drop, length-drop, drop-of-length-le}
 use lib.Seq.{take-all, drop-cons}
 use borrow.Author.Tests.{eq-eqb, ne-eqb}
-use Rattle.coating_name.specs.Search.{begins, contains}
+use Rattle.byte_text.specs.Search.{begins, contains}
 
 -- ---- p at the beginning of s, from their i-th bytes on
 begins-nil : (s : List ℕ) → begins s [] ≡ true

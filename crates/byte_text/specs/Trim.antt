@@ -4,7 +4,7 @@ use mathlib.Core.Bool.{Bool, _&&_, _||_, cond}
 use mathlib.Core.List.{List, [], _∷_, reverse}
 use lib.Dec.{leb, ltb, eqb}
 use lib.ListN.{length, take, drop}
-use Rattle.coating_name.specs.declared.Span.{Span}
+use Rattle.byte_text.specs.declared.Span.{Span}
 
 -- 0x09 to 0x0D and 0x20
 abbrev pub blank : ℕ → Bool

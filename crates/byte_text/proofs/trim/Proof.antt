@@ -1,4 +1,4 @@
--- `coating_name::trim` meets its contract. Assumes nothing.
+-- `byte_text::trim` meets its contract. Assumes nothing.
 use mathlib.Core.Path.{_≡_, ap, _∙_}
 use mathlib.Core.List.{List}
 use Prim.Native.Nat.{ℕ, _+_, _-_, _≤_}
@@ -6,11 +6,11 @@ use native.Mathlib.Nat.{add-sub-cancel-left}
 use native.Mathlib.Omega.{arith}
 use lib.ListN.{length, take, drop}
 use borrow.Author.Needs.{needs}
-use Rattle.coating_name.specs.declared.Span.{Span}
-use Rattle.coating_name.specs.Trim.{trimmed, span, handed}
-use Rattle.coating_name.proofs.Part.{part-is, part-fits}
-use Rattle.coating_name.proofs.trim.Statement.{statement}
-use Rattle.coating_name.proofs.trim.Tie as tie
+use Rattle.byte_text.specs.declared.Span.{Span}
+use Rattle.byte_text.specs.Trim.{trimmed, span, handed}
+use Rattle.byte_text.proofs.Part.{part-is, part-fits}
+use Rattle.byte_text.proofs.trim.Statement.{statement}
+use Rattle.byte_text.proofs.trim.Tie as tie
 
 fits : (s : List ℕ) (p : Span) → p ≡ span s → p .place + p .len ≤ length s
 fits s p e = simp e (part-fits s)

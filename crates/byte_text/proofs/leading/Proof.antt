@@ -1,4 +1,4 @@
--- `coating_name::leading` meets its contract. Assumes nothing.
+-- `byte_text::leading` meets its contract. Assumes nothing.
 use mathlib.Core.Path.{_≡_, sym, _∙_}
 use Prim.Native.Nat.{_+_, _-_, _≤_}
 use native.Mathlib.Nat.{zero-add}
@@ -6,10 +6,10 @@ use native.Mathlib.Omega.{arith}
 use lib.ListN.{length, drop}
 use borrow.Author.Needs.{needs}
 use borrow.Author.Tests.{not-true, not-false}
-use Rattle.coating_name.specs.Trim.{blank, prefix}
-use Rattle.coating_name.proofs.Scan.{prefix-more, prefix-stop, prefix-end}
-use Rattle.coating_name.proofs.leading.Statement.{statement}
-use Rattle.coating_name.proofs.leading.Tie as tie
+use Rattle.byte_text.specs.Trim.{blank, prefix}
+use Rattle.byte_text.proofs.Scan.{prefix-more, prefix-stop, prefix-end}
+use Rattle.byte_text.proofs.leading.Statement.{statement}
+use Rattle.byte_text.proofs.leading.Tie as tie
 
 abbrev Inv-loop : tie.InvT-loop
 Inv-loop s i₀ i = (i ≤ length s) × (prefix blank s ≡ i + prefix blank (drop i s))

@@ -1,16 +1,16 @@
--- `coating_name::first_over` meets its contract. Assumes nothing.
+-- `byte_text::first_over` meets its contract. Assumes nothing.
 use mathlib.Core.Path.{_≡_, sym}
 use Prim.Native.Nat.{_+_, _-_, _≤_}
 use native.Mathlib.Nat.{zero-add}
 use native.Mathlib.Omega.{arith}
 use lib.ListN.{length, drop}
 use borrow.Author.Tests.{le-leb, lt-leb}
-use Rattle.coating_name.specs.Trim.{prefix}
-use Rattle.coating_name.specs.Name.{ascii}
-use Rattle.coating_name.proofs.Scan.{prefix-more, prefix-stop, prefix-end}
+use Rattle.byte_text.specs.Trim.{prefix}
+use Rattle.byte_text.specs.Ascii.{ascii}
+use Rattle.byte_text.proofs.Scan.{prefix-more, prefix-stop, prefix-end}
 use borrow.Author.Needs.{needs}
-use Rattle.coating_name.proofs.first_over.Statement.{statement}
-use Rattle.coating_name.proofs.first_over.Tie as tie
+use Rattle.byte_text.proofs.first_over.Statement.{statement}
+use Rattle.byte_text.proofs.first_over.Tie as tie
 
 abbrev Inv-loop : tie.InvT-loop
 Inv-loop s i₀ i = (i ≤ length s) × (prefix ascii s ≡ i + prefix ascii (drop i s))

@@ -1,9 +1,9 @@
--- `coating_name::is` meets its contract. Assumes nothing.
+-- `byte_text::is` meets its contract. Assumes nothing.
 use borrow.Author.Needs.{needs}
 use borrow.Author.Tests.{eq-eqb, ne-eqb}
-use Rattle.coating_name.specs.Search.{is}
-use Rattle.coating_name.proofs.is.Statement.{statement}
-use Rattle.coating_name.proofs.is.Tie as tie
+use Rattle.byte_text.specs.Search.{is}
+use Rattle.byte_text.proofs.is.Statement.{statement}
+use Rattle.byte_text.proofs.is.Tie as tie
 
 begins-requires : tie.Need-begins-requires
 begins-requires c κs = search needs

@@ -1,11 +1,11 @@
--- `coating_name::upper_byte` meets its contract. Assumes nothing.
+-- `byte_text::upper_byte` meets its contract. Assumes nothing.
 use mathlib.Core.Path.{_≡_}
 use Prim.Native.Nat.{ℕ, _-_, _≤_, _<_}
 use native.Mathlib.Omega.{arith}
 use borrow.Author.Tests.{le-leb, lt-leb}
-use Rattle.coating_name.specs.Name.{upper-byte}
-use Rattle.coating_name.proofs.upper_byte.Statement.{statement}
-use Rattle.coating_name.proofs.upper_byte.Tie as tie
+use Rattle.byte_text.specs.Ascii.{upper-byte}
+use Rattle.byte_text.proofs.upper_byte.Statement.{statement}
+use Rattle.byte_text.proofs.upper_byte.Tie as tie
 
 below : (b : ℕ) → b < 97 → b ≡ upper-byte b
 below b h = simp (lt-leb 97 b h)

@@ -1,4 +1,4 @@
--- `coating_name::trim_span` meets its contract. Assumes nothing.
+-- `byte_text::trim_span` meets its contract. Assumes nothing.
 use mathlib.Core.Path.{_≡_, ap, _∙_}
 use mathlib.Core.List.{List}
 use Prim.Native.Nat.{ℕ, _-_, _<_}
@@ -6,11 +6,11 @@ use native.Mathlib.Nat.{le-of-eq}
 use lib.ListN.{length, take, drop, length-drop}
 use lib.Seq.{take-all}
 use borrow.Author.Needs.{needs}
-use Rattle.coating_name.specs.declared.Span.{Span}
-use Rattle.coating_name.specs.Trim.{blank, prefix, kept, span}
-use Rattle.coating_name.proofs.Part.{inside, outside}
-use Rattle.coating_name.proofs.trim_span.Statement.{statement}
-use Rattle.coating_name.proofs.trim_span.Tie as tie
+use Rattle.byte_text.specs.declared.Span.{Span}
+use Rattle.byte_text.specs.Trim.{blank, prefix, kept, span}
+use Rattle.byte_text.proofs.Part.{inside, outside}
+use Rattle.byte_text.proofs.trim_span.Statement.{statement}
+use Rattle.byte_text.proofs.trim_span.Tie as tie
 
 within : (s : List ℕ) (a len : ℕ) → a ≡ prefix blank s → a < length s → len ≡ kept (take (length s - a) (drop a s)) → _≡_ {A = Span} (record { place = a; len = len }) (span s)
 within s a len e h k =

@@ -9,7 +9,7 @@ use lib.Dec.{ltb}
 use lib.ListN.{length, take, drop, drop-of-length-le, length-drop}
 use lib.Seq.{take-nil, length-take-le}
 use borrow.Author.Tests.{ltb-true, ltb-false, lt-ltb, le-ltb}
-use Rattle.coating_name.specs.Trim.{blank, prefix, kept, trimmed, span}
+use Rattle.byte_text.specs.Trim.{blank, prefix, kept, trimmed, span}
 
 kept-le : (s : List ℕ) → kept s ≤ length s
 unfolding kept

@@ -1,13 +1,13 @@
--- `coating_name::blank` meets its contract. Assumes nothing.
+-- `byte_text::blank` meets its contract. Assumes nothing.
 use mathlib.Core.Path.{_≡_}
 use Prim.Native.Nat.{ℕ, _≤_, _<_}
 use native.Mathlib.Omega.{arith}
 use mathlib.Core.Bool.{true, false}
 use lib.Dec.{eqb}
 use borrow.Author.Tests.{le-leb, lt-leb, ne-eqb}
-use Rattle.coating_name.specs.Trim.{blank}
-use Rattle.coating_name.proofs.blank.Statement.{statement}
-use Rattle.coating_name.proofs.blank.Tie as tie
+use Rattle.byte_text.specs.Trim.{blank}
+use Rattle.byte_text.proofs.blank.Statement.{statement}
+use Rattle.byte_text.proofs.blank.Tie as tie
 
 below : (b : ℕ) → b < 9 → false ≡ blank b
 below b h = simp (lt-leb 9 b h, ne-eqb b 32 (λ e. omega arith))
