@@ -15,11 +15,11 @@ ghost use Rattle.surface.specs.Answers.{answers, powers, returned};
 ghost use Rattle.sheet_answers.specs.Outcome.{outcome-of};
 use coating::Coating;
 use evaluation::Evaluation;
+use limits::Interface;
+use limits::Surface;
 use refusal::Refusal;
-use surface::Interface;
+use surface::AnswersReply;
 use surface::Powers;
-use surface::Reply;
-use surface::Surface;
 use thin_film::SurfaceCoating;
 use transfer_matrix::Stack;
 use transfer_matrix::ThinFilmLayer;
@@ -127,7 +127,7 @@ pub fn powers_at(src: &[u8], at: usize, n: usize, wavelength_nm: f64) -> PowersR
     ensures { λ r. ⌜ outcome-of r ≡ powers «wavelength_nm» (window (surface-at (now (src .entry)) at [])) (films (layers-at (now (src .entry)) (at + 7) n)) ⌝ }
 {
     let surface = sheet_values::surface_at(src, at);
-    match surface::interface_of(surface.coating) {
+    match limits::interface_of(surface.coating) {
         Interface::Bare => PowersReply::Powers(surface::bare_powers(surface)),
         Interface::Coated(coating) => {
             match evaluate_at(src, at, n, surface, coating, wavelength_nm) {
@@ -139,17 +139,17 @@ pub fn powers_at(src: &[u8], at: usize, n: usize, wavelength_nm: f64) -> PowersR
 }
 
 // The answers of the surface at a place with the n LAYERs behind it.
-pub fn answers_at(src: &[u8], at: usize, n: usize, wavelength_nm: f64) -> Reply
+pub fn answers_at(src: &[u8], at: usize, n: usize, wavelength_nm: f64) -> AnswersReply
     ensures { λ r. ⌜ r ≡ returned (answers «wavelength_nm» (window (surface-at (now (src .entry)) at [])) (films (layers-at (now (src .entry)) (at + 7) n))) ⌝ }
 {
     let surface = sheet_values::surface_at(src, at);
-    match surface::interface_of(surface.coating) {
+    match limits::interface_of(surface.coating) {
         Interface::Bare => surface::bare_answers(surface),
         Interface::Coated(coating) => {
             match evaluate_at(src, at, n, surface, coating, wavelength_nm) {
                 Evaluation::Response(r) => {
                     let answers = surface::coated_answers(r);
-                    Reply {
+                    AnswersReply {
                         refusal: 0,
                         answers,
                     }

@@ -40,11 +40,11 @@ use Rattle.polarization.specs.Surface.{surface-coating-jones}
 use Rattle.solver_bounds.specs.Solver.{AdmittedLayers, Bounded}
 use Rattle.solver_bounds.proofs.Powers.{zero-pow, cpow-up}
 use Rattle.solver_bounds.proofs.Solve.{every-response-bounded}
-use Rattle.surface.specs.declared.Surface.{Surface}
+use Rattle.limits.specs.declared.Surface.{Surface}
 use Rattle.surface.specs.Answers.{coated-powers}
-use Rattle.surface.specs.Limits.{within, layers-pass}
+use Rattle.limits.specs.Limits.{within, layers-pass}
 use Rattle.surface.specs.Finite.{UnitPowers, FiniteResponse}
-use Rattle.surface.proofs.Ranges.{layers-in, Inside}
+use Rattle.limits.proofs.Ranges.{layers-in, Inside}
 use Rattle.surface.proofs.Polarized.{PowerJones, cpow-finite, of-real-pow, diattenuator-pow}
 
 -- ---- the layers that a coating is evaluated with: they pass, there are 16 at most, and read from the far end they are the same ones

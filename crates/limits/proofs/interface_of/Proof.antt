@@ -1,9 +1,9 @@
--- `surface::interface_of` meets its contract. Assumes nothing.
-use Rattle.surface.specs.Coating.{interface}
+-- `limits::interface_of` meets its contract. Assumes nothing.
+use Rattle.limits.specs.Coating.{interface}
 use borrow.Author.Tests.{ne-eqb}
 use borrow.Author.Needs.{needs}
-use Rattle.surface.proofs.interface_of.Statement.{statement}
-use Rattle.surface.proofs.interface_of.Tie as tie
+use Rattle.limits.proofs.interface_of.Statement.{statement}
+use Rattle.limits.proofs.interface_of.Tie as tie
 
 mgf2-default-requires : tie.Need-mgf2-default-requires
 mgf2-default-requires c κs = search needs

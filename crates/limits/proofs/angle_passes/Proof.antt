@@ -1,4 +1,4 @@
--- `surface::angle_passes` meets its contract. Assumes nothing.
+-- `limits::angle_passes` meets its contract. Assumes nothing.
 use mathlib.Core.Path.{_≡_}
 use mathlib.Core.Bool.{Bool, true, false, _&&_}
 use lib.Ieee.{Float, le}
@@ -6,12 +6,12 @@ use Rattle.ieee.specs.Operators.{_⊗_}
 use Rattle.ieee.specs.Functions.{abs}
 use Rattle.elementary.specs.declared.SinCos.{SinCos}
 use Rattle.elementary.specs.Trig.{sin-cos}
-use Rattle.surface.specs.declared.Surface.{Surface}
-use Rattle.surface.specs.Coating.{interface, preset-layers}
-use Rattle.surface.specs.Limits.{quarter, bends, layers-within, angle-passes}
+use Rattle.limits.specs.declared.Surface.{Surface}
+use Rattle.limits.specs.Coating.{interface, preset-layers}
+use Rattle.limits.specs.Limits.{quarter, bends, layers-within, angle-passes}
 use borrow.Author.Needs.{needs}
-use Rattle.surface.proofs.angle_passes.Statement.{statement}
-use Rattle.surface.proofs.angle_passes.Tie as tie
+use Rattle.limits.proofs.angle_passes.Statement.{statement}
+use Rattle.limits.proofs.angle_passes.Tie as tie
 
 -- with both answers of one sine and cosine, by which of the three tests decides
 module _ (s : Surface) (t : SinCos) (a : Float) (e : t ≡ sin-cos (s .«angle_rad»)) (f : a ≡ abs (t .sin)) where

@@ -1,7 +1,7 @@
--- `surface::within` meets its contract. Assumes nothing.
-use Rattle.surface.specs.Limits.{within}
-use Rattle.surface.proofs.within.Statement.{statement}
-use Rattle.surface.proofs.within.Tie as tie
+-- `limits::within` meets its contract. Assumes nothing.
+use Rattle.limits.specs.Limits.{within}
+use Rattle.limits.proofs.within.Statement.{statement}
+use Rattle.limits.proofs.within.Tie as tie
 
 returns : tie.Need-returns
 unfolding within

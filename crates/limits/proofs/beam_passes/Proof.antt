@@ -1,9 +1,9 @@
--- `surface::beam_passes` meets its contract. Assumes nothing.
+-- `limits::beam_passes` meets its contract. Assumes nothing.
 use mathlib.Core.Path.{sym}
-use Rattle.surface.specs.Limits.{beam-passes}
+use Rattle.limits.specs.Limits.{beam-passes}
 use borrow.Author.Needs.{needs}
-use Rattle.surface.proofs.beam_passes.Statement.{statement}
-use Rattle.surface.proofs.beam_passes.Tie as tie
+use Rattle.limits.proofs.beam_passes.Statement.{statement}
+use Rattle.limits.proofs.beam_passes.Tie as tie
 
 within-requires : tie.Need-within-requires
 within-requires c κs = search needs

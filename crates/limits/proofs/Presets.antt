@@ -17,9 +17,9 @@ use Rattle.coating.specs.declared.Coating.the-variants as C
 use Rattle.thin_film.specs.declared.SurfaceCoating.the-variants as S
 use Rattle.thin_film.specs.Coating.{standard-wavelength, n-mgf2, mgf2-layers, mirror-layers, layers-of}
 use Rattle.preset_layers.specs.Layers.{n-sio2, n-tio2, quarter-wave, broadband-layers, bragg-layers}
-use Rattle.surface.specs.declared.Interface.the-variants.{Bare, Coated}
-use Rattle.surface.specs.Coating.{interface, preset-layers}
-use Rattle.surface.specs.Limits.{hundred-thousand, within, bends, layer-within, layers-within}
+use Rattle.limits.specs.declared.Interface.the-variants.{Bare, Coated}
+use Rattle.limits.specs.Coating.{interface, preset-layers}
+use Rattle.limits.specs.Limits.{hundred-thousand, within, bends, layer-within, layers-within}
 
 -- ---- one layer
 zero-same : eq zero-f zero-f ≡ true

@@ -1,9 +1,9 @@
--- `surface::surface_passes` meets its contract. Assumes nothing.
+-- `limits::surface_passes` meets its contract. Assumes nothing.
 use mathlib.Core.Path.{sym}
-use Rattle.surface.specs.Limits.{surface-passes}
+use Rattle.limits.specs.Limits.{surface-passes}
 use borrow.Author.Needs.{needs}
-use Rattle.surface.proofs.surface_passes.Statement.{statement}
-use Rattle.surface.proofs.surface_passes.Tie as tie
+use Rattle.limits.proofs.surface_passes.Statement.{statement}
+use Rattle.limits.proofs.surface_passes.Tie as tie
 
 within-requires : tie.Need-within-requires
 within-requires c κs = search needs

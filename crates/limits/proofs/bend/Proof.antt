@@ -1,7 +1,7 @@
--- `surface::bend` meets its contract. Assumes nothing.
+-- `limits::bend` meets its contract. Assumes nothing.
 use borrow.Author.Needs.{needs}
-use Rattle.surface.proofs.bend.Statement.{statement}
-use Rattle.surface.proofs.bend.Tie as tie
+use Rattle.limits.proofs.bend.Statement.{statement}
+use Rattle.limits.proofs.bend.Tie as tie
 
 sin-requires : tie.Need-sin-requires
 sin-requires c κs = search needs

@@ -7,8 +7,8 @@ use Rattle.transfer_matrix.specs.declared.ThinFilmLayer.{ThinFilmLayer}
 use Rattle.coating.specs.declared.Coating.the-variants as C
 use Rattle.thin_film.specs.declared.SurfaceCoating.the-variants as S
 use Rattle.thin_film.specs.Coating.{mgf2-default, layers-of}
-use Rattle.surface.specs.declared.Interface.{Interface}
-use Rattle.surface.specs.declared.Interface.the-variants.{Bare, Coated}
+use Rattle.limits.specs.declared.Interface.{Interface}
+use Rattle.limits.specs.declared.Interface.the-variants.{Bare, Coated}
 
 -- payload / 2 is the coating: 0 bare, 1 IdealAr, 2 MgF2 at 550, 3 BroadbandAr, 4 HighReflectanceMirror, 5 Custom layers, 6 Coating::IdealBeamsplitter, 7 Coating::IdealMirror
 unfoldable pub interface : ℕ → Interface

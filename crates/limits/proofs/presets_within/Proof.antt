@@ -1,7 +1,7 @@
--- `surface::presets_within` meets its contract. Assumes nothing.
-use Rattle.surface.proofs.Presets.{at-mgf2, at-broadband, at-mirror, at-others}
-use Rattle.surface.proofs.presets_within.Statement.{statement}
-use Rattle.surface.proofs.presets_within.Tie as tie
+-- `limits::presets_within` meets its contract. Assumes nothing.
+use Rattle.limits.proofs.Presets.{at-mgf2, at-broadband, at-mirror, at-others}
+use Rattle.limits.proofs.presets_within.Statement.{statement}
+use Rattle.limits.proofs.presets_within.Tie as tie
 
 returns : tie.Need-returns
 returns c = at-mgf2 _ _ (c .if1 .taken)

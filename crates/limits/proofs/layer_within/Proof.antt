@@ -1,9 +1,9 @@
--- `surface::layer_within` meets its contract. Assumes nothing.
+-- `limits::layer_within` meets its contract. Assumes nothing.
 use mathlib.Core.Path.{sym}
-use Rattle.surface.specs.Limits.{layer-within}
+use Rattle.limits.specs.Limits.{layer-within}
 use borrow.Author.Needs.{needs}
-use Rattle.surface.proofs.layer_within.Statement.{statement}
-use Rattle.surface.proofs.layer_within.Tie as tie
+use Rattle.limits.proofs.layer_within.Statement.{statement}
+use Rattle.limits.proofs.layer_within.Tie as tie
 
 within-requires : tie.Need-within-requires
 within-requires c κs = search needs

@@ -9,8 +9,8 @@ use Rattle.ieee.specs.Functions.{zero-f, one, seven-eighths, abs}
 use Rattle.elementary.specs.Trig.{sin, cos}
 use Rattle.elementary.specs.Atan.{four}
 use Rattle.transfer_matrix.specs.declared.ThinFilmLayer.{ThinFilmLayer}
-use Rattle.surface.specs.declared.Surface.{Surface}
-use Rattle.surface.specs.Coating.{interface, preset-layers}
+use Rattle.limits.specs.declared.Surface.{Surface}
+use Rattle.limits.specs.Coating.{interface, preset-layers}
 
 -- 0.25, 100, 10,000 and 100,000
 abbrev pub quarter : Float

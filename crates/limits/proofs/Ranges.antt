@@ -20,9 +20,9 @@ use Rattle.elementary.specs.Atan.{four}
 use Rattle.elementary.proofs.TrigBounds.{sin-mag, cos-mag}
 use Rattle.transfer_matrix.specs.declared.ThinFilmLayer.{ThinFilmLayer}
 use Rattle.solver_bounds.specs.Solver.{Bends, AdmittedLayer, AdmittedLayers}
-use Rattle.surface.specs.declared.Surface.{Surface}
-use Rattle.surface.specs.Coating.{interface, preset-layers}
-use Rattle.surface.specs.Limits.{quarter, hundred, ten-thousand, hundred-thousand, within, wavelength-passes, bend, bends, layer-within, layers-within, layer-passes, layers-pass, angle-passes, surface-passes}
+use Rattle.limits.specs.declared.Surface.{Surface}
+use Rattle.limits.specs.Coating.{interface, preset-layers}
+use Rattle.limits.specs.Limits.{quarter, hundred, ten-thousand, hundred-thousand, within, wavelength-passes, bend, bends, layer-within, layers-within, layer-passes, layers-pass, angle-passes, surface-passes}
 
 -- ---- the ends
 four-in : In 4 0 4 0 four

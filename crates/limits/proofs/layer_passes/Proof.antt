@@ -1,7 +1,7 @@
--- `surface::layer_passes` meets its contract. Assumes nothing.
+-- `limits::layer_passes` meets its contract. Assumes nothing.
 use borrow.Author.Needs.{needs}
-use Rattle.surface.proofs.layer_passes.Statement.{statement}
-use Rattle.surface.proofs.layer_passes.Tie as tie
+use Rattle.limits.proofs.layer_passes.Statement.{statement}
+use Rattle.limits.proofs.layer_passes.Tie as tie
 
 bend-requires : tie.Need-bend-requires
 bend-requires c κs = search needs
