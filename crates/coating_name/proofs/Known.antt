@@ -5,8 +5,8 @@ use mathlib.Core.Option.{none, some}
 use Rattle.refusal.specs.Outcome.{answer}
 use Rattle.thin_film.specs.declared.SurfaceCoating.the-variants as S
 use Rattle.thin_film.specs.Coating.{mgf2-default}
-use Rattle.coating_name.specs.Trim.{prefix, kept, trimmed}
-use Rattle.coating_name.specs.Search.{begins, is, contains}
+use Rattle.byte_text.specs.Trim.{prefix, kept, trimmed}
+use Rattle.byte_text.specs.Search.{begins, is, contains}
 use Rattle.coating_name.specs.Name.{CUSTOM, upper, names-none, names-mgf2, names-bbar, names-mirror, names-ar, coating-of, from-format-name}
 
 -- " mgf2 " is MgF2 at 550 nm

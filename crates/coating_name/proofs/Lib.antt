@@ -1,7 +1,3 @@
--- What the scans and the searches show, and answers of document 01 that are computed.
-pub mod Part
-pub mod Meaning
+-- An upper-case name, and answers of document 01 that are computed.
 pub mod Known
-mod Scan
-mod Search
 mod UpperCase

@@ -7,7 +7,8 @@ use mathlib.Core.List.{List, [], _∷_, _++_, map, append-assoc, map-append}
 use lib.ListN.{length, getD, take, set, replicate, length-map, length-append}
 use lib.Seq.{take-suc, length-take-le, set-at, take-at, take-length}
 use Rattle.coating_name.specs.declared.Clean.{Clean}
-use Rattle.coating_name.specs.Name.{upper-byte, upper}
+use Rattle.byte_text.specs.Ascii.{upper-byte}
+use Rattle.coating_name.specs.Name.{upper}
 
 -- the first i bytes of s in upper case
 abbrev pub filled : List ℕ → ℕ → List ℕ

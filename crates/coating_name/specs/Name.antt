@@ -1,18 +1,19 @@
 -- SurfaceCoating::from_format_name and to_format_name of thin_film.rs, on bytes (01, 'The rest'; refusal 2). Definitions only.
-use Prim.Native.Nat.{ℕ, _-_}
-use mathlib.Core.Bool.{Bool, _&&_, _||_, cond}
+use Prim.Native.Nat.{ℕ}
+use mathlib.Core.Bool.{Bool, _||_, cond}
 use mathlib.Core.List.{List, [], _∷_, map}
 use mathlib.Core.Option.{Option, none, some}
-use lib.Dec.{leb, ltb}
+use lib.Dec.{ltb}
 use lib.ListN.{length}
 use Rattle.refusal.specs.Outcome.{Outcome, answer, refusal, refused}
+use Rattle.byte_text.specs.Trim.{trimmed}
+use Rattle.byte_text.specs.Search.{is, contains}
+use Rattle.byte_text.specs.Ascii.{upper-byte, first-over}
 use Rattle.thin_film.specs.declared.SurfaceCoating.{SurfaceCoating}
 use Rattle.thin_film.specs.declared.SurfaceCoating.the-variants as S
 use Rattle.thin_film.specs.Coating.{mgf2-default}
 use Rattle.coating_name.specs.declared.Named.{Named}
 use Rattle.coating_name.specs.declared.Named.the-variants as N
-use Rattle.coating_name.specs.Trim.{prefix, trimmed}
-use Rattle.coating_name.specs.Search.{is, contains}
 
 -- ---- the fixed byte strings
 abbrev pub NONE : List ℕ
@@ -49,10 +50,7 @@ abbrev pub CUSTOM : List ℕ
 CUSTOM = 67 ∷ 85 ∷ 83 ∷ 84 ∷ 79 ∷ 77 ∷ []
 
 -- ---- from_format_name
--- to_uppercase of an ASCII byte: a to z
-abbrev pub upper-byte : ℕ → ℕ
-upper-byte b = cond (leb 97 b && leb b 122) (b - 32) b
-
+-- to_uppercase of an ASCII name
 unfoldable pub upper : List ℕ → List ℕ
 upper s = map upper-byte s
 
@@ -85,14 +83,6 @@ coating-of clean =
     (cond (names-mirror clean) (some S.HighReflectanceMirror)
     (cond (names-ar clean) (some S.IdealAr)
     (some S.IdealAr)))))
-
--- 0 to 127
-abbrev pub ascii : ℕ → Bool
-ascii b = leb b 127
-
--- the place of the first byte over 127; the length where there is none
-abbrev pub first-over : List ℕ → ℕ
-first-over s = prefix ascii s
 
 -- refusal 2: over 32 bytes with place 32, else the first byte over 127
 unfoldable pub from-format-name : List ℕ → Outcome (Option SurfaceCoating)

@@ -11,11 +11,11 @@ use Rattle.trig.specs.Trig.{sin, cos}
 use Rattle.transfer_matrix.specs.declared.ThinFilmLayer.{ThinFilmLayer}
 use Rattle.thin_film.specs.Evaluate.{evaluate-surface}
 use Rattle.polarization.specs.Surface.{invalid, bare, surface-fresnel-jones}
-use Rattle.surface.specs.declared.Surface as Window
+use Rattle.limits.specs.declared.Surface as Window
 use Rattle.surface.specs.declared.Answers.{Answers}
-use Rattle.surface.specs.declared.Interface.{Interface}
-use Rattle.surface.specs.declared.Interface.the-variants.{Bare, Coated}
-use Rattle.surface.specs.Coating.{interface}
+use Rattle.limits.specs.declared.Interface.{Interface}
+use Rattle.limits.specs.declared.Interface.the-variants.{Bare, Coated}
+use Rattle.limits.specs.Coating.{interface}
 use Rattle.surface.specs.Answers.{coated-answers, bare-answers, answers-of}
 use Rattle.sheet.specs.Sheet.{Sheet}
 use Rattle.sheet_values.specs.Values.{value, films, window}

@@ -18,7 +18,7 @@ use Rattle.sheet.proofs.Scan.{left, never}
 use Rattle.sheet.proofs.Blocks.{Next, next-surface, next-layer, next-end, next, begins}
 use Rattle.sheet.proofs.Claim.Found.{Found, is-surface, is-layer, is-end, cut-surface, cut-layer, cut-end, after-end, no-block, found-cases}
 use Rattle.sheet_values.specs.Values.{value}
-use Rattle.surface.specs.Limits.{bend}
+use Rattle.limits.specs.Limits.{bend}
 use Rattle.gate.specs.Gate.{Test, layer-tests, surface-tests, tests, gated}
 use Rattle.gate.specs.Claim.{FirstOutside}
 use Rattle.gate.proofs.Blocks.{from}

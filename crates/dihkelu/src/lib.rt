@@ -9,9 +9,9 @@ ghost use Rattle.call.specs.Call.{done, Apart, returned, answered};
 ghost use Rattle.call.specs.Layout.{evaluated, surface-answered};
 ghost use Rattle.optical_train.specs.Train.{step, run, surface-answers};
 ghost use Rattle.dihkelu.specs.Train.{begun, gone-on, taken, run-whole};
+use evaluation::Evaluation;
 use gate::Gated;
 use optical_train::State;
-use thin_film::Evaluation;
 
 // ---- a coated surface
 

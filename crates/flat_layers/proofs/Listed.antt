@@ -5,13 +5,15 @@ use lib.Ieee.{Float, lt}
 use types.Run.{OneOf, miss}
 use denote.Enum.Declared.{tagOf}
 use Rattle.transfer_matrix.specs.declared.ThinFilmLayer.{ThinFilmLayer}
-use Rattle.thin_film.specs.declared.Coating.{Coating}
-use Rattle.thin_film.specs.declared.Coating.the-variants as C
+use Rattle.coating.specs.declared.Coating.{Coating}
+use Rattle.coating.specs.declared.Coating.the-variants as C
 use Rattle.thin_film.specs.declared.SurfaceCoating.{SurfaceCoating}
 use Rattle.thin_film.specs.declared.SurfaceCoating.the-variants as S
-use Rattle.thin_film.specs.Coating.{layers-of, ordered}
-use Rattle.thin_film.specs.Evaluate.{evaluate-coating, evaluate-surface}
-use Rattle.thin_film.proofs.Coating as CT
+use Rattle.thin_film.specs.Coating.{layers-of}
+use Rattle.evaluation.specs.Walk.{ordered}
+use Rattle.coating.specs.Evaluate.{evaluate-coating}
+use Rattle.thin_film.specs.Evaluate.{evaluate-surface}
+use Rattle.coating.proofs.Coating as CT
 use Rattle.thin_film.proofs.SurfaceCoating as ST
 
 module _ (ls : List ThinFilmLayer) (n-incident n-substrate angle wavelength : Float) where

@@ -10,11 +10,14 @@ use lib.Ieee.{Float, lt}
 use Rattle.refusal.specs.Outcome.{Outcome, answer, refusal, invalid-parameter, too-many-layers, map}
 use Rattle.transfer_matrix.specs.declared.ThinFilmLayer.{ThinFilmLayer}
 use Rattle.transfer_matrix.specs.Solve as Solve
-use Rattle.thin_film.specs.declared.Coating.{Coating}
-use Rattle.thin_film.specs.declared.Coating.the-variants as C
+use Rattle.coating.specs.declared.Coating.{Coating}
+use Rattle.coating.specs.declared.Coating.the-variants as C
 use Rattle.thin_film.specs.declared.SurfaceCoating.{SurfaceCoating}
-use Rattle.thin_film.specs.Coating.{coating-of, layers-of, ordered}
-use Rattle.thin_film.specs.Evaluate.{valid, respond, evaluate-coating, evaluate-surface}
+use Rattle.thin_film.specs.Coating.{coating-of, layers-of}
+use Rattle.evaluation.specs.Walk.{ordered}
+use Rattle.before_layers.specs.Valid.{valid}
+use Rattle.coating.specs.Evaluate.{respond, evaluate-coating}
+use Rattle.thin_film.specs.Evaluate.{evaluate-surface}
 use Rattle.flat_layers.specs.declared.Coded.{Coded}
 use Rattle.flat_layers.specs.declared.Coded.the-variants as K
 use Rattle.flat_layers.specs.Evaluate.{coded, layers, evaluate-coded, evaluate}

@@ -6,7 +6,7 @@ use mathlib.Core.List.{List, [], _∷_}
 use lib.ListN.{length, getD}
 use lib.Ieee.{Float, nan}
 use Rattle.transfer_matrix.specs.declared.ThinFilmLayer.{ThinFilmLayer}
-use Rattle.thin_film.specs.Coating.{blank}
+use Rattle.evaluation.specs.Walk.{blank}
 use Rattle.flat_layers.specs.Evaluate.{layers}
 
 pub count : (flat : List Float) → length (layers flat) ≡ length flat / 3

@@ -7,14 +7,13 @@ ghost use lib.Dec.{eqb};
 ghost use lib.ListN.{length, getD};
 ghost use Rattle.refusal.specs.Outcome.{invalid-parameter};
 ghost use Rattle.transfer_matrix.specs.Stack.{steps};
-ghost use Rattle.thin_film.specs.Coating.{ordered, blank};
-ghost use Rattle.thin_film.specs.Evaluate.{outcome, evaluate-surface};
-ghost use Rattle.thin_film.specs.Walk as Walk;
-ghost use Rattle.thin_film.specs.declared.Coating.the-variants as C;
+ghost use Rattle.evaluation.specs.Walk.{ordered, blank, outcome};
+ghost use Rattle.thin_film.specs.Evaluate.{evaluate-surface};
+ghost use Rattle.coating.specs.declared.Coating.the-variants as C;
 ghost use Rattle.thin_film.specs.declared.SurfaceCoating.the-variants as S;
 ghost use Rattle.flat_layers.specs.Evaluate.{coded, layers, evaluate-coded, evaluate};
-use thin_film::Coating;
-use thin_film::Evaluation;
+use coating::Coating;
+use evaluation::Evaluation;
 use thin_film::SurfaceCoating;
 use transfer_matrix::Stack;
 use transfer_matrix::ThinFilmLayer;
@@ -51,14 +50,6 @@ fn coating_of(code: u32, design_wavelength_nm: f64) -> Coded
     }
 }
 
-// Where the i-th layer that is read stands, of n.
-fn place(far: bool, n: usize, i: usize) -> usize
-    requires { ⌜ i < n ⌝ }
-    ensures { λ r. ⌜ r ≡ Walk.place far n i ⌝ }
-{
-    if far { n - 1 - i } else { i }
-}
-
 // The j-th layer.
 fn layer_at(flat: &[f64], j: usize) -> ThinFilmLayer
     requires { ⌜ 3 * j + 2 < length (now flat) ⌝ }
@@ -79,7 +70,7 @@ fn through(flat: &[f64], far: bool, start: Stack) -> Stack
     let mut stack = start;
     let mut i = 0;
     while i < n {
-        let j = place(far, n, i);
+        let j = evaluation::place(far, n, i);
         stack = transfer_matrix::step(stack, layer_at(flat, j));
         i += 1;
     }
@@ -96,7 +87,7 @@ fn multilayer(
 ) -> Evaluation
     ensures { λ r. ⌜ outcome r ≡ evaluate-surface (S.Custom C.Multilayer) (layers (now (flat .entry))) «n_incident» «n_substrate» «angle_incident_rad» «wavelength_nm» ⌝ }
 {
-    if !thin_film::valid(n_incident, n_substrate, angle_incident_rad, wavelength_nm) {
+    if !before_layers::valid(n_incident, n_substrate, angle_incident_rad, wavelength_nm) {
         return Evaluation::Refused(refusal::INVALID_PARAMETER);
     }
     if flat.len() / 3 > 64 {

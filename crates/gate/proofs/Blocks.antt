@@ -8,9 +8,9 @@ use native.Mathlib.Omega.{arith}
 use lib.ListN.{length}
 use lib.Ieee.{Float}
 use Rattle.refusal.specs.Outcome.{Outcome, answer, refusal, map}
-use Rattle.surface.specs.Limits.{beam-passes, bend, layer-within, surface-passes}
+use Rattle.limits.specs.Limits.{beam-passes, bend, layer-within, surface-passes}
 use Rattle.transfer_matrix.specs.declared.ThinFilmLayer.{ThinFilmLayer}
-use Rattle.surface.specs.declared.Surface as Window
+use Rattle.limits.specs.declared.Surface as Window
 use Rattle.sheet.specs.Sheet.{Sheet}
 use Rattle.sheet.specs.Words.{word, count, kind, float}
 use Rattle.sheet.specs.Read.{Result, read, fault, Rest, layer-at, surface-at, decode}

@@ -35,7 +35,7 @@ fn limits(src: &[u8], count: u32) -> Gated
     requires { ⌜ counted (decode (now src)) ≡ read count ⌝ }
     ensures { λ r. ⌜ outcome r ≡ map surfaces-of (within-limits (decode (now (src .entry)))) ⌝ }
 {
-    if !surface::beam_passes(
+    if !limits::beam_passes(
         sheet::float_from(src, 2),
         sheet::float_from(src, 4),
         sheet::float_from(src, 6),
@@ -48,14 +48,14 @@ fn limits(src: &[u8], count: u32) -> Gated
         let kind = sheet::word_from(src, at) / 0x1000_0000;
         if kind == 3 {
             let s = sheet_values::surface_at(src, at);
-            let judgement = surface::judge_surface(s);
+            let judgement = limits::judge_surface(s);
             if !judgement.passes {
                 return outside(at);
             }
             bend = judgement.bend;
             at += 7;
         } else if kind == 4 {
-            if !surface::layer_within(bend, sheet_values::layer_at(src, at)) {
+            if !limits::layer_within(bend, sheet_values::layer_at(src, at)) {
                 return outside(at);
             }
             at += 7;

@@ -8,7 +8,7 @@ use Rattle.square_root.specs.Root.{sqrt}
 use Rattle.trig.specs.Angles.{pi}
 use Rattle.complex.specs.Complex.{real, zero, div}
 use Rattle.refusal.specs.Outcome.{answer}
-use Rattle.thin_film.specs.declared.Coating.the-variants as C
+use Rattle.coating.specs.declared.Coating.the-variants as C
 use Rattle.thin_film.specs.declared.SurfaceCoating.the-variants as S
 use Rattle.thin_film.specs.Coating.{mgf2-default}
 use Rattle.thin_film.specs.Evaluate.{evaluate-surface}

@@ -3,9 +3,11 @@ ghost use mathlib.Core.Path.{_≡_};
 ghost use Prim.Native.Nat.{_≤_};
 ghost use lib.ListN.{take};
 ghost use Rattle.transfer_matrix.specs.Solve as Solve;
-ghost use Rattle.thin_film.specs.Evaluate.{outcome, evaluate-coating, evaluate-surface};
-use thin_film::Coating;
-use thin_film::Evaluation;
+ghost use Rattle.evaluation.specs.Walk.{outcome};
+ghost use Rattle.coating.specs.Evaluate.{evaluate-coating};
+ghost use Rattle.thin_film.specs.Evaluate.{evaluate-surface};
+use coating::Coating;
+use evaluation::Evaluation;
 use thin_film::SurfaceCoating;
 use transfer_matrix::CoatingResponse;
 use transfer_matrix::ThinFilmLayer;
@@ -63,7 +65,7 @@ pub(crate) fn multilayer(
     requires { ⌜ n ≤ 72 ⌝ }
     ensures { λ r. ⌜ r ≡ Solve.evaluate «n_incident» «n_substrate» «angle_incident_rad» «wavelength_nm» (take n items) ⌝ }
 {
-    thin_film::evaluate_tmm_multilayer(
+    evaluation::evaluate_tmm_multilayer(
         n_incident,
         n_substrate,
         angle_incident_rad,

@@ -8,7 +8,7 @@ use lib.ListN.{length}
 use Rattle.refusal.specs.declared.Refusal.{Refusal}
 use Rattle.refusal.specs.Outcome.{answer, refusal, refused, map}
 use Rattle.transfer_matrix.specs.declared.ThinFilmLayer.{ThinFilmLayer}
-use Rattle.surface.specs.declared.Surface as Window
+use Rattle.limits.specs.declared.Surface as Window
 use Rattle.sheet.specs.Sheet.{Sheet}
 use Rattle.sheet.specs.Read.{read, decode, layer-at, surface-at}
 use Rattle.sheet.specs.Scan.{run}

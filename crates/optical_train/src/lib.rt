@@ -12,11 +12,11 @@ ghost use Rattle.sheet_values.specs.Values.{layers-at};
 ghost use Rattle.gate.specs.Gate as Gate;
 ghost use Rattle.optical_train.specs.Train.{chosen, chosen-powers, nth, fresh, start, outcome, past, step, after-each, run, surface-answers, given, nth-surface, surface-outcome, nth-layer, layer-outcome};
 use gate::Gated;
+use limits::Surface;
 use refusal::Refusal;
 use sheet_answers::PowersReply;
 use surface::Answers;
 use surface::Powers;
-use surface::Surface;
 use transfer_matrix::ThinFilmLayer;
 
 // ---- a surface

@@ -74,7 +74,7 @@ fn named_out(out: &mut [u64; 256], n: Named) -> usize {
 }
 
 fn span_out(out: &mut [u64; 256], name: &[u8]) -> usize {
-    let s = coating_name::trim_span(name);
+    let s = byte_text::trim_span(name);
     out[0] = s.place as u64;
     out[1] = s.len as u64;
     2

@@ -3,24 +3,23 @@
 // every word is zero.
 ghost use mathlib.Core.Path.{_≡_};
 ghost use mathlib.Core.List.{[]};
-ghost use Prim.Native.Nat.{_+_, _*_, _<_};
+ghost use Prim.Native.Nat.{_+_, _*_};
 ghost use Rattle.sheet.specs.Read.{layer-at, surface-at};
 ghost use Rattle.sheet_values.specs.Values.{film, films, window, layers-at};
 ghost use Rattle.transfer_matrix.specs.Stack.{steps};
-ghost use Rattle.thin_film.specs.declared.Coating.the-variants as C;
+ghost use Rattle.coating.specs.declared.Coating.the-variants as C;
 ghost use Rattle.thin_film.specs.declared.SurfaceCoating.the-variants as S;
-ghost use Rattle.thin_film.specs.Coating.{ordered};
-ghost use Rattle.thin_film.specs.Walk as Walk;
-ghost use Rattle.thin_film.specs.Evaluate.{outcome, evaluate-surface};
+ghost use Rattle.evaluation.specs.Walk.{ordered, outcome};
+ghost use Rattle.thin_film.specs.Evaluate.{evaluate-surface};
 ghost use Rattle.surface.specs.Answers.{answers, powers, returned};
 ghost use Rattle.sheet_answers.specs.Outcome.{outcome-of};
+use coating::Coating;
+use evaluation::Evaluation;
+use limits::Interface;
+use limits::Surface;
 use refusal::Refusal;
-use surface::Interface;
+use surface::AnswersReply;
 use surface::Powers;
-use surface::Reply;
-use surface::Surface;
-use thin_film::Coating;
-use thin_film::Evaluation;
 use thin_film::SurfaceCoating;
 use transfer_matrix::Stack;
 use transfer_matrix::ThinFilmLayer;
@@ -45,14 +44,6 @@ pub fn layer_behind(src: &[u8], at: usize, j: usize) -> ThinFilmLayer
     sheet_values::layer_at(src, at + 7 + 7 * j)
 }
 
-// Where the i-th layer that is read stands, of n.
-fn place(far: bool, n: usize, i: usize) -> usize
-    requires { ⌜ i < n ⌝ }
-    ensures { λ r. ⌜ r ≡ Walk.place far n i ⌝ }
-{
-    if far { n - 1 - i } else { i }
-}
-
 // The stack with the n LAYERs behind the block at a place, read from either end.
 fn through(src: &[u8], at: usize, n: usize, far: bool, start: Stack) -> Stack
     ensures { λ r. ⌜ r ≡ steps start (ordered far (films (layers-at (now (src .entry)) (at + 7) n))) ⌝ }
@@ -60,7 +51,7 @@ fn through(src: &[u8], at: usize, n: usize, far: bool, start: Stack) -> Stack
     let mut stack = start;
     let mut i = 0;
     while i < n {
-        let j = place(far, n, i);
+        let j = evaluation::place(far, n, i);
         stack = transfer_matrix::step(stack, layer_behind(src, at, j));
         i += 1;
     }
@@ -78,7 +69,7 @@ fn evaluate_custom(
 ) -> Evaluation
     ensures { λ r. ⌜ outcome r ≡ evaluate-surface (S.Custom C.Multilayer) (films (layers-at (now (src .entry)) (at + 7) n)) (surface .«n_incident») (surface .«n_substrate») (surface .«angle_rad») «wavelength_nm» ⌝ }
 {
-    if !thin_film::valid(
+    if !before_layers::valid(
         surface.n_incident,
         surface.n_substrate,
         surface.angle_rad,
@@ -136,7 +127,7 @@ pub fn powers_at(src: &[u8], at: usize, n: usize, wavelength_nm: f64) -> PowersR
     ensures { λ r. ⌜ outcome-of r ≡ powers «wavelength_nm» (window (surface-at (now (src .entry)) at [])) (films (layers-at (now (src .entry)) (at + 7) n)) ⌝ }
 {
     let surface = sheet_values::surface_at(src, at);
-    match surface::interface_of(surface.coating) {
+    match limits::interface_of(surface.coating) {
         Interface::Bare => PowersReply::Powers(surface::bare_powers(surface)),
         Interface::Coated(coating) => {
             match evaluate_at(src, at, n, surface, coating, wavelength_nm) {
@@ -148,17 +139,17 @@ pub fn powers_at(src: &[u8], at: usize, n: usize, wavelength_nm: f64) -> PowersR
 }
 
 // The answers of the surface at a place with the n LAYERs behind it.
-pub fn answers_at(src: &[u8], at: usize, n: usize, wavelength_nm: f64) -> Reply
+pub fn answers_at(src: &[u8], at: usize, n: usize, wavelength_nm: f64) -> AnswersReply
     ensures { λ r. ⌜ r ≡ returned (answers «wavelength_nm» (window (surface-at (now (src .entry)) at [])) (films (layers-at (now (src .entry)) (at + 7) n))) ⌝ }
 {
     let surface = sheet_values::surface_at(src, at);
-    match surface::interface_of(surface.coating) {
+    match limits::interface_of(surface.coating) {
         Interface::Bare => surface::bare_answers(surface),
         Interface::Coated(coating) => {
             match evaluate_at(src, at, n, surface, coating, wavelength_nm) {
                 Evaluation::Response(r) => {
                     let answers = surface::coated_answers(r);
-                    Reply {
+                    AnswersReply {
                         refusal: 0,
                         answers,
                     }

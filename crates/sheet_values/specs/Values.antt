@@ -6,7 +6,7 @@ use lib.Ieee.{Float, binary64, ofBits}
 use Rattle.sheet.specs.Sheet.{Layer, Surface}
 use Rattle.sheet.specs.Read.{layer-at}
 use Rattle.transfer_matrix.specs.declared.ThinFilmLayer.{ThinFilmLayer}
-use Rattle.surface.specs.declared.Surface as Coated
+use Rattle.limits.specs.declared.Surface as Coated
 
 -- an f64 by its pattern
 abbrev pub value : ℕ → Float

@@ -3,7 +3,7 @@ ghost use mathlib.Core.Path.{_≡_};
 ghost use mathlib.Core.List.{[]};
 ghost use Rattle.sheet.specs.Read.{layer-at, surface-at};
 ghost use Rattle.sheet_values.specs.Values.{film, window};
-use surface::Surface;
+use limits::Surface;
 use transfer_matrix::ThinFilmLayer;
 
 // The SURFACE whose kind word is at a place; zero throughout past the last word.

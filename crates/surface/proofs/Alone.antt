@@ -9,12 +9,12 @@ use Rattle.transfer_matrix.specs.declared.CoatingResponse.{CoatingResponse}
 use Rattle.polarization.specs.declared.SurfaceJones.{SurfaceJones}
 use Rattle.polarization.specs.Surface.{surface-fresnel-jones}
 use Rattle.thin_film.specs.Evaluate.{evaluate-surface}
-use Rattle.surface.specs.declared.Surface.{Surface}
-use Rattle.surface.specs.declared.Interface.{Interface}
-use Rattle.surface.specs.declared.Interface.the-variants.{Bare, Coated}
+use Rattle.limits.specs.declared.Surface.{Surface}
+use Rattle.limits.specs.declared.Interface.{Interface}
+use Rattle.limits.specs.declared.Interface.the-variants.{Bare, Coated}
 use Rattle.surface.specs.declared.Powers.{Powers}
 use Rattle.surface.specs.declared.Answers.{Answers}
-use Rattle.surface.specs.Coating.{interface}
+use Rattle.limits.specs.Coating.{interface}
 use Rattle.surface.specs.Answers.{assembled, coated-answers, coated-powers, bare-powers, no-response, bare-answers, answers-of, powers-of}
 use Rattle.surface.specs.Finite.{PowersAnswered}
 

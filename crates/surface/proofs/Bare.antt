@@ -25,11 +25,11 @@ use Rattle.fresnel.specs.Fresnel.{sin2-t, power, least-den, fresnel-dielectric}
 use Rattle.polarization.specs.declared.SurfaceJones.{SurfaceJones}
 use Rattle.polarization.specs.Surface.{no-index, invalid, cos-t, refracted, bare, surface-fresnel-jones}
 use Rattle.solver_bounds.proofs.Solve.{cosine-in, side-mag}
-use Rattle.surface.specs.declared.Surface.{Surface}
-use Rattle.surface.specs.Limits.{within}
+use Rattle.limits.specs.declared.Surface.{Surface}
+use Rattle.limits.specs.Limits.{within}
 use Rattle.surface.specs.Answers.{bare-powers}
 use Rattle.surface.specs.Finite.{UnitPowers}
-use Rattle.surface.proofs.Ranges.{Inside}
+use Rattle.limits.proofs.Ranges.{Inside}
 use Rattle.surface.proofs.Polarized.{PowerJones, diattenuator-pow, of-real-pow}
 
 -- ---- section 5: the powers

@@ -25,21 +25,26 @@ use Rattle.refusal.specs.Outcome.{Outcome, answer}
 use Rattle.transfer_matrix.specs.declared.ThinFilmLayer.{ThinFilmLayer}
 use Rattle.transfer_matrix.specs.declared.CoatingResponse.{CoatingResponse}
 use Rattle.transfer_matrix.specs.Solve as Solve
-use Rattle.thin_film.specs.declared.Coating.{Coating}
-use Rattle.thin_film.specs.declared.Coating.the-variants as C
+use Rattle.coating.specs.declared.Coating.{Coating}
+use Rattle.coating.specs.declared.Coating.the-variants as C
 use Rattle.thin_film.specs.declared.SurfaceCoating.{SurfaceCoating}
 use Rattle.thin_film.specs.declared.SurfaceCoating.the-variants as S
-use Rattle.thin_film.specs.Coating.{coating-of, layers-of, ordered, mgf2-layers, broadband-layers, mirror-layers, bragg-layers}
-use Rattle.thin_film.specs.Evaluate.{positive, valid, ideal-ar, ideal-mirror, ideal-beamsplitter, respond, evaluate-coating, evaluate-surface}
+use Rattle.thin_film.specs.Coating.{coating-of, layers-of, mgf2-layers, mirror-layers}
+use Rattle.evaluation.specs.Walk.{ordered}
+use Rattle.preset_layers.specs.Layers.{broadband-layers, bragg-layers}
+use Rattle.before_layers.specs.Valid.{positive, valid}
+use Rattle.before_layers.specs.Ideal.{ideal-ar, ideal-mirror, ideal-beamsplitter}
+use Rattle.coating.specs.Evaluate.{respond, evaluate-coating}
+use Rattle.thin_film.specs.Evaluate.{evaluate-surface}
 use Rattle.polarization.specs.Surface.{surface-coating-jones}
 use Rattle.solver_bounds.specs.Solver.{AdmittedLayers, Bounded}
 use Rattle.solver_bounds.proofs.Powers.{zero-pow, cpow-up}
 use Rattle.solver_bounds.proofs.Solve.{every-response-bounded}
-use Rattle.surface.specs.declared.Surface.{Surface}
+use Rattle.limits.specs.declared.Surface.{Surface}
 use Rattle.surface.specs.Answers.{coated-powers}
-use Rattle.surface.specs.Limits.{within, layers-pass}
+use Rattle.limits.specs.Limits.{within, layers-pass}
 use Rattle.surface.specs.Finite.{UnitPowers, FiniteResponse}
-use Rattle.surface.proofs.Ranges.{layers-in, Inside}
+use Rattle.limits.proofs.Ranges.{layers-in, Inside}
 use Rattle.surface.proofs.Polarized.{PowerJones, cpow-finite, of-real-pow, diattenuator-pow}
 
 -- ---- the layers that a coating is evaluated with: they pass, there are 16 at most, and read from the far end they are the same ones

@@ -19,15 +19,15 @@ use Rattle.transfer_matrix.specs.declared.ThinFilmLayer.{ThinFilmLayer}
 use Rattle.transfer_matrix.specs.declared.CoatingResponse.{CoatingResponse}
 use Rattle.polarization.specs.declared.SurfaceJones.{SurfaceJones}
 use Rattle.polarization.specs.Surface.{surface-coating-jones}
-use Rattle.surface.specs.declared.Surface.{Surface}
-use Rattle.surface.specs.declared.Interface.{Interface}
-use Rattle.surface.specs.declared.Interface.the-variants.{Bare, Coated}
+use Rattle.limits.specs.declared.Surface.{Surface}
+use Rattle.limits.specs.declared.Interface.{Interface}
+use Rattle.limits.specs.declared.Interface.the-variants.{Bare, Coated}
 use Rattle.surface.specs.declared.Powers.{Powers}
-use Rattle.surface.specs.Coating.{interface, preset-layers}
-use Rattle.surface.specs.Limits.{within, layers-pass, surface-passes, passes}
+use Rattle.limits.specs.Coating.{interface, preset-layers}
+use Rattle.limits.specs.Limits.{within, layers-pass, surface-passes, passes}
 use Rattle.surface.specs.Answers.{assembled, coated-powers, coated-answers, bare-powers, no-response, bare-answers, answers-of, answers}
 use Rattle.surface.specs.Finite.{UnitPowers, FiniteComplex, FiniteResponse, Answered, EverySurfaceAnswered, ProductFalls, SumFalls}
-use Rattle.surface.proofs.Ranges.{wavelength-in, Inside, surface-in}
+use Rattle.limits.proofs.Ranges.{wavelength-in, Inside, surface-in}
 use Rattle.surface.proofs.Polarized.{PowerJones, jones-finite, mueller-finite}
 use Rattle.surface.proofs.Bare.{bare-unit, bare-jones}
 use Rattle.surface.proofs.Coated.{surface-responds, bounded-powers, bounded-finite, bounded-jones}

@@ -9,14 +9,14 @@ use Rattle.polarization.specs.declared.SurfaceJones.{SurfaceJones}
 use Rattle.polarization.specs.declared.FresnelJones.{FresnelJones}
 use Rattle.polarization.specs.Surface as Jones
 use Rattle.polarization.specs.Surface.{invalid, bare, surface-fresnel-jones}
-use Rattle.surface.specs.declared.Surface.{Surface}
+use Rattle.limits.specs.declared.Surface.{Surface}
 use Rattle.surface.specs.declared.Answers.{Answers}
-use Rattle.surface.specs.declared.Reply.{Reply}
+use Rattle.surface.specs.declared.AnswersReply.{AnswersReply}
 use Rattle.surface.specs.Answers.{assembled, bare-powers, no-response, bare-answers, returned, outcome}
 
 -- by the test of surface_fresnel_jones
 module _ (f : SurfaceJones → Answers) (m : SurfaceJones) where
-  stood : (b : Bool) (j : FresnelJones) → j ≡ Jones.returned (cond b invalid-parameter (answer m)) → j .refusal ≡ 0 → _≡_ {A = Reply} (record { refusal = 0; answers = f (j .matrices) }) (returned (map f (cond b invalid-parameter (answer m))))
+  stood : (b : Bool) (j : FresnelJones) → j ≡ Jones.returned (cond b invalid-parameter (answer m)) → j .refusal ≡ 0 → _≡_ {A = AnswersReply} (record { refusal = 0; answers = f (j .matrices) }) (returned (map f (cond b invalid-parameter (answer m))))
   unfolding Jones.returned returned
   stood true j e z = let n : _≡_ {A = ℕ} 0 1 = cc in absurd (clash n)
     where
@@ -44,7 +44,7 @@ module _ (s : Surface) where
   b : Bool
   b = invalid (s .«n_incident») (s .«n_substrate») (s .«angle_rad»)
 
-  pub answered : (j : FresnelJones) → j ≡ Jones.returned (surface-fresnel-jones (s .«n_incident») (s .«n_substrate») (s .«angle_rad»)) → j .refusal ≡ 0 → _≡_ {A = Reply} (record { refusal = 0; answers = assembled false (bare-powers s) no-response (j .matrices) }) (returned (bare-answers s))
+  pub answered : (j : FresnelJones) → j ≡ Jones.returned (surface-fresnel-jones (s .«n_incident») (s .«n_substrate») (s .«angle_rad»)) → j .refusal ≡ 0 → _≡_ {A = AnswersReply} (record { refusal = 0; answers = assembled false (bare-powers s) no-response (j .matrices) }) (returned (bare-answers s))
   unfolding surface-fresnel-jones bare-answers f m b
   answered = stood f m b
 

@@ -16,13 +16,13 @@ use Rattle.polarization.specs.declared.SurfaceJones.{SurfaceJones}
 use Rattle.mueller.specs.Jones.{diattenuator}
 use Rattle.mueller.specs.Mueller.{to-mueller}
 use Rattle.polarization.specs.Surface.{surface-coating-jones, surface-fresnel-jones}
-use Rattle.surface.specs.declared.Surface.{Surface}
-use Rattle.surface.specs.declared.Interface.{Interface}
-use Rattle.surface.specs.declared.Interface.the-variants.{Bare, Coated}
+use Rattle.limits.specs.declared.Surface.{Surface}
+use Rattle.limits.specs.declared.Interface.{Interface}
+use Rattle.limits.specs.declared.Interface.the-variants.{Bare, Coated}
 use Rattle.surface.specs.declared.Powers.{Powers}
 use Rattle.surface.specs.declared.Answers.{Answers}
-use Rattle.surface.specs.declared.Reply.{Reply}
-use Rattle.surface.specs.Coating.{interface}
+use Rattle.surface.specs.declared.AnswersReply.{AnswersReply}
+use Rattle.limits.specs.Coating.{interface}
 
 -- ---- with the Jones matrices of section 6 and their Mueller matrices
 unfoldable pub assembled : Bool → Powers → CoatingResponse → SurfaceJones → Answers
@@ -78,12 +78,12 @@ no-answers =
     let dark = diattenuator zero zero in
     assembled false (record { «reflectance_s» = zero-f; «reflectance_p» = zero-f; «transmittance_s» = zero-f; «transmittance_p» = zero-f }) no-response (record { reflection = dark; transmission = dark })
 
-unfoldable pub returned : Outcome Answers → Reply
+unfoldable pub returned : Outcome Answers → AnswersReply
 returned (answer a) = record { refusal = 0; answers = a }
 returned (refusal number place) = record { refusal = number; answers = no-answers }
 
 -- document 01's number and values for it
-abbrev pub outcome : Reply → Outcome Answers
+abbrev pub outcome : AnswersReply → Outcome Answers
 outcome r = cond (eqb (r .refusal) 0) (answer (r .answers)) (refusal (r .refusal) 0)
 
 -- ---- a surface's answers, for its words, its layers and a wavelength

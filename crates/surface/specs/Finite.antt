@@ -17,10 +17,10 @@ use Rattle.mueller.specs.declared.JonesMatrix.{JonesMatrix}
 use Rattle.mueller.specs.declared.MuellerMatrix.{MuellerMatrix}
 use Rattle.mueller.specs.Jones as Jones
 use Rattle.mueller.specs.Mueller as Mueller
-use Rattle.surface.specs.declared.Surface.{Surface}
+use Rattle.limits.specs.declared.Surface.{Surface}
 use Rattle.surface.specs.declared.Powers.{Powers}
 use Rattle.surface.specs.declared.Answers.{Answers}
-use Rattle.surface.specs.Limits.{wavelength-passes, power-passes, passes}
+use Rattle.limits.specs.Limits.{wavelength-passes, power-passes, passes}
 use Rattle.surface.specs.Answers.{answers, powers}
 
 -- ---- every number is finite

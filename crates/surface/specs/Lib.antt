@@ -1,5 +1,3 @@
--- A surface: its coating, its limits, its answers, and what is claimed of them.
-pub mod Coating
-pub mod Limits
+-- A surface: its answers, and what is claimed of them.
 pub mod Answers
 pub mod Finite

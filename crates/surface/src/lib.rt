@@ -1,151 +1,13 @@
-// One surface of a train: its coating by code, the limits of document 01's section 3, and its
-// answers.
+// The answers of one surface of a train: document 01's section 7.
 ghost use mathlib.Core.Path.{_≡_};
 ghost use Rattle.refusal.specs.Outcome.{refusal};
-ghost use Rattle.surface.specs.Coating.{interface, preset-layers};
-ghost use Rattle.surface.specs.Limits.{within, beam-passes, bend, layer-within, layers-within, layer-passes, angle-within, surface-within, judgement};
 ghost use Rattle.surface.specs.Answers.{assembled, coated-powers, coated-answers, bare-powers, no-response, bare-answers, no-answers, returned};
 use complex::Complex;
+use limits::Surface;
 use mueller::JonesMatrix;
 use mueller::MuellerMatrix;
 use polarization::SurfaceJones;
-use thin_film::Coating;
-use thin_film::SurfaceCoating;
 use transfer_matrix::CoatingResponse;
-use transfer_matrix::ThinFilmLayer;
-
-// ---- surfaces
-
-// A SURFACE's words: whether the reflected light is followed, the coating's code (payload / 2), both
-// indices and the angle of incidence.
-pub struct Surface {
-    pub reflected: bool,
-    pub coating: u32,
-    pub n_incident: f64,
-    pub n_substrate: f64,
-    pub angle_rad: f64,
-}
-
-// What lies between the two media.
-pub enum Interface {
-    Bare,
-    Coated(SurfaceCoating),
-}
-
-// From a code to a coating. Code 5 is made of the LAYERs that follow the SURFACE.
-pub fn interface_of(code: u32) -> Interface
-    ensures { λ r. ⌜ r ≡ interface code ⌝ }
-{
-    if code == 0 {
-        Interface::Bare
-    } else if code == 1 {
-        Interface::Coated(SurfaceCoating::IdealAr)
-    } else if code == 2 {
-        Interface::Coated(SurfaceCoating::mgf2_default())
-    } else if code == 3 {
-        Interface::Coated(SurfaceCoating::BroadbandAr)
-    } else if code == 4 {
-        Interface::Coated(SurfaceCoating::HighReflectanceMirror)
-    } else if code == 5 {
-        Interface::Coated(SurfaceCoating::Custom(Coating::Multilayer))
-    } else if code == 6 {
-        Interface::Coated(SurfaceCoating::Custom(Coating::IdealBeamsplitter))
-    } else {
-        Interface::Coated(SurfaceCoating::Custom(Coating::IdealMirror))
-    }
-}
-
-// ---- limits, all ends included
-
-fn within(lo: f64, hi: f64, x: f64) -> bool
-    ensures { λ r. ⌜ r ≡ within lo hi x ⌝ }
-{
-    lo <= x && x <= hi
-}
-
-// A BEAM: its wavelength, its s and its p power.
-pub fn beam_passes(wavelength_nm: f64, s: f64, p: f64) -> bool
-    ensures { λ r. ⌜ r ≡ beam-passes «wavelength_nm» s p ⌝ }
-{
-    within(100.0, 10000.0, wavelength_nm) && (within(0.0, 1.0, s) && within(0.0, 1.0, p))
-}
-
-// How far the incident light leans to the side.
-pub fn bend(n_incident: f64, angle_rad: f64) -> f64
-    ensures { λ r. ⌜ r ≡ bend «n_incident» «angle_rad» ⌝ }
-{
-    n_incident * ieee::abs(trig::sin(angle_rad))
-}
-
-// A layer, for light that leans so far.
-pub fn layer_within(bend: f64, layer: ThinFilmLayer) -> bool
-    ensures { λ r. ⌜ r ≡ layer-within bend layer ⌝ }
-{
-    within(1.0, 4.0, layer.n)
-        && (layer.k == 0.0
-            && (within(0.0, 100000.0, layer.thickness_nm) && bend <= 0.875 * layer.n))
-}
-
-// A layer of a surface.
-pub fn layer_passes(n_incident: f64, angle_rad: f64, layer: ThinFilmLayer) -> bool
-    ensures { λ r. ⌜ r ≡ layer-passes «n_incident» «angle_rad» layer ⌝ }
-{
-    layer_within(bend(n_incident, angle_rad), layer)
-}
-
-// The layers of a preset coating. All that can fail is how far the light leans, and it fails first at
-// the smallest index, MgF2's or SiO2's.
-fn presets_within(bend: f64, coating: u32) -> bool
-    ensures { λ r. ⌜ r ≡ layers-within bend (preset-layers (interface coating)) ⌝ }
-{
-    if coating == 2 {
-        return bend <= 0.875 * 1.38;
-    }
-    if coating == 3 {
-        return bend <= 0.875 * 1.46;
-    }
-    if coating == 4 {
-        return bend <= 0.875 * 1.46;
-    }
-    true
-}
-
-// The angle of a SURFACE, where it is finite: from how far the light leans, and its cosine.
-fn angle_within(bend: f64, cos: f64, surface: Surface) -> bool
-    ensures { λ r. ⌜ r ≡ angle-within bend cos surface ⌝ }
-{
-    0.25 <= cos && (bend <= 0.875 * surface.n_substrate && presets_within(bend, surface.coating))
-}
-
-// A SURFACE without its LAYERs, from how far the light leans and the cosine of its angle; the layers of a
-// preset coating count as its own.
-fn surface_within(bend: f64, cos: f64, surface: Surface) -> bool
-    ensures { λ r. ⌜ r ≡ surface-within bend cos surface ⌝ }
-{
-    within(1.0, 4.0, surface.n_incident)
-        && (within(1.0, 4.0, surface.n_substrate)
-            && (ieee::is_finite(surface.angle_rad) && angle_within(bend, cos, surface)))
-}
-
-// Whether a SURFACE is within the limits, and how far its light leans, which those of its LAYERs ask for.
-pub struct Judgement {
-    pub passes: bool,
-    pub bend: f64,
-}
-
-// One sine and one cosine for all of a surface's limits.
-pub fn judge_surface(surface: Surface) -> Judgement
-    ensures { λ r. ⌜ r ≡ judgement surface ⌝ }
-{
-    let theta = trig::sin_cos(surface.angle_rad);
-    let bend = surface.n_incident * ieee::abs(theta.sin);
-    Judgement {
-        passes: surface_within(bend, theta.cos, surface),
-        bend,
-    }
-}
-
-// ---- answers
 
 // The parts of the s and p power that a surface reflects and transmits.
 pub struct Powers {
@@ -167,7 +29,7 @@ pub struct Answers {
 }
 
 // The answers of a surface, or a refusal's number, which is 0 where there is none.
-pub struct Reply {
+pub struct AnswersReply {
     pub refusal: u32,
     pub answers: Answers,
 }
@@ -273,18 +135,18 @@ fn no_answers() -> Answers
 }
 
 // A refusal's number, with no answers.
-pub fn refused(number: u32) -> Reply
+pub fn refused(number: u32) -> AnswersReply
     ensures { λ r. ⌜ r ≡ returned (refusal number 0) ⌝ }
 {
     let answers = no_answers();
-    Reply {
+    AnswersReply {
         refusal: number,
         answers,
     }
 }
 
 // The answers of a bare surface, whatever its code.
-pub fn bare_answers(surface: Surface) -> Reply
+pub fn bare_answers(surface: Surface) -> AnswersReply
     ensures { λ r. ⌜ r ≡ returned (bare-answers surface) ⌝ }
 {
     let jones = polarization::surface_fresnel_jones(
@@ -295,7 +157,7 @@ pub fn bare_answers(surface: Surface) -> Reply
     if jones.refusal == 0 {
         let matrices = jones.matrices;
         let answers = assembled(false, bare_powers(surface), no_response(), matrices);
-        Reply {
+        AnswersReply {
             refusal: 0,
             answers,
         }

@@ -9,11 +9,13 @@ use lib.Ieee.Scale.{finite}
 use Rattle.ieee.specs.Functions.{zero-f, one}
 use Rattle.refusal.specs.Outcome.{answer}
 use Rattle.transfer_matrix.proofs.Known as Solved
-use Rattle.thin_film.specs.declared.Coating.the-variants as C
+use Rattle.coating.specs.declared.Coating.the-variants as C
 use Rattle.thin_film.specs.declared.SurfaceCoating.the-variants as S
-use Rattle.thin_film.specs.Coating.{ordered, layers-of}
-use Rattle.thin_film.specs.Evaluate.{positive, valid, evaluate-surface}
-use Rattle.thin_film.proofs.Answers.{solved}
+use Rattle.evaluation.specs.Walk.{ordered}
+use Rattle.thin_film.specs.Coating.{layers-of}
+use Rattle.before_layers.specs.Valid.{positive, valid}
+use Rattle.thin_film.specs.Evaluate.{evaluate-surface}
+use Rattle.coating.proofs.Answers.{solved}
 
 one-passes : positive one ≡ true
 unfolding positive Ieee.le ofBits

@@ -1,68 +1,33 @@
--- `Coating` and `SurfaceCoating` of thin_film.rs, each beside a list of layers. Definitions only.
-use Prim.Native.Nat.{ℕ, zero, suc, _-_}
-use mathlib.Core.Bool.{Bool, true, false, cond}
-use mathlib.Core.List.{List, [], _∷_, _++_, reverse}
+-- `SurfaceCoating` of thin_film.rs, beside a list of layers. Definitions only.
+use Prim.Native.Nat.{ℕ, _-_}
+use mathlib.Core.Bool.{cond}
+use mathlib.Core.List.{List, [], _∷_, _++_}
 use lib.Dec.{leb}
 use lib.ListN.{length, replicate}
 use lib.Ieee.{Float, binary64, ofBits}
-use Rattle.ieee.specs.Operators.{_⊗_, _⊘_}
-use Rattle.ieee.specs.Functions.{zero-f}
-use Rattle.square_root.specs.Root.{squareRoot}
 use Rattle.transfer_matrix.specs.declared.ThinFilmLayer.{ThinFilmLayer}
 use Rattle.transfer_matrix.specs.Solve.{dielectric}
-use Rattle.thin_film.specs.declared.Coating.{Coating}
-use Rattle.thin_film.specs.declared.Coating.the-variants as C
+use Rattle.preset_layers.specs.Layers.{n-sio2, n-tio2, quarter-wave, bragg-layers, broadband-layers}
+use Rattle.coating.specs.declared.Coating.{Coating}
+use Rattle.coating.specs.declared.Coating.the-variants as C
+use Rattle.coating.specs.declared.Layers.{Layers}
+use Rattle.coating.specs.declared.Built.{Built}
+use Rattle.coating.specs.Coating.{built, too-many}
 use Rattle.thin_film.specs.declared.SurfaceCoating.{SurfaceCoating}
 use Rattle.thin_film.specs.declared.SurfaceCoating.the-variants as S
-use Rattle.thin_film.specs.declared.Layers.{Layers}
-use Rattle.thin_film.specs.declared.Built.{Built}
 use Rattle.thin_film.specs.declared.Text.{Text}
 
--- ---- constants: 4, 550, 1.38, 1.46, 2.30, 88, 112, 32, 15
-abbrev pub four : Float
-four = ofBits binary64 0x4010_0000_0000_0000
-
+-- ---- constants: 550, 1.38
 abbrev pub standard-wavelength : Float
 standard-wavelength = ofBits binary64 0x4081_3000_0000_0000
 
 abbrev pub n-mgf2 : Float
 n-mgf2 = ofBits binary64 0x3FF6_147A_E147_AE14
 
-abbrev pub n-sio2 : Float
-n-sio2 = ofBits binary64 0x3FF7_5C28_F5C2_8F5C
-
-abbrev pub n-tio2 : Float
-n-tio2 = ofBits binary64 0x4002_6666_6666_6666
-
 -- ---- layers
--- design_wavelength_nm / (4.0 * n)
-abbrev pub quarter-wave : Float → Float → Float
-quarter-wave design n = design ⊘ (four ⊗ n)
-
--- quarter_wave_ar: n_opt = (n_ambient * n_substrate).sqrt()
-unfoldable pub quarter-wave-layers : Float → Float → Float → List ThinFilmLayer
-quarter-wave-layers n-ambient n-substrate design =
-    let n-opt = squareRoot binary64 (n-ambient ⊗ n-substrate) in
-    dielectric n-opt (quarter-wave design n-opt) ∷ []
-
--- bragg_mirror: (H L)^pairs H
-unfoldable pub bragg-layers : Float → Float → ℕ → Float → List ThinFilmLayer
-bragg-layers n-high n-low zero design = dielectric n-high (quarter-wave design n-high) ∷ []
-bragg-layers n-high n-low (suc pairs) design =
-    dielectric n-high (quarter-wave design n-high) ∷ dielectric n-low (quarter-wave design n-low) ∷ bragg-layers n-high n-low pairs design
-
 -- to_coating, MgF2
 unfoldable pub mgf2-layers : Float → List ThinFilmLayer
 mgf2-layers design = dielectric n-mgf2 (quarter-wave design n-mgf2) ∷ []
-
--- to_coating, BroadbandAr: SiO2 88, TiO2 112, SiO2 32, TiO2 15
-unfoldable pub broadband-layers : List ThinFilmLayer
-broadband-layers =
-    dielectric n-sio2 (ofBits binary64 0x4056_0000_0000_0000)
-    ∷ dielectric n-tio2 (ofBits binary64 0x405C_0000_0000_0000)
-    ∷ dielectric n-sio2 (ofBits binary64 0x4040_0000_0000_0000)
-    ∷ dielectric n-tio2 (ofBits binary64 0x402E_0000_0000_0000)
-    ∷ []
 
 -- to_coating, HighReflectanceMirror
 unfoldable pub mirror-layers : List ThinFilmLayer
@@ -85,36 +50,6 @@ layers-of (S.Custom C.Multilayer) custom = custom
 layers-of (S.Custom C.IdealAr) custom = []
 layers-of (S.Custom C.IdealMirror) custom = []
 layers-of (S.Custom C.IdealBeamsplitter) custom = []
-
--- layers.reverse(), where they are read from the far end
-unfoldable pub ordered : Bool → List ThinFilmLayer → List ThinFilmLayer
-ordered false layers = layers
-ordered true layers = reverse layers
-
--- ---- a coating with its layers by value
--- a place that holds no layer
-abbrev pub blank : ThinFilmLayer
-blank = record { n = zero-f; k = zero-f; «thickness_nm» = zero-f }
-
--- the layers in the first of 64 places
-abbrev pub layers-in : List ThinFilmLayer → Layers
-layers-in layers = record { items = layers ++ replicate (64 - length layers) blank; count = length layers }
-
--- a coating and its layers
-abbrev pub built : Coating → List ThinFilmLayer → Built
-built coating layers = record { refusal = 0; coating = coating; layers = layers-in layers }
-
--- 3: more layers than there are places for
-abbrev pub too-many : Built
-too-many = record { refusal = 3; coating = C.IdealAr; layers = layers-in [] }
-
--- quarter_wave_ar
-abbrev pub quarter-wave-ar : Float → Float → Float → Built
-quarter-wave-ar n-ambient n-substrate design = built C.Multilayer (quarter-wave-layers n-ambient n-substrate design)
-
--- bragg_mirror; 3 over 31 pairs
-abbrev pub bragg-mirror : Float → Float → ℕ → Float → Built
-bragg-mirror n-high n-low pairs design = cond (leb pairs 31) (built C.Multilayer (bragg-layers n-high n-low pairs design)) too-many
 
 -- mgf2_default
 abbrev pub mgf2-default : SurfaceCoating

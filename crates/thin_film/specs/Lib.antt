@@ -1,4 +1,3 @@
--- Coatings of thin_film.rs.
+-- Coatings of thin_film.rs as they are ordered.
 pub mod Coating
 pub mod Evaluate
-pub mod Walk

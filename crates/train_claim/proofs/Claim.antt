@@ -12,7 +12,7 @@ use lib.Ieee.Fits.{and-l, and-r}
 use borrow.Author.Tests.{lt-ltb, le-ltb, le-leb, lt-leb, ltb-true, ltb-false}
 use Rattle.refusal.specs.Outcome.{Outcome, answer, refusal, map}
 use Rattle.surface.specs.declared.Powers.{Powers}
-use Rattle.surface.specs.Limits.{wavelength-passes, power-passes, beam-passes}
+use Rattle.limits.specs.Limits.{wavelength-passes, power-passes, beam-passes}
 use Rattle.surface.specs.Answers.{powers}
 use Rattle.surface.specs.Finite.{UnitPowers}
 use Rattle.surface.proofs.Alone.{powers-answered}

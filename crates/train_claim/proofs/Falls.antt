@@ -15,7 +15,7 @@ use Rattle.ieee.specs.Range.{Mag}
 use Rattle.ieee.proofs.Range.Constants.{zero-mag, zero-foot}
 use Rattle.ieee.proofs.Range.Sums.{add-mag}
 use Rattle.ieee.proofs.Range.Falls.{FromZeroToOne, zero-to-one, in-zero-to-one, to-tests, product-unit, least0-le, sum-le}
-use Rattle.surface.specs.Limits.{within, power-passes}
+use Rattle.limits.specs.Limits.{within, power-passes}
 use Rattle.surface.proofs.Finite.{product-falls, sum-falls}
 use Rattle.optical_train.specs.declared.Chosen.{Chosen}
 use Rattle.optical_train.specs.declared.State.{State}

@@ -9,8 +9,8 @@ use lib.Ieee.Scale.{finite}
 use Rattle.ieee.specs.Functions.{abs, clamp}
 use Rattle.ieee.proofs.Signs.{of-true}
 use Rattle.trig.specs.Trig.{wrap, fold, tuck, series, sin-at, sin, cos-at, cos-of, cos}
-use Rattle.surface.specs.Coating.{interface}
-use Rattle.surface.specs.Limits.{within, beam-passes, layers-within, angle-passes, surface-passes, passes}
+use Rattle.limits.specs.Coating.{interface}
+use Rattle.limits.specs.Limits.{within, beam-passes, layers-within, angle-passes, surface-passes, passes}
 use Rattle.sheet.specs.Sheet.{Surface, Sheet, GoodSurface, WellFormed}
 use Rattle.sheet_values.specs.Values.{films}
 use Rattle.gate.specs.Claim.{Within}

@@ -7,9 +7,10 @@ use lib.ListN.{length}
 use borrow.Author.Tests.{lt-ltb, le-ltb}
 use borrow.Author.Needs.{needs}
 use Rattle.refusal.specs.Outcome.{answer, refusal}
-use Rattle.coating_name.specs.Trim.{trimmed}
-use Rattle.coating_name.specs.Name.{upper, coating-of, first-over, from-format-name}
-use Rattle.coating_name.proofs.Part.{trimmed-le}
+use Rattle.byte_text.specs.Trim.{trimmed}
+use Rattle.coating_name.specs.Name.{upper, coating-of, from-format-name}
+use Rattle.byte_text.specs.Ascii.{first-over}
+use Rattle.byte_text.proofs.Part.{trimmed-le}
 use Rattle.coating_name.proofs.from_format_name.Statement.{statement}
 use Rattle.coating_name.proofs.from_format_name.Tie as tie
 

@@ -6,7 +6,7 @@ use lib.Ieee.{Float}
 use borrow.Author.Needs.{needs}
 use Rattle.refusal.specs.declared.Refusal.{Refusal}
 use Rattle.refusal.specs.Outcome.{refused as refused-with}
-use Rattle.thin_film.specs.Evaluate.{outcome}
+use Rattle.evaluation.specs.Walk.{outcome}
 use Rattle.flat_layers.specs.Evaluate.{evaluate}
 use Rattle.flat_layers.proofs.Plain.{of-code}
 use Rattle.call.specs.Call.{done, packed, answered}

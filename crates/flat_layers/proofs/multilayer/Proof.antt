@@ -13,12 +13,13 @@ use Rattle.transfer_matrix.specs.declared.Stack.{Stack}
 use Rattle.transfer_matrix.specs.declared.ThinFilmLayer.{ThinFilmLayer}
 use Rattle.transfer_matrix.specs.Stack.{begin, steps, finish}
 use Rattle.transfer_matrix.proofs.Steps.{evaluates}
-use Rattle.thin_film.specs.declared.Coating.the-variants as C
+use Rattle.coating.specs.declared.Coating.the-variants as C
 use Rattle.thin_film.specs.declared.SurfaceCoating.the-variants as S
-use Rattle.thin_film.specs.Coating.{ordered}
-use Rattle.thin_film.specs.Evaluate.{valid, evaluate-surface}
-use Rattle.thin_film.proofs.Order.{as-long}
-use Rattle.thin_film.proofs.Answers.{invalid, solved, too-many}
+use Rattle.evaluation.specs.Walk.{ordered}
+use Rattle.before_layers.specs.Valid.{valid}
+use Rattle.thin_film.specs.Evaluate.{evaluate-surface}
+use Rattle.evaluation.proofs.Order.{as-long}
+use Rattle.coating.proofs.Answers.{invalid, solved, too-many}
 use Rattle.flat_layers.specs.Evaluate.{layers}
 use Rattle.flat_layers.proofs.Triples.{count}
 use Rattle.flat_layers.proofs.Listed.{explicit}

@@ -6,7 +6,7 @@ use mathlib.Core.List.{List, []}
 use lib.Ieee.{Float, nan}
 use Rattle.ieee.proofs.Patterns.{nan-is}
 use Rattle.refusal.specs.declared.Refusal.{Refusal}
-use Rattle.surface.specs.declared.Surface.{Surface}
+use Rattle.limits.specs.declared.Surface.{Surface}
 use Rattle.surface.specs.declared.Powers.{Powers}
 use Rattle.surface.specs.Answers.{powers}
 use Rattle.sheet.specs.Read.{surface-at}

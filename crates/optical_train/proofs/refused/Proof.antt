@@ -4,15 +4,15 @@ use Prim.Native.Nat.{_-_}
 use borrow.Author.Needs.{needs}
 use Rattle.refusal.specs.declared.Refusal.{Refusal}
 use Rattle.refusal.specs.Outcome.{refusal, refused}
-use Rattle.surface.specs.declared.Reply.{Reply}
+use Rattle.surface.specs.declared.AnswersReply.{AnswersReply}
 use Rattle.surface.specs.Answers.{returned}
 use Rattle.optical_train.specs.Train.{given}
 use Rattle.optical_train.proofs.refused.Statement.{statement}
 use Rattle.optical_train.proofs.refused.Tie as tie
 
-made : (r : Refusal) (reply : Reply) → reply ≡ returned (refusal (r .number) 0) → record { refusal = r; answers = reply .answers } ≡ given (refused r)
+made : (r : Refusal) (reply : AnswersReply) → reply ≡ returned (refusal (r .number) 0) → record { refusal = r; answers = reply .answers } ≡ given (refused r)
 unfolding returned given
-made r reply e = ap (λ (q : Reply). record { refusal = r; answers = q .answers }) e
+made r reply e = ap (λ (q : AnswersReply). record { refusal = r; answers = q .answers }) e
 
 refused-requires : tie.Need-refused-requires
 refused-requires c κs = search needs

@@ -10,7 +10,7 @@ use lib.Ieee.{Float}
 use Rattle.refusal.specs.declared.Refusal.{Refusal}
 use Rattle.refusal.specs.Outcome.{answer, refusal, refused}
 use Rattle.surface.specs.declared.Answers.{Answers}
-use Rattle.surface.specs.declared.Reply.{Reply}
+use Rattle.surface.specs.declared.AnswersReply.{AnswersReply}
 use Rattle.surface.specs.Answers.{answers, returned}
 use Rattle.sheet.specs.Sheet.{Surface, Sheet}
 use Rattle.sheet.specs.Words.{float}
@@ -56,12 +56,12 @@ module _ (src : List ℕ) (i n : ℕ) (e : answer n ≡ gate src) where
       sixteen at m em = omega (arith, few m src at em, layers-length src (at + 7) m)
 
   whole : i < n → (at m : ℕ) → ((x : Sheet) → decode src ≡ read x → i < length (x .surfaces) → surface-at src at (layers-at src (at + 7) (run 16 src at)) ≡ nth (x .surfaces) i)
-      → m ≡ run 16 src at → (w : Float) → w ≡ value (float src 2) → (reply : Reply) → reply ≡ returned (answers w (window (surface-at src at [])) (films (layers-at src (at + 7) m)))
+      → m ≡ run 16 src at → (w : Float) → w ≡ value (float src 2) → (reply : AnswersReply) → reply ≡ returned (answers w (window (surface-at src at [])) (films (layers-at src (at + 7) m)))
       → record { refusal = record { number = reply .refusal; place = 0 }; answers = reply .answers } ≡ given (surface-answers src i)
   unfolding returned given
   whole h at m f em w ew reply er =
       let t = there h at m f em w ew in
-      rw (t .1 .1) (ap (λ (q : Reply). record { refusal = record { number = q .refusal; place = 0 }; answers = q .answers }) (er ∙ ap returned (t .1 .0)))
+      rw (t .1 .1) (ap (λ (q : AnswersReply). record { refusal = record { number = q .refusal; place = 0 }; answers = q .answers }) (er ∙ ap returned (t .1 .0)))
 
 not-there : (src : List ℕ) (i : ℕ) (r : Refusal) → refused r ≡ gate src → given (refused r) ≡ given (surface-answers src i)
 unfolding surface-answers

@@ -8,15 +8,16 @@ use Rattle.refusal.specs.Outcome.{Outcome, refusal, map}
 use Rattle.transfer_matrix.specs.declared.ThinFilmLayer.{ThinFilmLayer}
 use Rattle.transfer_matrix.specs.declared.CoatingResponse.{CoatingResponse}
 use Rattle.thin_film.specs.declared.SurfaceCoating.{SurfaceCoating}
-use Rattle.thin_film.specs.declared.Evaluation.{Evaluation}
-use Rattle.thin_film.specs.declared.Evaluation.the-variants as E
-use Rattle.thin_film.specs.Evaluate.{outcome, evaluate-surface}
-use Rattle.surface.specs.declared.Surface.{Surface}
-use Rattle.surface.specs.declared.Interface.{Interface}
-use Rattle.surface.specs.declared.Interface.the-variants.{Bare, Coated}
+use Rattle.evaluation.specs.declared.Evaluation.{Evaluation}
+use Rattle.evaluation.specs.declared.Evaluation.the-variants as E
+use Rattle.evaluation.specs.Walk.{outcome}
+use Rattle.thin_film.specs.Evaluate.{evaluate-surface}
+use Rattle.limits.specs.declared.Surface.{Surface}
+use Rattle.limits.specs.declared.Interface.{Interface}
+use Rattle.limits.specs.declared.Interface.the-variants.{Bare, Coated}
 use Rattle.surface.specs.declared.Answers.{Answers}
-use Rattle.surface.specs.declared.Reply.{Reply}
-use Rattle.surface.specs.Coating.{interface}
+use Rattle.surface.specs.declared.AnswersReply.{AnswersReply}
+use Rattle.limits.specs.Coating.{interface}
 use Rattle.surface.specs.Answers.{bare-answers, coated-answers, answers-of, answers, returned}
 use Rattle.sheet_answers.proofs.answers_at.Statement.{statement}
 use Rattle.sheet_answers.proofs.answers_at.Tie as tie
@@ -36,11 +37,11 @@ module _ (wavelength : Float) (layers : List ThinFilmLayer) (s x : Surface) (s-i
   coated coating e a k a-is h = ap (λ (o : Outcome CoatingResponse). returned (map coated-answers o)) (ap outcome (sym h) ∙ a-is) ∙ told (Coated coating) e
 
 -- the reply by what was evaluated
-response : (r : CoatingResponse) (v : Answers) → v ≡ coated-answers r → _≡_ {A = Reply} (record { refusal = 0; answers = v }) (returned (map coated-answers (outcome (E.Response r))))
+response : (r : CoatingResponse) (v : Answers) → v ≡ coated-answers r → _≡_ {A = AnswersReply} (record { refusal = 0; answers = v }) (returned (map coated-answers (outcome (E.Response r))))
 unfolding returned
 response r v e = ap (λ (z : Answers). record { refusal = 0; answers = z }) e
 
-refused : (r : Refusal) (v : Reply) → v ≡ returned (refusal (r .number) 0) → v ≡ returned (map coated-answers (outcome (E.Refused r)))
+refused : (r : Refusal) (v : AnswersReply) → v ≡ returned (refusal (r .number) 0) → v ≡ returned (map coated-answers (outcome (E.Refused r)))
 unfolding returned
 refused r v e = e
 

@@ -6,13 +6,13 @@ use types.Run.{OneOf, miss}
 use denote.Enum.Declared.{tagOf}
 use borrow.Author.Needs.{needs}
 use Rattle.transfer_matrix.specs.declared.ThinFilmLayer.{ThinFilmLayer}
-use Rattle.thin_film.specs.declared.Coating.{Coating}
-use Rattle.thin_film.specs.declared.Coating.the-variants as C
+use Rattle.coating.specs.declared.Coating.{Coating}
+use Rattle.coating.specs.declared.Coating.the-variants as C
 use Rattle.thin_film.specs.declared.SurfaceCoating.{SurfaceCoating}
 use Rattle.thin_film.specs.declared.SurfaceCoating.the-variants as S
 use Rattle.thin_film.specs.Coating.{layers-of}
 use Rattle.thin_film.specs.Evaluate.{evaluate-surface}
-use Rattle.thin_film.proofs.Coating as CoatingRow
+use Rattle.coating.proofs.Coating as CoatingRow
 use Rattle.thin_film.proofs.SurfaceCoating as SurfaceCoatingRow
 use Rattle.sheet_answers.proofs.evaluate_at.Statement.{statement}
 use Rattle.sheet_answers.proofs.evaluate_at.Tie as tie

@@ -13,12 +13,14 @@ use Rattle.transfer_matrix.specs.declared.CoatingResponse.{CoatingResponse}
 use Rattle.transfer_matrix.specs.declared.Stack.{Stack}
 use Rattle.transfer_matrix.specs.Stack.{begin, steps, finish}
 use Rattle.transfer_matrix.proofs.Steps.{evaluates}
-use Rattle.thin_film.specs.declared.Coating.the-variants as C
+use Rattle.coating.specs.declared.Coating.the-variants as C
 use Rattle.thin_film.specs.declared.SurfaceCoating.the-variants as S
-use Rattle.thin_film.specs.Coating.{layers-of, ordered}
-use Rattle.thin_film.specs.Evaluate.{valid, evaluate-surface}
-use Rattle.thin_film.proofs.Order.{as-long}
-use Rattle.thin_film.proofs.Answers as Answers
+use Rattle.thin_film.specs.Coating.{layers-of}
+use Rattle.evaluation.specs.Walk.{ordered}
+use Rattle.before_layers.specs.Valid.{valid}
+use Rattle.thin_film.specs.Evaluate.{evaluate-surface}
+use Rattle.evaluation.proofs.Order.{as-long}
+use Rattle.coating.proofs.Answers as Answers
 use Rattle.sheet_answers.proofs.Behind.{many}
 use Rattle.sheet_answers.proofs.evaluate_custom.Statement.{statement}
 use Rattle.sheet_answers.proofs.evaluate_custom.Tie as tie

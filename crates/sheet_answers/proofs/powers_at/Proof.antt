@@ -6,12 +6,13 @@ use borrow.Author.Needs.{needs}
 use Rattle.refusal.specs.Outcome.{answer, map}
 use Rattle.transfer_matrix.specs.declared.ThinFilmLayer.{ThinFilmLayer}
 use Rattle.thin_film.specs.declared.SurfaceCoating.{SurfaceCoating}
-use Rattle.thin_film.specs.declared.Evaluation.{Evaluation}
-use Rattle.thin_film.specs.Evaluate.{outcome, evaluate-surface}
-use Rattle.surface.specs.declared.Surface.{Surface}
-use Rattle.surface.specs.declared.Interface.{Interface}
-use Rattle.surface.specs.declared.Interface.the-variants.{Bare, Coated}
-use Rattle.surface.specs.Coating.{interface}
+use Rattle.evaluation.specs.declared.Evaluation.{Evaluation}
+use Rattle.evaluation.specs.Walk.{outcome}
+use Rattle.thin_film.specs.Evaluate.{evaluate-surface}
+use Rattle.limits.specs.declared.Surface.{Surface}
+use Rattle.limits.specs.declared.Interface.{Interface}
+use Rattle.limits.specs.declared.Interface.the-variants.{Bare, Coated}
+use Rattle.limits.specs.Coating.{interface}
 use Rattle.surface.specs.Answers.{bare-powers, coated-powers, powers-of, powers}
 use Rattle.sheet_answers.proofs.powers_at.Statement.{statement}
 use Rattle.sheet_answers.proofs.powers_at.Tie as tie

@@ -9,9 +9,8 @@ use borrow.Author.Needs.{needs}
 use Rattle.transfer_matrix.specs.declared.ThinFilmLayer.{ThinFilmLayer}
 use Rattle.transfer_matrix.specs.declared.Stack.{Stack}
 use Rattle.transfer_matrix.specs.Stack.{step, steps}
-use Rattle.thin_film.specs.Coating.{ordered, blank}
-use Rattle.thin_film.specs.Walk.{place}
-use Rattle.thin_film.proofs.Order.{done, as-long, within, goes-on}
+use Rattle.evaluation.specs.Walk.{ordered, blank, place}
+use Rattle.evaluation.proofs.Order.{done, as-long, within, goes-on}
 use Rattle.sheet_values.specs.Values.{films, layers-at}
 use Rattle.sheet_answers.proofs.Behind.{many, nth}
 use Rattle.sheet_answers.proofs.through.Statement.{statement}

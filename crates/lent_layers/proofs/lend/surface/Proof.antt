@@ -54,12 +54,13 @@ use Rattle.transfer_matrix.specs.declared.ThinFilmLayer.{ThinFilmLayer}
 use Rattle.transfer_matrix.proofs.ThinFilmLayer as L
 use Rattle.transfer_matrix.proofs.ThinFilmLayer.Laws as L′
 use Rattle.thin_film.specs.declared.SurfaceCoating.{SurfaceCoating}
-use Rattle.thin_film.specs.declared.Evaluation.{Evaluation}
-use Rattle.thin_film.specs.Evaluate.{outcome, evaluate-surface}
+use Rattle.evaluation.specs.declared.Evaluation.{Evaluation}
+use Rattle.evaluation.specs.Walk.{outcome}
+use Rattle.thin_film.specs.Evaluate.{evaluate-surface}
 use Rattle.thin_film.proofs.SurfaceCoating as T
 use Rattle.thin_film.proofs.SurfaceCoating.Laws as T′
-use Rattle.thin_film.proofs.Evaluation as E
-use Rattle.thin_film.proofs.Evaluation.Laws as E′
+use Rattle.evaluation.proofs.Evaluation as E
+use Rattle.evaluation.proofs.Evaluation.Laws as E′
 use Rattle.thin_film.proofs.SurfaceCoating.evaluate as evaluate
 use Rattle.thin_film.proofs.SurfaceCoating.evaluate.Symbol as evaluate-def
 use Rattle.thin_film.proofs.SurfaceCoating.evaluate.Symbol.{name as #thin-film·evaluate}

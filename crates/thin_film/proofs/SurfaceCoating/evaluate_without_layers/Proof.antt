@@ -1,9 +1,8 @@
 -- `thin_film::SurfaceCoating::evaluate_without_layers` meets its contract. Assumes nothing.
 use mathlib.Core.Path.{refl, sym, _∙_, ap}
 use mathlib.Core.List.{[]}
-use Rattle.thin_film.specs.Evaluate.{outcome}
-use Rattle.thin_film.specs.Walk.{conclude}
-use Rattle.thin_film.proofs.Order.{none-lent}
+use Rattle.evaluation.specs.Walk.{outcome, conclude}
+use Rattle.evaluation.proofs.Order.{none-lent}
 use borrow.Author.Needs.{needs}
 use Rattle.thin_film.proofs.SurfaceCoating.evaluate_without_layers.Statement.{statement}
 use Rattle.thin_film.proofs.SurfaceCoating.evaluate_without_layers.Tie as tie

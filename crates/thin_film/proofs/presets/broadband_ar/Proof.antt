@@ -1,6 +1,5 @@
 -- `thin_film::presets::broadband_ar` meets its contract. Assumes nothing.
-use lib.Dec.{lit<}
-use Rattle.thin_film.specs.Coating.{broadband-layers}
+use Rattle.preset_layers.specs.Layers.{broadband-layers}
 use borrow.Author.Needs.{needs}
 use Rattle.thin_film.proofs.presets.broadband_ar.Statement.{statement}
 use Rattle.thin_film.proofs.presets.broadband_ar.Tie as tie
@@ -34,7 +33,7 @@ array-set-from-items-4 c = search needs
 
 returns : tie.Need-returns
 unfolding broadband-layers
-returns c = simp (c .before .before .before .before .no-layers .ensures, c .before .before .before .broadband .ensures (lit< tt), c .before .before .broadband2 .ensures (lit< tt), c .before .broadband3 .ensures (lit< tt), c .broadband4 .ensures (lit< tt))
+returns c = simp (c .before .before .before .before .no-layers .ensures, c .before .before .before .broadband .ensures, c .before .before .broadband2 .ensures, c .before .broadband3 .ensures, c .broadband4 .ensures)
 
 pub broadband-ar-spec : {M : Type 1} → statement M
 broadband-ar-spec =

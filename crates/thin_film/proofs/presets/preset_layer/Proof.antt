@@ -1,5 +1,5 @@
 -- `thin_film::presets::preset_layer` meets its contract. Assumes nothing.
-use Prim.Native.Nat.{ℕ, _+_, _*_, _<_}
+use Prim.Native.Nat.{ℕ, _<_}
 use native.Mathlib.Nat.{not-suc-le-zero}
 use native.Mathlib.Omega.{arith}
 use mathlib.Core.Path.{_≡_, _∙_}
@@ -10,10 +10,13 @@ use types.Run.{OneOf, miss}
 use denote.Enum.Declared.{tagOf}
 use Rattle.transfer_matrix.specs.declared.ThinFilmLayer.{ThinFilmLayer}
 use Rattle.transfer_matrix.specs.Solve.{dielectric}
-use Rattle.thin_film.specs.declared.Coating.the-variants as C
+use Rattle.coating.specs.declared.Coating.the-variants as C
 use Rattle.thin_film.specs.declared.SurfaceCoating.{SurfaceCoating}
 use Rattle.thin_film.specs.declared.SurfaceCoating.the-variants as S
-use Rattle.thin_film.specs.Coating.{n-mgf2, n-sio2, n-tio2, standard-wavelength, quarter-wave, layers-of, mgf2-layers, mirror-layers, bragg-layers, broadband-layers, blank}
+use Rattle.thin_film.specs.Coating.{n-mgf2, standard-wavelength, mgf2-layers, mirror-layers, layers-of}
+use Rattle.preset_layers.specs.Layers.{n-sio2, n-tio2, quarter-wave, bragg-layers, broadband-layers, broadband-last}
+use Rattle.preset_layers.proofs.Nth.{default, alike}
+use Rattle.evaluation.specs.Walk.{blank}
 use Rattle.thin_film.proofs.SurfaceCoating.{the-type}
 use borrow.Author.Needs.{needs}
 use Rattle.thin_film.proofs.presets.preset_layer.Statement.{statement}
@@ -29,16 +32,16 @@ mgf2 design s i r e f h =
     let l : i < 1 = simp e at h in
     let z : i ≡ 0 = omega arith in f ∙ simp (e, z)
 
-mirror : (s : SurfaceCoating) (i : ℕ) (r : ThinFilmLayer) → s ≡ S.HighReflectanceMirror → ((pairs : ℕ) → i < 2 * pairs + 1 → r ≡ getD (bragg-layers n-tio2 n-sio2 pairs standard-wavelength) i blank) → Ith s i r
+mirror : (s : SurfaceCoating) (i : ℕ) (r : ThinFilmLayer) → s ≡ S.HighReflectanceMirror → r ≡ getD (bragg-layers n-tio2 n-sio2 i standard-wavelength) i blank → Ith s i r
 unfolding layers-of mirror-layers bragg-layers
 mirror s i r e f h =
-    let l : i < 15 = simp e at h in f 7 l ∙ simp e
+    let l : i < 15 = simp e at h in f ∙ alike n-tio2 n-sio2 standard-wavelength i 7 i (omega arith) l ∙ simp e
 
-others : (s : SurfaceCoating) (i : ℕ) (r : ThinFilmLayer) → OneOf (0 ∷ 2 ∷ 4 ∷ []) (tagOf the-type s) → (i < 4 → r ≡ getD broadband-layers i blank) → Ith s i r
+others : (s : SurfaceCoating) (i : ℕ) (r : ThinFilmLayer) → OneOf (0 ∷ 2 ∷ 4 ∷ []) (tagOf the-type s) → r ≡ getD broadband-layers i broadband-last → Ith s i r
 unfolding layers-of broadband-layers
 others S.IdealAr i r k f h = absurd (not-suc-le-zero h)
 others (S.MgF2 design) i r k f h = absurd (miss (0 ∷ 2 ∷ 4 ∷ []) 1 tt k)
-others S.BroadbandAr i r k f h = f h
+others S.BroadbandAr i r k f h = f ∙ default broadband-layers i broadband-last blank h
 others S.HighReflectanceMirror i r k f h = absurd (miss (0 ∷ 2 ∷ 4 ∷ []) 3 tt k)
 others (S.Custom C.IdealAr) i r k f h = absurd (not-suc-le-zero h)
 others (S.Custom C.IdealMirror) i r k f h = absurd (not-suc-le-zero h)

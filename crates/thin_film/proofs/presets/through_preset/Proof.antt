@@ -8,9 +8,9 @@ use lib.ListN.{length, getD, drop}
 use Rattle.transfer_matrix.specs.declared.ThinFilmLayer.{ThinFilmLayer}
 use Rattle.transfer_matrix.specs.declared.Stack.{Stack}
 use Rattle.transfer_matrix.specs.Stack.{step, steps}
-use Rattle.thin_film.specs.Coating.{layers-of, ordered, blank}
-use Rattle.thin_film.specs.Walk.{place}
-use Rattle.thin_film.proofs.Order.{done, as-long, within, goes-on}
+use Rattle.thin_film.specs.Coating.{layers-of}
+use Rattle.evaluation.specs.Walk.{ordered, blank, place}
+use Rattle.evaluation.proofs.Order.{done, as-long, within, goes-on}
 use borrow.Author.Needs.{needs}
 use Rattle.thin_film.proofs.presets.through_preset.Statement.{statement}
 use Rattle.thin_film.proofs.presets.through_preset.Tie as tie

@@ -12,13 +12,16 @@ use Rattle.transfer_matrix.specs.declared.CoatingResponse.{CoatingResponse}
 use Rattle.transfer_matrix.specs.declared.Stack.{Stack}
 use Rattle.transfer_matrix.specs.Stack.{begin, steps, finish}
 use Rattle.transfer_matrix.proofs.Steps.{evaluates}
-use Rattle.thin_film.specs.declared.Coating.the-variants as C
+use Rattle.coating.specs.declared.Coating.the-variants as C
 use Rattle.thin_film.specs.declared.SurfaceCoating.{SurfaceCoating}
 use Rattle.thin_film.specs.declared.SurfaceCoating.the-variants as S
-use Rattle.thin_film.specs.Coating.{layers-of, ordered, mgf2-layers, broadband-layers, mirror-layers, bragg-layers}
-use Rattle.thin_film.specs.Evaluate.{valid, evaluate-coating}
-use Rattle.thin_film.proofs.Order.{as-long}
-use Rattle.thin_film.proofs.Answers.{invalid, solved}
+use Rattle.thin_film.specs.Coating.{layers-of, mgf2-layers, mirror-layers}
+use Rattle.evaluation.specs.Walk.{ordered}
+use Rattle.preset_layers.specs.Layers.{broadband-layers, bragg-layers}
+use Rattle.before_layers.specs.Valid.{valid}
+use Rattle.coating.specs.Evaluate.{evaluate-coating}
+use Rattle.evaluation.proofs.Order.{as-long}
+use Rattle.coating.proofs.Answers.{invalid, solved}
 use borrow.Author.Needs.{needs}
 use Rattle.thin_film.proofs.reading.evaluate_preset.Statement.{statement}
 use Rattle.thin_film.proofs.reading.evaluate_preset.Tie as tie

@@ -6,14 +6,17 @@ use lib.Ieee.{Float, lt}
 use types.Run.{OneOf, miss}
 use denote.Enum.Declared.{tagOf}
 use Rattle.transfer_matrix.specs.declared.ThinFilmLayer.{ThinFilmLayer}
-use Rattle.thin_film.specs.declared.Coating.{Coating}
-use Rattle.thin_film.specs.declared.Coating.the-variants as C
+use Rattle.coating.specs.declared.Coating.{Coating}
+use Rattle.coating.specs.declared.Coating.the-variants as C
 use Rattle.thin_film.specs.declared.SurfaceCoating.{SurfaceCoating}
 use Rattle.thin_film.specs.declared.SurfaceCoating.the-variants as S
-use Rattle.thin_film.specs.Coating.{layers-of, ordered}
-use Rattle.thin_film.specs.Evaluate.{respond, evaluate-coating, evaluate-surface}
+use Rattle.thin_film.specs.Coating.{layers-of}
+use Rattle.evaluation.specs.Walk.{ordered}
+use Rattle.coating.specs.Evaluate.{respond, evaluate-coating}
+use Rattle.thin_film.specs.Evaluate.{evaluate-surface}
 use Rattle.thin_film.proofs.SurfaceCoating.{the-type}
-use Rattle.thin_film.proofs.Answers.{at-once}
+use Rattle.evaluation.proofs.Answers.{at-once}
+use Rattle.coating.proofs.Answers.{prepared}
 use borrow.Author.Needs.{needs}
 use Rattle.thin_film.proofs.reading.prepare_surface.Statement.{statement}
 use Rattle.thin_film.proofs.reading.prepare_surface.Tie as tie
@@ -63,10 +66,10 @@ settled-requires : tie.Need-settled-requires
 settled-requires c κs = search needs
 
 returns : tie.Need-returns
-returns c = λ layers h. c .prepare .ensures layers h ∙ sym (ideal _ _ _ _ _ _ (c .before .enum-told .given .1))
+returns c = λ layers h. prepared _ _ _ _ _ layers _ _ _ (c .prepare .ensures) h ∙ sym (ideal _ _ _ _ _ _ (c .before .enum-told .given .1))
 
 returns-2 : tie.Need-returns-2
-returns-2 c = λ layers h. c .prepare2 .ensures layers h ∙ sym (custom _ _ _ _ _ _ _ (c .before .before .coating .given .1))
+returns-2 c = λ layers h. prepared _ _ _ _ _ layers _ _ _ (c .prepare2 .ensures) h ∙ sym (custom _ _ _ _ _ _ _ (c .before .before .coating .given .1))
 
 returns-3 : tie.Need-returns-3
 returns-3 c = λ layers h. at-once _ _ (c .settled .ensures) layers ∙ c .before .evaluate-preset .ensures ∙ sym (preset _ _ _ _ _ _ (c .before .before .match .keys3))

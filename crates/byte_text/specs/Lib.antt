@@ -1,0 +1,4 @@
+-- Byte strings.
+pub mod Trim
+pub mod Search
+pub mod Ascii

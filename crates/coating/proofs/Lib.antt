@@ -1,0 +1,3 @@
+-- laws
+pub mod Repeat
+pub mod Answers

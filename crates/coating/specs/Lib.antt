@@ -1,0 +1,3 @@
+-- A coating beside its layers.
+pub mod Coating
+pub mod Evaluate

@@ -1,0 +1,4 @@
+-- laws
+pub mod Order
+pub mod Answers
+pub mod Lent

@@ -1,0 +1,13 @@
+-- `evaluation::all` meets its contract. Assumes nothing.
+use borrow.Author.Needs.{needs}
+use Rattle.evaluation.proofs.all.Statement.{statement}
+use Rattle.evaluation.proofs.all.Tie as tie
+
+begin-requires : tie.Need-begin-requires
+begin-requires c κs = search needs
+
+returns : tie.Need-returns
+returns c = simp (c .begin .ensures)
+
+pub all-spec : {M : Type 1} → statement M
+all-spec = tie.close (tie.spec begin-requires returns)

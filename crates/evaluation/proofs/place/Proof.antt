@@ -1,0 +1,29 @@
+-- `evaluation::place` meets its contract. Assumes nothing.
+use Prim.Native.Nat.{ℕ, _-_, _≤_}
+use native.Mathlib.Omega.{arith}
+use mathlib.Core.Path.{_≡_, _∙_}
+use borrow.Author.Needs.{needs}
+use Rattle.evaluation.proofs.place.Statement.{statement}
+use Rattle.evaluation.proofs.place.Tie as tie
+
+-- past the last
+past : (n i : ℕ) → n ≤ i → 0 ≡ n - 1 - i
+past n i h = omega arith
+
+sub-result : tie.Need-sub-result
+sub-result c = search needs
+
+sub-result-2 : tie.Need-sub-result-2
+sub-result-2 c = search needs
+
+returns : tie.Need-returns
+returns c = simp (c .before .if1 .taken)
+
+returns-2 : tie.Need-returns-2
+returns-2 c = past _ _ (c .if2 .left) ∙ simp (c .before .if1 .taken)
+
+returns-3 : tie.Need-returns-3
+returns-3 c = simp (c .if1 .left)
+
+pub place-spec : {M : Type 1} → statement M
+place-spec = tie.close (tie.spec sub-result sub-result-2 returns returns-2 returns-3)

@@ -1,0 +1,2 @@
+-- An evaluation while its layers are read.
+pub mod Walk

@@ -1,0 +1,3 @@
+-- From the limits to ranges, and the layers of the preset coatings.
+pub mod Ranges
+pub mod Presets

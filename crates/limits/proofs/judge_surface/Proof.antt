@@ -1,0 +1,34 @@
+-- `limits::judge_surface` meets its contract. Assumes nothing.
+use mathlib.Core.Path.{_≡_, ap}
+use mathlib.Core.Bool.{Bool}
+use lib.Ieee.{Float}
+use Rattle.ieee.specs.Operators.{_⊗_}
+use Rattle.ieee.specs.Functions.{abs}
+use Rattle.trig.specs.declared.SinCos.{SinCos}
+use Rattle.trig.specs.Trig.{sin-cos}
+use Rattle.limits.specs.declared.Surface.{Surface}
+use Rattle.limits.specs.declared.Judgement.{Judgement}
+use Rattle.limits.specs.Limits.{angle-passes, surface-within, surface-passes, judgement}
+use borrow.Author.Needs.{needs}
+use Rattle.limits.proofs.judge_surface.Statement.{statement}
+use Rattle.limits.proofs.judge_surface.Tie as tie
+
+-- the judgement of the one sine and cosine
+judges : (s : Surface) (t : SinCos) (a : Float) (p : Bool) → t ≡ sin-cos (s .«angle_rad») → a ≡ abs (t .sin) → p ≡ surface-within (s .«n_incident» ⊗ a) (t .cos) s → _≡_ {A = Judgement} (record { passes = p; bend = s .«n_incident» ⊗ a }) (judgement s)
+unfolding surface-passes angle-passes
+judges s t a p e f g = rw (g, f, e)
+
+sin-cos-requires : tie.Need-sin-cos-requires
+sin-cos-requires c κs = search needs
+
+abs-requires : tie.Need-abs-requires
+abs-requires c κs = search needs
+
+surface-within-requires : tie.Need-surface-within-requires
+surface-within-requires c κs = search needs
+
+returns : tie.Need-returns
+returns c = judges _ _ _ _ (c .before .before .before .sin-cos .ensures) (c .before .before .abs .ensures) (c .surface-within .ensures)
+
+pub judge-surface-spec : {M : Type 1} → statement M
+judge-surface-spec = tie.close (tie.spec sin-cos-requires abs-requires surface-within-requires returns)

@@ -1,0 +1,3 @@
+-- A surface: its coating and its limits.
+pub mod Coating
+pub mod Limits

@@ -1,0 +1,122 @@
+// One surface of a train: its coating by code, and the limits of document 01's section 3.
+ghost use mathlib.Core.Path.{_≡_};
+ghost use Rattle.limits.specs.Coating.{interface, preset-layers};
+ghost use Rattle.limits.specs.Limits.{within, beam-passes, layer-within, layers-within, angle-within, surface-within, judgement};
+use coating::Coating;
+use thin_film::SurfaceCoating;
+use transfer_matrix::ThinFilmLayer;
+
+// A SURFACE's words: whether the reflected light is followed, the coating's code (payload / 2), both
+// indices and the angle of incidence.
+pub struct Surface {
+    pub reflected: bool,
+    pub coating: u32,
+    pub n_incident: f64,
+    pub n_substrate: f64,
+    pub angle_rad: f64,
+}
+
+// What lies between the two media.
+pub enum Interface {
+    Bare,
+    Coated(SurfaceCoating),
+}
+
+// From a code to a coating. Code 5 is made of the LAYERs that follow the SURFACE.
+pub fn interface_of(code: u32) -> Interface
+    ensures { λ r. ⌜ r ≡ interface code ⌝ }
+{
+    if code == 0 {
+        Interface::Bare
+    } else if code == 1 {
+        Interface::Coated(SurfaceCoating::IdealAr)
+    } else if code == 2 {
+        Interface::Coated(SurfaceCoating::mgf2_default())
+    } else if code == 3 {
+        Interface::Coated(SurfaceCoating::BroadbandAr)
+    } else if code == 4 {
+        Interface::Coated(SurfaceCoating::HighReflectanceMirror)
+    } else if code == 5 {
+        Interface::Coated(SurfaceCoating::Custom(Coating::Multilayer))
+    } else if code == 6 {
+        Interface::Coated(SurfaceCoating::Custom(Coating::IdealBeamsplitter))
+    } else {
+        Interface::Coated(SurfaceCoating::Custom(Coating::IdealMirror))
+    }
+}
+
+// ---- limits, all ends included
+
+fn within(lo: f64, hi: f64, x: f64) -> bool
+    ensures { λ r. ⌜ r ≡ within lo hi x ⌝ }
+{
+    lo <= x && x <= hi
+}
+
+// A BEAM: its wavelength, its s and its p power.
+pub fn beam_passes(wavelength_nm: f64, s: f64, p: f64) -> bool
+    ensures { λ r. ⌜ r ≡ beam-passes «wavelength_nm» s p ⌝ }
+{
+    within(100.0, 10000.0, wavelength_nm) && (within(0.0, 1.0, s) && within(0.0, 1.0, p))
+}
+
+// A layer, for light that leans so far.
+pub fn layer_within(bend: f64, layer: ThinFilmLayer) -> bool
+    ensures { λ r. ⌜ r ≡ layer-within bend layer ⌝ }
+{
+    within(1.0, 4.0, layer.n)
+        && (layer.k == 0.0
+            && (within(0.0, 100000.0, layer.thickness_nm) && bend <= 0.875 * layer.n))
+}
+
+// The layers of a preset coating. All that can fail is how far the light leans, and it fails first at
+// the smallest index, MgF2's or SiO2's.
+fn presets_within(bend: f64, coating: u32) -> bool
+    ensures { λ r. ⌜ r ≡ layers-within bend (preset-layers (interface coating)) ⌝ }
+{
+    if coating == 2 {
+        return bend <= 0.875 * 1.38;
+    }
+    if coating == 3 {
+        return bend <= 0.875 * 1.46;
+    }
+    if coating == 4 {
+        return bend <= 0.875 * 1.46;
+    }
+    true
+}
+
+// The angle of a SURFACE, where it is finite: from how far the light leans, and its cosine.
+fn angle_within(bend: f64, cos: f64, surface: Surface) -> bool
+    ensures { λ r. ⌜ r ≡ angle-within bend cos surface ⌝ }
+{
+    0.25 <= cos && (bend <= 0.875 * surface.n_substrate && presets_within(bend, surface.coating))
+}
+
+// A SURFACE without its LAYERs, from how far the light leans and the cosine of its angle; the layers of a
+// preset coating count as its own.
+fn surface_within(bend: f64, cos: f64, surface: Surface) -> bool
+    ensures { λ r. ⌜ r ≡ surface-within bend cos surface ⌝ }
+{
+    within(1.0, 4.0, surface.n_incident)
+        && (within(1.0, 4.0, surface.n_substrate)
+            && (ieee::is_finite(surface.angle_rad) && angle_within(bend, cos, surface)))
+}
+
+// Whether a SURFACE is within the limits, and how far its light leans, which those of its LAYERs ask for.
+pub struct Judgement {
+    pub passes: bool,
+    pub bend: f64,
+}
+
+// One sine and one cosine for all of a surface's limits.
+pub fn judge_surface(surface: Surface) -> Judgement
+    ensures { λ r. ⌜ r ≡ judgement surface ⌝ }
+{
+    let theta = trig::sin_cos(surface.angle_rad);
+    let bend = surface.n_incident * ieee::abs(theta.sin);
+    Judgement {
+        passes: surface_within(bend, theta.cos, surface),
+        bend,
+    }
+}

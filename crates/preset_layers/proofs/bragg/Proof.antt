@@ -1,0 +1,22 @@
+-- `preset_layers::bragg` meets its contract. Assumes nothing.
+use native.Mathlib.Omega.{arith}
+use mathlib.Core.Path.{sym, _∙_}
+use Rattle.preset_layers.proofs.Nth.{even, odd}
+use borrow.Author.Needs.{needs}
+use Rattle.preset_layers.proofs.bragg.Statement.{statement}
+use Rattle.preset_layers.proofs.bragg.Tie as tie
+
+quarter-wave-requires : tie.Need-quarter-wave-requires
+quarter-wave-requires c κs = search needs
+
+quarter-wave-requires-2 : tie.Need-quarter-wave-requires-2
+quarter-wave-requires-2 c κs = search needs
+
+returns : tie.Need-returns
+returns c = c .quarter-wave .ensures ∙ sym (even _ _ _ _ _ (omega arith) (c .before .if1 .taken))
+
+returns-2 : tie.Need-returns-2
+returns-2 c = c .quarter-wave2 .ensures ∙ sym (odd _ _ _ _ _ (omega arith) (c .before .if1 .left))
+
+pub bragg-spec : {M : Type 1} → statement M
+bragg-spec = tie.close (tie.spec quarter-wave-requires quarter-wave-requires-2 returns returns-2)

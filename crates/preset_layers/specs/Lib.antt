@@ -1,0 +1,2 @@
+-- The layers of the preset coatings.
+pub mod Layers
