@@ -11,7 +11,7 @@ use lib.Ieee.Order.{drop, kept}
 use lib.Ieee.Scale.{finite}
 use lib.Ieee.Positive.{num}
 use Rattle.ieee.specs.Operators.{_⊕_, _⊖_, _⊗_, _⊘_}
-use Rattle.ieee.specs.Functions.{zero-f, one, is-inf, is-zero, abs}
+use Rattle.ieee.specs.Functions.{zero-f, one, is-inf, is-zero, abs, three, four}
 use Rattle.ieee.specs.Range.{Mag, In, sgn, wider, tops, inb}
 use Rattle.ieee.proofs.Signs.{finite-number}
 use Rattle.ieee.proofs.Range.Laws.{in-lit, in-mag, mag-lit, mag-up, mul-mag, sq-in, neg-mag, abs-in}
@@ -22,7 +22,7 @@ use Rattle.ieee.proofs.Range.Tests.{choose, cond-mag, lt-in, nlt-most}
 use Rattle.square_root.specs.Root.{sqrt}
 use Rattle.square_root.proofs.Range.{sqrt-in}
 use Rattle.trig.specs.Angles.{pi, half-pi, quarter-pi}
-use Rattle.arctangent.specs.Atan.{three, four, with-sign, half-angle, atan-series, atan-poly, atan-abs, atan, asin, turned, atan2}
+use Rattle.arctangent.specs.Atan.{with-sign, half-angle, atan-series, atan-poly, atan-abs, atan, asin, turned, atan2}
 
 -- ---- constants
 three-mag : Mag 3 0 three

@@ -4,18 +4,10 @@ use mathlib.Core.Bool.{Bool, _&&_, _||_, cond}
 use lib.IntN.{pos}
 use lib.Ieee.{Float, nan, binary64, neg, lt, ofInt, ofBits, isNan}
 use Rattle.ieee.specs.Operators.{_⊕_, _⊖_, _⊗_, _⊘_}
-use Rattle.ieee.specs.Functions.{zero-f, one, two, is-inf, is-zero, abs}
+use Rattle.ieee.specs.Functions.{zero-f, one, two, is-inf, is-zero, abs, three, four}
 use Rattle.ieee.specs.Range.{sgn}
 use Rattle.square_root.specs.Root.{sqrt}
 use Rattle.trig.specs.Angles.{pi, half-pi, quarter-pi}
-
--- 3
-abbrev pub three : Float
-three = ofBits binary64 0x4008_0000_0000_0000
-
--- 4
-abbrev pub four : Float
-four = ofBits binary64 0x4010_0000_0000_0000
 
 -- v with the sign bit s, for a v whose own is clear
 unfoldable pub with-sign : Bool → Float → Float

@@ -17,12 +17,12 @@ use Rattle.ieee.proofs.Range.Sums.{add-mag}
 use Rattle.ieee.proofs.Range.Quotients.{div-mag}
 use Rattle.ieee.proofs.Range.Tests.{never-above, never-below}
 use Rattle.ieee.proofs.Range.Zero.{zero-mul-mag, add-zero-same}
-use Rattle.exponential.specs.Exp.{kilo, exp-most, exp-least, exp-series, squares, exp-at, exp}
+use Rattle.exponential.specs.Exp.{two-to-10, exp-most, exp-least, exp-series, squares, exp-at, exp}
 use Rattle.exponential.proofs.Constants.{minus-exp-least, exp-least-is}
 
-kilo-in : In 1024 0 1024 0 kilo
+two-to-10-in : In 1024 0 1024 0 two-to-10
 unfolding ofBits
-kilo-in = in-lit kilo tt
+two-to-10-in = in-lit two-to-10 tt
 
 -- the divisors d 0 .. d (m - 1) are a at least
 abbrev from : ℕ → (ℕ → Float) → ℕ → Bool
@@ -91,9 +91,9 @@ start = 4161 * 2 ^ 16
 exp-at-in : (x : Float) → Mag 16 0 x → In 0 0 (2 ^ 24) 0 (exp-at x)
 unfolding exp-at
 exp-at-in x h =
-    let y : Mag 1 6 (x ⊘ kilo) = div-mag h kilo-in tt in
-    let p : Mag 4161 12 (exp-series 14 (x ⊘ kilo) one) = series-mag 13 (x ⊘ kilo) one from-two y (mag-up one-mag tt) in
-    in-up (squares-in 9 start (exp-series 14 (x ⊘ kilo) one) tt (mag-up p tt)) tt
+    let y : Mag 1 6 (x ⊘ two-to-10) = div-mag h two-to-10-in tt in
+    let p : Mag 4161 12 (exp-series 14 (x ⊘ two-to-10) one) = series-mag 13 (x ⊘ two-to-10) one from-two y (mag-up one-mag tt) in
+    in-up (squares-in 9 start (exp-series 14 (x ⊘ two-to-10) one) tt (mag-up p tt)) tt
 
 -- ---- the tests of exp pass by
 most-in : In 710 0 710 0 exp-most
@@ -144,7 +144,7 @@ squares-one (suc n) = ap (squares n) one-square ∙ squares-one n
 
 exp-at-zero : (x : Float) → Mag 0 0 x → exp-at x ≡ one
 unfolding exp-at
-exp-at-zero x h = ap (squares 10) (series-zero 14 (x ⊘ kilo) from-one (div-mag h kilo-in tt)) ∙ squares-one 10
+exp-at-zero x h = ap (squares 10) (series-zero 14 (x ⊘ two-to-10) from-one (div-mag h two-to-10-in tt)) ∙ squares-one 10
 
 pub exp-zero : (x : Float) → Mag 0 0 x → exp x ≡ one
 exp-zero x h = exp-is x (mag-up h tt) ∙ exp-at-zero x h

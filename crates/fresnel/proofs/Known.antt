@@ -1,17 +1,9 @@
 -- Known answers of document 01, computed by the checker. Assumes nothing.
 use mathlib.Core.Path.{_≡_, refl}
 use lib.Ieee.{Float, binary64, add, sub, mul, div, lt, le, ofBits}
-use Rattle.ieee.specs.Functions.{zero-f, one, abs, max, clamp}
+use Rattle.ieee.specs.Functions.{zero-f, one, abs, max, clamp, three, quarter}
 use Rattle.square_root.specs.Root.{squareRoot}
 use Rattle.fresnel.specs.Fresnel.{sin2-t, cos-t, power, refracted, fresnel-dielectric, r-zero, schlick, schlick-approx}
-
--- 3
-abbrev pub three : Float
-three = ofBits binary64 0x4008_0000_0000_0000
-
--- 0.25
-abbrev pub quarter : Float
-quarter = ofBits binary64 0x3FD0_0000_0000_0000
 
 -- fresnel_dielectric(1, 1, 3) = (0.25, 0.25)
 pub dielectric-straight : fresnel-dielectric one one three ≡ record { rs = quarter; rp = quarter }

@@ -18,7 +18,19 @@ one = ofBits binary64 0x3FF0_0000_0000_0000
 abbrev pub two : Float
 two = ofBits binary64 0x4000_0000_0000_0000
 
--- 0.875, the gate's slope (01 section 3)
+-- 3
+abbrev pub three : Float
+three = ofBits binary64 0x4008_0000_0000_0000
+
+-- 4
+abbrev pub four : Float
+four = ofBits binary64 0x4010_0000_0000_0000
+
+-- 0.25
+abbrev pub quarter : Float
+quarter = ofBits binary64 0x3FD0_0000_0000_0000
+
+-- 0.875, which the gate's limits hold the sine of the refracted light to (01 section 3)
 abbrev pub seven-eighths : Float
 seven-eighths = ofBits binary64 0x3FEC_0000_0000_0000
 

@@ -1,9 +1,10 @@
 -- 01, 'Known answers': all that are starred, as one proposition over the definitions that the contracts cite.
 use mathlib.Core.Path.{_≡_}
+use mathlib.Core.Bool.{true}
 use mathlib.Core.List.{[], _∷_}
 use mathlib.Core.Option.{none, some}
 use lib.Ieee.{Float, binary64, ofBits}
-use Rattle.ieee.specs.Functions.{zero-f, one, two, half}
+use Rattle.ieee.specs.Functions.{zero-f, one, two, three, quarter, half}
 use Rattle.square_root.specs.Root.{sqrt}
 use Rattle.trig.specs.Angles.{pi}
 use Rattle.complex.specs.Complex.{real, zero, div}
@@ -11,27 +12,20 @@ use Rattle.refusal.specs.Outcome.{answer}
 use Rattle.coating.specs.declared.Coating.the-variants as C
 use Rattle.thin_film.specs.declared.SurfaceCoating.the-variants as S
 use Rattle.thin_film.specs.Coating.{mgf2-default}
+use Rattle.before_layers.specs.Valid.{positive}
 use Rattle.thin_film.specs.Evaluate.{evaluate-surface}
 use Rattle.fresnel.specs.Fresnel.{fresnel-dielectric, schlick-approx}
 use Rattle.stokes.specs.Stokes.{least-s0, degree-of-polarization, degree-of-linear-polarization, degree-of-circular-polarization}
 use Rattle.stokes.specs.Jones.{to-stokes}
 use Rattle.coating_name.specs.Name.{from-format-name}
 
--- -0.5, 0.25, 0.75, 3 and 500
+-- -0.5
 abbrev pub minus-half : Float
 minus-half = ofBits binary64 0xBFE0_0000_0000_0000
 
-abbrev pub quarter : Float
-quarter = ofBits binary64 0x3FD0_0000_0000_0000
-
+-- 0.75
 abbrev pub three-quarters : Float
 three-quarters = ofBits binary64 0x3FE8_0000_0000_0000
-
-abbrev pub three : Float
-three = ofBits binary64 0x4008_0000_0000_0000
-
-abbrev pub five-hundred : Float
-five-hundred = ofBits binary64 0x407F_4000_0000_0000
 
 pub record KnownAnswers : Type 0 where
   -- sqrt(2^-1074) = 2^-537
@@ -42,8 +36,8 @@ pub record KnownAnswers : Type 0 where
   pub quotient : div (real one) (real (ofBits binary64 0x3D10_0000_0000_0000)) ≡ real (ofBits binary64 0x42D0_0000_0000_0000)
   -- 1 / 2^-47 = 0
   pub guarded-quotient : div (real one) (real (ofBits binary64 0x3D00_0000_0000_0000)) ≡ zero
-  -- Custom, no layers, 1 to 3, angle 0 (at 500 nm): rs = rp = -0.5, ts = tp = 0.5, R = 0.25, T = 0.75, phases π
-  pub no-layers : evaluate-surface (S.Custom C.Multilayer) [] one three zero-f five-hundred ≡ answer (record {
+  -- Custom, no layers, 1 to 3, angle 0, at every wavelength that is admitted: rs = rp = -0.5, ts = tp = 0.5, R = 0.25, T = 0.75, phases π
+  pub no-layers : (wavelength : Float) → positive wavelength ≡ true → evaluate-surface (S.Custom C.Multilayer) [] one three zero-f wavelength ≡ answer (record {
     rs = real minus-half;
     rp = real minus-half;
     ts = real half;

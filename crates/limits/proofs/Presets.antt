@@ -7,11 +7,10 @@ use borrow.Author.Tests.{ne-eqb}
 use lib.Ieee.{Float, binary64, eq, le, mul, div, round, ofBits}
 use lib.Ieee.Bits.{is-true}
 use lib.Ieee.Fits.{and-i}
-use Rattle.ieee.specs.Functions.{zero-f, one, seven-eighths}
+use Rattle.ieee.specs.Functions.{zero-f, one, seven-eighths, four}
 use Rattle.ieee.specs.Range.{In}
 use Rattle.ieee.proofs.Range.Laws.{in-lit, mul-in}
 use Rattle.ieee.proofs.Range.Falls.{le-up}
-use Rattle.arctangent.specs.Atan.{four}
 use Rattle.transfer_matrix.specs.Solve.{dielectric}
 use Rattle.coating.specs.declared.Coating.the-variants as C
 use Rattle.thin_film.specs.declared.SurfaceCoating.the-variants as S

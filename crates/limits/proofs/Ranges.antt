@@ -8,7 +8,7 @@ use lib.Ieee.Fits.{and-l, and-r}
 use lib.Ieee.Scale.{finite}
 use lib.Ieee.Positive.{positive}
 use Rattle.ieee.specs.Operators.{_⊗_}
-use Rattle.ieee.specs.Functions.{zero-f, one, seven-eighths}
+use Rattle.ieee.specs.Functions.{zero-f, one, seven-eighths, four, quarter}
 use Rattle.ieee.specs.Range.{In}
 use Rattle.ieee.proofs.Range.Laws.{in-lit}
 use Rattle.ieee.proofs.Range.Tests.{gate-in, gate-least}
@@ -16,13 +16,12 @@ use Rattle.ieee.proofs.Range.FromZero.{from-zero, equals-zero}
 use Rattle.ieee.proofs.Range.AbsProduct.{abs-mul}
 use Rattle.ieee.proofs.Range.Constants.{one-in}
 use Rattle.trig.specs.Trig.{sin, cos}
-use Rattle.arctangent.specs.Atan.{four}
 use Rattle.trig.proofs.TrigBounds.{sin-mag, cos-mag}
 use Rattle.transfer_matrix.specs.declared.ThinFilmLayer.{ThinFilmLayer}
 use Rattle.solver_bounds.specs.Solver.{Bends, AdmittedLayer, AdmittedLayers}
 use Rattle.limits.specs.declared.Surface.{Surface}
 use Rattle.limits.specs.Coating.{interface, preset-layers}
-use Rattle.limits.specs.Limits.{quarter, hundred, ten-thousand, hundred-thousand, within, wavelength-passes, bend, bends, layer-within, layers-within, layer-passes, layers-pass, angle-passes, surface-passes}
+use Rattle.limits.specs.Limits.{hundred, ten-thousand, hundred-thousand, within, wavelength-passes, bend, bends, layer-within, layers-within, layer-passes, layers-pass, angle-passes, surface-passes}
 
 -- ---- the ends
 four-in : In 4 0 4 0 four

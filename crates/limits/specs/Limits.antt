@@ -5,24 +5,22 @@ use mathlib.Core.List.{List, [], _∷_}
 use lib.Ieee.{Float, binary64, le, eq, ofBits}
 use lib.Ieee.Scale.{finite}
 use Rattle.ieee.specs.Operators.{_⊗_}
-use Rattle.ieee.specs.Functions.{zero-f, one, seven-eighths, abs}
+use Rattle.ieee.specs.Functions.{zero-f, one, seven-eighths, abs, four, quarter}
 use Rattle.trig.specs.Trig.{sin, cos}
-use Rattle.arctangent.specs.Atan.{four}
 use Rattle.transfer_matrix.specs.declared.ThinFilmLayer.{ThinFilmLayer}
 use Rattle.limits.specs.declared.Surface.{Surface}
 use Rattle.limits.specs.declared.Judgement.{Judgement}
 use Rattle.limits.specs.Coating.{interface, preset-layers}
 
--- 0.25, 100, 10,000 and 100,000
-abbrev pub quarter : Float
-quarter = ofBits binary64 0x3FD0_0000_0000_0000
-
+-- 100
 abbrev pub hundred : Float
 hundred = ofBits binary64 0x4059_0000_0000_0000
 
+-- 10,000
 abbrev pub ten-thousand : Float
 ten-thousand = ofBits binary64 0x40C3_8800_0000_0000
 
+-- 100,000
 abbrev pub hundred-thousand : Float
 hundred-thousand = ofBits binary64 0x40F8_6A00_0000_0000
 

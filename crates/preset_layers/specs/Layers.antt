@@ -2,17 +2,17 @@
 use Prim.Native.Nat.{ℕ, zero, suc}
 use mathlib.Core.List.{List, [], _∷_}
 use lib.Ieee.{Float, binary64, ofBits}
+use Rattle.ieee.specs.Functions.{four}
 use Rattle.ieee.specs.Operators.{_⊗_, _⊘_}
 use Rattle.transfer_matrix.specs.declared.ThinFilmLayer.{ThinFilmLayer}
 use Rattle.transfer_matrix.specs.Solve.{dielectric}
 
--- ---- constants: 4, 1.46, 2.30, 88, 112, 32, 15
-abbrev pub four : Float
-four = ofBits binary64 0x4010_0000_0000_0000
-
+-- ---- indices
+-- 1.46
 abbrev pub n-sio2 : Float
 n-sio2 = ofBits binary64 0x3FF7_5C28_F5C2_8F5C
 
+-- 2.30
 abbrev pub n-tio2 : Float
 n-tio2 = ofBits binary64 0x4002_6666_6666_6666
 

@@ -6,7 +6,7 @@ use lib.Dec.{lit≤}
 use lib.Ieee as Ieee
 use lib.Ieee.{Float, ofBits}
 use lib.Ieee.Scale.{finite}
-use Rattle.ieee.specs.Functions.{zero-f, one}
+use Rattle.ieee.specs.Functions.{zero-f, one, three}
 use Rattle.refusal.specs.Outcome.{answer}
 use Rattle.transfer_matrix.proofs.Known as Solved
 use Rattle.coating.specs.declared.Coating.the-variants as C
@@ -21,7 +21,7 @@ one-passes : positive one ≡ true
 unfolding positive Ieee.le ofBits
 one-passes = refl
 
-three-passes : positive Solved.three ≡ true
+three-passes : positive three ≡ true
 unfolding positive Ieee.le ofBits
 three-passes = refl
 
@@ -29,19 +29,11 @@ zero-passes : finite zero-f ≡ true
 unfolding ofBits
 zero-passes = refl
 
-admitted : (wavelength : Float) → positive wavelength ≡ true → valid one Solved.three zero-f wavelength ≡ true
+admitted : (wavelength : Float) → positive wavelength ≡ true → valid one three zero-f wavelength ≡ true
 unfolding valid
 admitted wavelength e = simp (one-passes, three-passes, zero-passes, e)
 
 -- Custom, no layers, 1 to 3, angle 0, at any wavelength that is admitted: rs = rp = -0.5, ts = tp = 0.5, R = 0.25, T = 0.75, phases π
-pub no-layers : (wavelength : Float) → positive wavelength ≡ true → evaluate-surface (S.Custom C.Multilayer) [] one Solved.three zero-f wavelength ≡ answer Solved.bare
+pub no-layers : (wavelength : Float) → positive wavelength ≡ true → evaluate-surface (S.Custom C.Multilayer) [] one three zero-f wavelength ≡ answer Solved.bare
 unfolding evaluate-surface layers-of ordered Ieee.lt ofBits
-no-layers wavelength e = solved one Solved.three zero-f wavelength [] C.Multilayer refl (admitted wavelength e) (lit≤ tt) ∙ ap answer (Solved.no-layers wavelength)
-
--- 500 nm is admitted
-abbrev pub five-hundred : Float
-five-hundred = ofBits Ieee.binary64 0x407F_4000_0000_0000
-
-pub no-layers-at-500 : evaluate-surface (S.Custom C.Multilayer) [] one Solved.three zero-f five-hundred ≡ answer Solved.bare
-unfolding positive Ieee.le ofBits
-no-layers-at-500 = no-layers five-hundred refl
+no-layers wavelength e = solved one three zero-f wavelength [] C.Multilayer refl (admitted wavelength e) (lit≤ tt) ∙ ap answer (Solved.no-layers wavelength)

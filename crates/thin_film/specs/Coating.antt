@@ -17,10 +17,11 @@ use Rattle.thin_film.specs.declared.SurfaceCoating.{SurfaceCoating}
 use Rattle.thin_film.specs.declared.SurfaceCoating.the-variants as S
 use Rattle.thin_film.specs.declared.Text.{Text}
 
--- ---- constants: 550, 1.38
+-- 550
 abbrev pub standard-wavelength : Float
 standard-wavelength = ofBits binary64 0x4081_3000_0000_0000
 
+-- 1.38
 abbrev pub n-mgf2 : Float
 n-mgf2 = ofBits binary64 0x3FF6_147A_E147_AE14
 

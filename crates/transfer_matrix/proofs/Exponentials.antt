@@ -16,7 +16,7 @@ use Rattle.ieee.proofs.Signs.{zero-is}
 use Rattle.ieee.proofs.Range.Round.{round-clear}
 use Rattle.trig.specs.Opposite.{Opposite}
 use Rattle.trig.proofs.Opposites.{round-zero}
-use Rattle.exponential.specs.Exp.{exp, exp-at, exp-series, squares, kilo, exp-most, exp-least}
+use Rattle.exponential.specs.Exp.{exp, exp-at, exp-series, squares, two-to-10, exp-most, exp-least}
 
 -- ---- the sign of an exponential is clear, or it is a NaN
 clear-sgn : (x : Float) → T (clear x) → sgn x ≡ false
@@ -52,7 +52,7 @@ unfolding exp exp-at
 exp-sgn x =
     pick-sgn (isNan x) nan _ refl
     (pick-sgn (lt exp-most x) (inf false) _ refl
-    (pick-sgn (lt x exp-least) zero-f _ (ap sgn zero-is) (squares-sgn 9 (exp-series 14 (x ⊘ kilo) one))))
+    (pick-sgn (lt x exp-least) zero-f _ (ap sgn zero-is) (squares-sgn 9 (exp-series 14 (x ⊘ two-to-10) one))))
 
 -- ---- a product with a zero
 -- x · (+0) and x · (-0), of an x whose sign is clear: both NaN, or both zeros

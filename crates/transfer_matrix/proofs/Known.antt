@@ -3,7 +3,7 @@ use mathlib.Core.Path.{_≡_, refl}
 use mathlib.Core.List.{[]}
 use lib.Ieee as Ieee
 use lib.Ieee.{Float, binary64, ofBits}
-use Rattle.ieee.specs.Functions.{zero-f, one, half, abs, max, clamp}
+use Rattle.ieee.specs.Functions.{zero-f, one, half, abs, max, clamp, three}
 use Rattle.square_root.specs.Root.{squareRoot}
 use Rattle.trig.specs.Angles.{pi}
 use Rattle.trig.specs.Trig.{wrap, fold, tuck, series, sin-at, sin, cos-at, cos-of, cos}
@@ -11,10 +11,6 @@ use Rattle.arctangent.specs.Atan.{with-sign, atan2}
 use Rattle.complex.specs.Complex.{real, scale, norm-sq, arg, add, sub, mul, quotient, div}
 use Rattle.transfer_matrix.specs.declared.CoatingResponse.{CoatingResponse}
 use Rattle.transfer_matrix.specs.Solve.{eta0-s, eta0-p, cos-theta-sub, eta-sub-s, eta-sub-p, through-s, through-p, b-of, c-of, reflection, transmission, reflectance, transmittance, solve, respond, evaluate}
-
--- 3
-abbrev pub three : Float
-three = ofBits binary64 0x4008_0000_0000_0000
 
 -- rs = rp = -0.5, ts = tp = 0.5, R = 0.25, T = 0.75, phases π
 abbrev pub bare : CoatingResponse
