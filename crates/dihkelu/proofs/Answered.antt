@@ -11,14 +11,14 @@ use Rattle.trig.specs.Trig.{sin, cos}
 use Rattle.transfer_matrix.specs.declared.ThinFilmLayer.{ThinFilmLayer}
 use Rattle.thin_film.specs.Evaluate.{evaluate-surface}
 use Rattle.polarization.specs.Surface.{invalid, bare, surface-fresnel-jones}
-use Rattle.limits.specs.declared.Surface as Window
+use Rattle.limits.specs.declared.Surface as Value
 use Rattle.surface.specs.declared.Answers.{Answers}
 use Rattle.limits.specs.declared.Interface.{Interface}
 use Rattle.limits.specs.declared.Interface.the-variants.{Bare, Coated}
 use Rattle.limits.specs.Coating.{interface}
 use Rattle.surface.specs.Answers.{coated-answers, bare-answers, answers-of}
 use Rattle.sheet.specs.Sheet.{Sheet}
-use Rattle.sheet_values.specs.Values.{value, films, window}
+use Rattle.sheet_values.specs.Values.{value, films, surface-value}
 use Rattle.gate.specs.Gate.{gated}
 use Rattle.optical_train.specs.declared.SurfaceReply.{SurfaceReply}
 use Rattle.optical_train.specs.Train.{nth, answers-to, surface-answers, given}
@@ -26,7 +26,7 @@ use Rattle.flat_layers.proofs.Plain.{Plain, either, mapped, of-surface}
 use Rattle.dihkelu.proofs.Returned.{Sound, plain-sound}
 use Rattle.dihkelu.proofs.Places.{gate-sound}
 
-module _ (wavelength : Float) (s : Window.Surface) (layers : List ThinFilmLayer) where
+module _ (wavelength : Float) (s : Value.Surface) (layers : List ThinFilmLayer) where
   fresnel : Plain (surface-fresnel-jones (s .«n_incident») (s .«n_substrate») (s .«angle_rad»))
   unfolding surface-fresnel-jones
   fresnel =
@@ -48,7 +48,7 @@ answers-sound src i = go (gated src) (gate-sound src)
     go : (o : Outcome Sheet) → Sound o → Sound (answers-to i o)
     go (answer x) h =
         let y = nth (x .surfaces) i in
-        plain-sound (answers-to i (answer x)) (either (ltb i (length (x .surfaces))) _ (refusal 7 0) (of-interface (value (x .wavelength)) (window y) (films (y .layers)) (interface (window y .coating))) (omega arith, refl))
+        plain-sound (answers-to i (answer x)) (either (ltb i (length (x .surfaces))) _ (refusal 7 0) (of-interface (value (x .wavelength)) (surface-value y) (films (y .layers)) (interface (surface-value y .coating))) (omega arith, refl))
     go (refusal number place) h = h
 
 -- ---- the reply's number is 0 exactly for an answer

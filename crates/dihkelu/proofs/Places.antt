@@ -18,7 +18,7 @@ use Rattle.sheet.proofs.Scan.{left, never}
 use Rattle.sheet.proofs.Blocks.{Next, next-surface, next-layer, next-end, next, begins}
 use Rattle.sheet.proofs.Claim.Found.{Found, is-surface, is-layer, is-end, cut-surface, cut-layer, cut-end, after-end, no-block, found-cases}
 use Rattle.sheet_values.specs.Values.{value}
-use Rattle.limits.specs.Limits.{bend}
+use Rattle.limits.specs.Limits.{snell-size}
 use Rattle.gate.specs.Gate.{Test, layer-tests, surface-tests, tests, gated}
 use Rattle.gate.specs.Claim.{FirstOutside}
 use Rattle.gate.proofs.Blocks.{from}
@@ -86,7 +86,7 @@ module _ (src : List ℕ) where
     walk zero at done room b l (next-end k) = tt
     walk (suc fuel) at done room b l (next-surface k m f r e) =
         subst (λ (z : ℕ). All Inside (surface-tests z (surface-at src at (r .layers) ∷ r .surfaces))) (sym (add-zero at))
-        (omega arith, walk fuel (at + 7) (suc done) _ (bend (value (float src (at + 1))) (value (float src (at + 5)))) (omega arith) (next src (at + 7) (suc done) _ r e))
+        (omega arith, walk fuel (at + 7) (suc done) _ (snell-size (value (float src (at + 1))) (value (float src (at + 5)))) (omega arith) (next src (at + 7) (suc done) _ r e))
     walk (suc fuel) at done room b l (next-layer k m f r e) =
         subst (λ (z : ℕ). All Inside (layer-tests b at (layer-at src at ∷ r .layers) ++ surface-tests z (r .surfaces))) (sym (one-on at (length (r .layers))))
         (omega arith, walk fuel (at + 7) done (room - 1) b (omega arith) (next src (at + 7) done (room - 1) r e))

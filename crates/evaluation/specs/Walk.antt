@@ -15,7 +15,7 @@ use Rattle.evaluation.specs.declared.Evaluation.{Evaluation}
 use Rattle.evaluation.specs.declared.Evaluation.the-variants as E
 use Rattle.evaluation.specs.declared.Pending.{Pending}
 
--- the outcome that an Evaluation stands for
+-- document 01's number and values for each case
 abbrev pub outcome : Evaluation → Outcome CoatingResponse
 outcome (E.Response r) = answer r
 outcome (E.Refused r) = refused r
@@ -34,7 +34,7 @@ abbrev pub no-product : Product
 no-product = record { m11 = zero; m12 = zero; m21 = zero; m22 = zero }
 
 abbrev pub no-stack : Declared.Stack
-no-stack = record { «n_incident» = zero-f; «n_substrate» = zero-f; «cos_theta0» = zero-f; side = zero-f; «wavelength_nm» = zero-f; s = no-product; p = no-product }
+no-stack = record { «n_incident» = zero-f; «n_substrate» = zero-f; «cos_theta0» = zero-f; snell = zero-f; «wavelength_nm» = zero-f; s = no-product; p = no-product }
 
 -- one layer more
 unfoldable pub step : Pending → ThinFilmLayer → Pending

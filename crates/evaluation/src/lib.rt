@@ -40,7 +40,7 @@ pub fn settled(answer: Evaluation) -> Pending
         n_incident: 0.0,
         n_substrate: 0.0,
         cos_theta0: 0.0,
-        side: 0.0,
+        snell: 0.0,
         wavelength_nm: 0.0,
         s: none,
         p: none,

@@ -8,16 +8,16 @@ use native.Mathlib.Omega.{arith}
 use lib.ListN.{length}
 use lib.Ieee.{Float}
 use Rattle.refusal.specs.Outcome.{Outcome, answer, refusal, map}
-use Rattle.limits.specs.Limits.{beam-passes, bend, layer-within, surface-passes}
+use Rattle.limits.specs.Limits.{beam-passes, snell-size, layer-within, surface-passes}
 use Rattle.transfer_matrix.specs.declared.ThinFilmLayer.{ThinFilmLayer}
-use Rattle.limits.specs.declared.Surface as Window
+use Rattle.limits.specs.declared.Surface as Value
 use Rattle.sheet.specs.Sheet.{Sheet}
 use Rattle.sheet.specs.Words.{word, count, kind, float}
 use Rattle.sheet.specs.Read.{Result, read, fault, Rest, layer-at, surface-at, decode}
 use Rattle.sheet.specs.Scan.{counted}
 use Rattle.sheet.proofs.Scan.{left, never}
 use Rattle.sheet.proofs.Blocks.{Next, next-surface, next-layer, next-end, next, begins}
-use Rattle.sheet_values.specs.Values.{value, film, window}
+use Rattle.sheet_values.specs.Values.{value, film, surface-value}
 use Rattle.gate.specs.Gate.{Test, layer-tests, surface-tests, tests, judged, within-limits, surfaces-of}
 
 -- the tests from a place on: LAYERs for an n_incident·abs(sin) of b, then SURFACEs
@@ -34,11 +34,11 @@ pub record Past (src : List ℕ) (n at : ℕ) (b b′ : Float) (r : Rest) (passe
   pub reads : left src (at + 7) done room ≡ read rest
   pub judges : judged n (from b at r) ≡ cond passes (judged n (from b′ (at + 7) rest)) (refusal 6 at)
 
-abbrev bend-at : List ℕ → ℕ → Float
-bend-at src at = bend (value (float src (at + 1))) (value (float src (at + 5)))
+abbrev snell-at : List ℕ → ℕ → Float
+snell-at src at = snell-size (value (float src (at + 1))) (value (float src (at + 5)))
 
 module _ (src : List ℕ) (n at done room : ℕ) (b : Float) where
-  at-surface : (r : Rest) → Next src at done room r → kind (word src at) ≡ 3 → Past src n at b (bend-at src at) r (surface-passes (window (surface-at src at [])))
+  at-surface : (r : Rest) → Next src at done room r → kind (word src at) ≡ 3 → Past src n at b (snell-at src at) r (surface-passes (surface-value (surface-at src at [])))
   unfolding layer-tests surface-tests judged
   at-surface _ (next-surface k h f r e) t = record {
     inside = h;
@@ -74,7 +74,7 @@ module _ (src : List ℕ) (n at done room : ℕ) (b : Float) where
   at-end _ (next-end k) s l = refl
 
   module _ (r : Rest) (e : left src at done room ≡ read r) where
-    pub past-surface : kind (word src at) ≡ 3 → Past src n at b (bend-at src at) r (surface-passes (window (surface-at src at [])))
+    pub past-surface : kind (word src at) ≡ 3 → Past src n at b (snell-at src at) r (surface-passes (surface-value (surface-at src at [])))
     past-surface = at-surface r (next src at done room r e)
 
     pub past-layer : kind (word src at) ≡ 4 → Past src n at b b r (layer-within b (film (layer-at src at)))
@@ -157,8 +157,8 @@ module _ (src : List ℕ) (n : ℕ) (h : counted (decode src) ≡ read n) (w s p
       record { done = 0; room = 0; rest = g .rest; reads = g .reads; judges = taken _ _ _ t _ (g .judges) test f }
 
 module _ (src : List ℕ) (n at : ℕ) (b : Float) (i : Left src n at b) (w : ℕ) (ew : w ≡ word src at) where
-  module _ (k : kind w ≡ 3) (s : Window.Surface) (es : s ≡ window (surface-at src at [])) (t : Bool) (et : t ≡ surface-passes s) where
-    passed : Past src n at b (bend-at src at) (i .rest) (surface-passes (window (surface-at src at [])))
+  module _ (k : kind w ≡ 3) (s : Value.Surface) (es : s ≡ surface-value (surface-at src at [])) (t : Bool) (et : t ≡ surface-passes s) where
+    passed : Past src n at b (snell-at src at) (i .rest) (surface-passes (surface-value (surface-at src at [])))
     passed = past-surface src n at (i .done) (i .room) b (i .rest) (i .reads) (sym (ap kind ew) ∙ k)
 
     pub surface-fails : t ≡ false → refusal 6 at ≡ result src
@@ -167,9 +167,9 @@ module _ (src : List ℕ) (n at : ℕ) (b : Float) (i : Left src n at b) (w : �
     pub surface-inside : at + 7 ≤ count src
     surface-inside = passed .inside
 
-    pub surface-holds : t ≡ true → (b′ : Float) → b′ ≡ bend (s .«n_incident») (s .«angle_rad») → Left src n (at + 7) b′
+    pub surface-holds : t ≡ true → (b′ : Float) → b′ ≡ snell-size (s .«n_incident») (s .«angle_rad») → Left src n (at + 7) b′
     surface-holds f b′ e =
-        rw (e ∙ ap (λ (z : Window.Surface). bend (z .«n_incident») (z .«angle_rad»)) es)
+        rw (e ∙ ap (λ (z : Value.Surface). snell-size (z .«n_incident») (z .«angle_rad»)) es)
         record { done = passed .done; room = passed .room; rest = passed .rest; reads = passed .reads; judges = taken _ _ _ t _ (passed .judges) (et ∙ ap surface-passes es) f ∙ i .judges }
 
   module _ (k : kind w ≡ 4) (l : ThinFilmLayer) (el : l ≡ film (layer-at src at)) (t : Bool) (et : t ≡ layer-within b l) where

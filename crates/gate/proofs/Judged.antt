@@ -10,9 +10,9 @@ use lib.Ieee.Bits.{is-true}
 use lib.Ieee.Fits.{and-l, and-r, and-i}
 use Rattle.ieee.proofs.Signs.{of-true}
 use Rattle.refusal.specs.Outcome.{Outcome, answer, refusal}
-use Rattle.limits.specs.Limits.{bend, layer-within, layers-within, surface-passes, passes}
+use Rattle.limits.specs.Limits.{snell-size, layer-within, layers-within, surface-passes, passes}
 use Rattle.sheet.specs.Sheet.{Layer, Surface, Sheet, All}
-use Rattle.sheet_values.specs.Values.{value, film, films, window}
+use Rattle.sheet_values.specs.Values.{value, film, films, surface-value}
 use Rattle.gate.specs.Gate.{Test, layer-tests, surface-tests, tests, judged}
 use Rattle.gate.specs.Claim.{Within}
 
@@ -75,14 +75,14 @@ passed-layers b at (l ∷ ls) h = and-i (layer-within b (film l)) _ (of-true _ (
 
 module _ (w : Float) where
   abbrev Good : Surface → Type 0
-  Good y = T (passes w (window y) (films (y .layers)))
+  Good y = T (passes w (surface-value y) (films (y .layers)))
 
   surfaces-passed : (at : ℕ) (xs : List Surface) → All Good xs → Passed (surface-tests at xs)
   unfolding surface-tests passes
   surfaces-passed at [] h = tt
   surfaces-passed at (x ∷ xs) h =
-      let s = surface-passes (window x) in
-      let b = bend (value (x .n-incident)) (value (x .angle)) in
+      let s = surface-passes (surface-value x) in
+      let b = snell-size (value (x .n-incident)) (value (x .angle)) in
       let next = at + 7 + 7 * length (x .layers) in
       (is-true s (and-l s _ (h .0)), both (layer-tests b (at + 7) (x .layers)) (surface-tests next xs) (layers-passed b (at + 7) (x .layers) (and-r s _ (h .0))) (surfaces-passed next xs (h .1)))
 
@@ -90,10 +90,10 @@ module _ (w : Float) where
   unfolding surface-tests passes
   passed-surfaces at [] h = tt
   passed-surfaces at (x ∷ xs) h =
-      let b = bend (value (x .n-incident)) (value (x .angle)) in
+      let b = snell-size (value (x .n-incident)) (value (x .angle)) in
       let next = at + 7 + 7 * length (x .layers) in
       let p = part (layer-tests b (at + 7) (x .layers)) (surface-tests next xs) (h .1) in
-      (and-i (surface-passes (window x)) _ (of-true _ (h .0)) (passed-layers b (at + 7) (x .layers) (p .0)), passed-surfaces next xs (p .1))
+      (and-i (surface-passes (surface-value x)) _ (of-true _ (h .0)) (passed-layers b (at + 7) (x .layers) (p .0)), passed-surfaces next xs (p .1))
 
 pub within-passed : (x : Sheet) → Within x → Passed (tests x)
 unfolding tests

@@ -6,7 +6,7 @@ use lib.ListN.{length}
 use lib.Ieee.{Float}
 use Rattle.sheet.specs.Sheet.{Layer, Surface, Sheet, layer-places, surface-places, places}
 use Rattle.sheet_values.specs.Values.{value}
-use Rattle.limits.specs.Limits.{bend}
+use Rattle.limits.specs.Limits.{snell-size}
 use Rattle.gate.specs.Gate.{Test, layer-tests, surface-tests, tests}
 use Rattle.gate.specs.Claim.{tested}
 
@@ -24,7 +24,7 @@ surfaces : (at : ℕ) (xs : List Surface) → tested (surface-tests at xs) ++ (e
 unfolding surface-tests surface-places end
 surfaces at [] = refl
 surfaces at (x ∷ xs) =
-    let ls = layer-tests (bend (value (x .n-incident)) (value (x .angle))) (at + 7) (x .layers) in
+    let ls = layer-tests (snell-size (value (x .n-incident)) (value (x .angle))) (at + 7) (x .layers) in
     let rest = surface-tests (at + 7 + 7 * length (x .layers)) xs in
     let e = end (at + 7 + 7 * length (x .layers)) xs ∷ [] in
     ap (_∷_ at) (ap (λ (l : List ℕ). l ++ e) (map-append (λ (t : Test). t .at) ls rest) ∙ append-assoc (tested ls) (tested rest) e ∙ ap (λ (l : List ℕ). l ++ (tested rest ++ e)) (layers _ (at + 7) (x .layers)) ∙ ap (λ (l : List ℕ). layer-places (at + 7) (x .layers) ++ l) (surfaces _ xs))

@@ -10,13 +10,13 @@ use Rattle.refusal.specs.Outcome.{answer, refusal}
 use Rattle.limits.specs.Limits.{beam-passes, passes}
 use Rattle.sheet.specs.Sheet.{Surface, Sheet, All, WellFormed, encode, places}
 use Rattle.sheet.specs.Claim.{_⇔_, Bytes, length-fits, Fault}
-use Rattle.sheet_values.specs.Values.{value, films, window}
+use Rattle.sheet_values.specs.Values.{value, films, surface-value}
 use Rattle.gate.specs.Gate.{Test, tests, gated}
 
 -- ---- section 3: the BEAM, and each surface with its layers at the BEAM's wavelength
 pub record Within (x : Sheet) : Type 0 where
   pub beam : T (beam-passes (value (x .wavelength)) (value (x .s)) (value (x .p)))
-  pub surfaces : All (λ (y : Surface). T (passes (value (x .wavelength)) (window y) (films (y .layers)))) (x .surfaces)
+  pub surfaces : All (λ (y : Surface). T (passes (value (x .wavelength)) (surface-value y) (films (y .layers)))) (x .surfaces)
 
 -- the first BEAM, SURFACE or LAYER outside stands at a place
 pub record FirstOutside (x : Sheet) (place : ℕ) : Type 0 where

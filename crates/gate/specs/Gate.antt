@@ -6,11 +6,11 @@ use Prim.Native.Nat.{ℕ, _+_, _*_}
 use lib.ListN.{length}
 use lib.Ieee.{Float}
 use Rattle.refusal.specs.Outcome.{Outcome, answer, refusal, refused, map}
-use Rattle.limits.specs.Limits.{beam-passes, bend, layer-within, surface-passes}
+use Rattle.limits.specs.Limits.{beam-passes, snell-size, layer-within, surface-passes}
 use Rattle.sheet.specs.Sheet.{Layer, Surface, Sheet}
 use Rattle.sheet.specs.Read.{Result, read, fault, decode}
 use Rattle.sheet.specs.Claim.{length-fits}
-use Rattle.sheet_values.specs.Values.{value, film, window}
+use Rattle.sheet_values.specs.Values.{value, film, surface-value}
 use Rattle.gate.specs.declared.Gated.{Gated}
 use Rattle.gate.specs.declared.Gated.the-variants as G
 
@@ -29,8 +29,8 @@ layer-tests b at (l ∷ ls) = record { at = at; passes = layer-within b (film l)
 unfoldable pub surface-tests : ℕ → List Surface → List Test
 surface-tests at [] = []
 surface-tests at (x ∷ xs) =
-    record { at = at; passes = surface-passes (window x) }
-    ∷ (layer-tests (bend (value (x .n-incident)) (value (x .angle))) (at + 7) (x .layers) ++ surface-tests (at + 7 + 7 * length (x .layers)) xs)
+    record { at = at; passes = surface-passes (surface-value x) }
+    ∷ (layer-tests (snell-size (value (x .n-incident)) (value (x .angle))) (at + 7) (x .layers) ++ surface-tests (at + 7 + 7 * length (x .layers)) xs)
 
 -- the BEAM at word 1, and the SURFACEs from word 8 on
 unfoldable pub tests : Sheet → List Test
@@ -46,7 +46,7 @@ abbrev pub within-limits : Result Sheet → Outcome Sheet
 within-limits (read x) = judged x (tests x)
 within-limits (fault place) = refusal 5 place
 
--- the sheet that some bytes hold, if it is admitted
+-- 01's gate: the sheet that some bytes hold, if it is admitted; 4, then 5, then 6 over the whole sheet
 unfoldable pub gated : List ℕ → Outcome Sheet
 gated src = cond (length-fits src) (within-limits (decode src)) (refusal 4 0)
 

@@ -43,7 +43,7 @@ fn limits(src: &[u8], count: u32) -> Gated
         return outside(1);
     }
     let mut at = 8;
-    let mut bend = 0.0;
+    let mut snell = 0.0;
     loop {
         let kind = sheet::word_from(src, at) / 0x1000_0000;
         if kind == 3 {
@@ -52,10 +52,10 @@ fn limits(src: &[u8], count: u32) -> Gated
             if !judgement.passes {
                 return outside(at);
             }
-            bend = judgement.bend;
+            snell = judgement.snell;
             at += 7;
         } else if kind == 4 {
-            if !limits::layer_within(bend, sheet_values::layer_at(src, at)) {
+            if !limits::layer_within(snell, sheet_values::layer_at(src, at)) {
                 return outside(at);
             }
             at += 7;

@@ -1,4 +1,4 @@
--- The layers of the preset coatings, at their constants: every limit but the bend holds of them, and it holds of all of them where it holds of the smallest index. Assumes nothing.
+-- The layers of the preset coatings, at their constants: every limit but that on n_incident·abs(sin) holds of them, and it holds of all of them where it holds of the smallest index. Assumes nothing.
 use mathlib.Core.Path.{_≡_, refl, sym, ap, _∙_}
 use Prim.Native.Nat.{ℕ, zero, suc}
 use mathlib.Core.Bool.{Bool, true, false, _&&_, cond, and-true}
@@ -18,14 +18,14 @@ use Rattle.thin_film.specs.Coating.{standard-wavelength, n-mgf2, mgf2-layers, m
 use Rattle.preset_layers.specs.Layers.{n-sio2, n-tio2, quarter-wave, broadband-layers, bragg-layers}
 use Rattle.limits.specs.declared.Interface.the-variants.{Bare, Coated}
 use Rattle.limits.specs.Coating.{interface, preset-layers}
-use Rattle.limits.specs.Limits.{hundred-thousand, within, bends, layer-within, layers-within}
+use Rattle.limits.specs.Limits.{hundred-thousand, within, refracts, layer-within, layers-within}
 
 -- ---- one layer
 zero-same : eq zero-f zero-f ≡ true
 unfolding eq ofBits
 zero-same = refl
 
-layer-is : (b n d : Float) → T (within one four n) → T (within zero-f hundred-thousand d) → layer-within b (dielectric n d) ≡ bends b n
+layer-is : (b n d : Float) → T (within one four n) → T (within zero-f hundred-thousand d) → layer-within b (dielectric n d) ≡ refracts b n
 unfolding layer-within dielectric
 layer-is b n d h g = simp (is-true (within one four n) h, zero-same, is-true (within zero-f hundred-thousand d) g)
 
@@ -54,7 +54,7 @@ tio2-in : In 2 0 5 1 n-tio2
 unfolding ofBits
 tio2-in = in-lit n-tio2 tt
 
-steeper : (b : Float) → T (bends b n-sio2) → T (bends b n-tio2)
+steeper : (b : Float) → T (refracts b n-sio2) → T (refracts b n-tio2)
 steeper b = le-up {a = 7} {i = 3} {p = 21} {j = 4} {b = 7} {k = 2} {q = 35} {l = 4} b (mul-in slope-in sio2-in tt) (mul-in slope-in tio2-in tt) tt
 
 -- ---- the lists
@@ -70,9 +70,9 @@ quarter-tio2 : T (within zero-f hundred-thousand (quarter-wave standard-waveleng
 unfolding within le ofBits mul div round
 quarter-tio2 = tt
 
-mgf2-is : (b : Float) → layers-within b (mgf2-layers standard-wavelength) ≡ bends b n-mgf2
+mgf2-is : (b : Float) → layers-within b (mgf2-layers standard-wavelength) ≡ refracts b n-mgf2
 unfolding layers-within mgf2-layers
-mgf2-is b = ap (λ (x : Bool). x && true) (layer-is b n-mgf2 (quarter-wave standard-wavelength n-mgf2) mgf2-within quarter-mgf2) ∙ and-true (bends b n-mgf2)
+mgf2-is b = ap (λ (x : Bool). x && true) (layer-is b n-mgf2 (quarter-wave standard-wavelength n-mgf2) mgf2-within quarter-mgf2) ∙ and-true (refracts b n-mgf2)
 
 -- the thicknesses 88, 112, 32 and 15
 broadband-thin : T (within zero-f hundred-thousand (ofBits binary64 0x4056_0000_0000_0000)) × T (within zero-f hundred-thousand (ofBits binary64 0x405C_0000_0000_0000)) × T (within zero-f hundred-thousand (ofBits binary64 0x4040_0000_0000_0000)) × T (within zero-f hundred-thousand (ofBits binary64 0x402E_0000_0000_0000))
@@ -84,25 +84,25 @@ alternate true true h = refl
 alternate true false h = absurd (h tt)
 alternate false b h = refl
 
-broadband-is : (b : Float) → layers-within b broadband-layers ≡ bends b n-sio2
+broadband-is : (b : Float) → layers-within b broadband-layers ≡ refracts b n-sio2
 unfolding layers-within broadband-layers
 broadband-is b =
     simp (layer-is b n-sio2 (ofBits binary64 0x4056_0000_0000_0000) sio2-within (broadband-thin .0), layer-is b n-tio2 (ofBits binary64 0x405C_0000_0000_0000) tio2-within (broadband-thin .1), layer-is b n-sio2 (ofBits binary64 0x4040_0000_0000_0000) sio2-within (broadband-thin .2), layer-is b n-tio2 (ofBits binary64 0x402E_0000_0000_0000) tio2-within (broadband-thin .3))
-    (alternate (bends b n-sio2) (bends b n-tio2) (steeper b))
+    (alternate (refracts b n-sio2) (refracts b n-tio2) (steeper b))
 
 -- (H L)^pairs H
-high-is : (b : Float) → layer-within b (dielectric n-tio2 (quarter-wave standard-wavelength n-tio2)) ≡ bends b n-tio2
+high-is : (b : Float) → layer-within b (dielectric n-tio2 (quarter-wave standard-wavelength n-tio2)) ≡ refracts b n-tio2
 high-is b = layer-is b n-tio2 (quarter-wave standard-wavelength n-tio2) tio2-within quarter-tio2
 
-low-is : (b : Float) → layer-within b (dielectric n-sio2 (quarter-wave standard-wavelength n-sio2)) ≡ bends b n-sio2
+low-is : (b : Float) → layer-within b (dielectric n-sio2 (quarter-wave standard-wavelength n-sio2)) ≡ refracts b n-sio2
 low-is b = layer-is b n-sio2 (quarter-wave standard-wavelength n-sio2) sio2-within quarter-sio2
 
-all-pass : (n : ℕ) (b : Float) → T (bends b n-sio2) → T (layers-within b (bragg-layers n-tio2 n-sio2 n standard-wavelength))
+all-pass : (n : ℕ) (b : Float) → T (refracts b n-sio2) → T (layers-within b (bragg-layers n-tio2 n-sio2 n standard-wavelength))
 unfolding layers-within bragg-layers
-all-pass zero b t = simp (high-is b) (and-i (bends b n-tio2) true (steeper b t) tt)
+all-pass zero b t = simp (high-is b) (and-i (refracts b n-tio2) true (steeper b t) tt)
 all-pass (suc n) b t =
     let rest = layers-within b (bragg-layers n-tio2 n-sio2 n standard-wavelength) in
-    simp (high-is b, low-is b) (and-i (bends b n-tio2) (bends b n-sio2 && rest) (steeper b t) (and-i (bends b n-sio2) rest t (all-pass n b t)))
+    simp (high-is b, low-is b) (and-i (refracts b n-tio2) (refracts b n-sio2 && rest) (steeper b t) (and-i (refracts b n-sio2) rest t (all-pass n b t)))
 
 decided : (a b x : Bool) → (T a → T b) → (T a → T x) → (b && (a && x)) ≡ a
 decided true true true h g = refl
@@ -111,24 +111,24 @@ decided true false x h g = absurd (h tt)
 decided false true x h g = refl
 decided false false x h g = refl
 
-pairs-is : (n : ℕ) (b : Float) → layers-within b (bragg-layers n-tio2 n-sio2 (suc n) standard-wavelength) ≡ bends b n-sio2
+pairs-is : (n : ℕ) (b : Float) → layers-within b (bragg-layers n-tio2 n-sio2 (suc n) standard-wavelength) ≡ refracts b n-sio2
 unfolding layers-within bragg-layers
-pairs-is n b = simp (high-is b, low-is b) (decided (bends b n-sio2) (bends b n-tio2) (layers-within b (bragg-layers n-tio2 n-sio2 n standard-wavelength)) (steeper b) (all-pass n b))
+pairs-is n b = simp (high-is b, low-is b) (decided (refracts b n-sio2) (refracts b n-tio2) (layers-within b (bragg-layers n-tio2 n-sio2 n standard-wavelength)) (steeper b) (all-pass n b))
 
 -- ---- by code
 module _ (b : Float) (code : ℕ) where
   abbrev presets : ℕ → Bool
   presets k = layers-within b (preset-layers (interface k))
 
-  pub at-mgf2 : code ≡ 2 → bends b n-mgf2 ≡ layers-within b (preset-layers (interface code))
+  pub at-mgf2 : code ≡ 2 → refracts b n-mgf2 ≡ layers-within b (preset-layers (interface code))
   unfolding interface layers-of
   at-mgf2 e = sym (ap presets e ∙ mgf2-is b)
 
-  pub at-broadband : code ≡ 3 → bends b n-sio2 ≡ layers-within b (preset-layers (interface code))
+  pub at-broadband : code ≡ 3 → refracts b n-sio2 ≡ layers-within b (preset-layers (interface code))
   unfolding interface layers-of
   at-broadband e = sym (ap presets e ∙ broadband-is b)
 
-  pub at-mirror : code ≡ 4 → bends b n-sio2 ≡ layers-within b (preset-layers (interface code))
+  pub at-mirror : code ≡ 4 → refracts b n-sio2 ≡ layers-within b (preset-layers (interface code))
   unfolding interface layers-of mirror-layers
   at-mirror e = sym (ap presets e ∙ pairs-is 6 b)
 

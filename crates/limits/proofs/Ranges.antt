@@ -18,10 +18,10 @@ use Rattle.ieee.proofs.Range.Constants.{one-in}
 use Rattle.trig.specs.Trig.{sin, cos}
 use Rattle.trig.proofs.TrigBounds.{sin-mag, cos-mag}
 use Rattle.transfer_matrix.specs.declared.ThinFilmLayer.{ThinFilmLayer}
-use Rattle.solver_bounds.specs.Solver.{Bends, AdmittedLayer, AdmittedLayers}
+use Rattle.solver_bounds.specs.Solver.{Refracts, AdmittedLayer, AdmittedLayers}
 use Rattle.limits.specs.declared.Surface.{Surface}
 use Rattle.limits.specs.Coating.{interface, preset-layers}
-use Rattle.limits.specs.Limits.{hundred, ten-thousand, hundred-thousand, within, wavelength-passes, bend, bends, layer-within, layers-within, layer-passes, layers-pass, angle-passes, surface-passes}
+use Rattle.limits.specs.Limits.{hundred, ten-thousand, hundred-thousand, within, wavelength-passes, snell-size, refracts, layer-within, layers-within, layer-passes, layers-pass, angle-passes, surface-passes}
 
 -- ---- the ends
 four-in : In 4 0 4 0 four
@@ -66,8 +66,8 @@ unfolding within
 wavelength-in x t = gate-in hundred ten-thousand x hundred-in ten-thousand-in wave-ends (and-l (le hundred x) (le x ten-thousand) t) (and-r (le hundred x) (le x ten-thousand) t)
 
 -- n_incident·abs(sin) is the size of n_incident·sin
-bends-in : (n0 angle n : Float) → In 1 0 4 0 n0 → T (finite angle) → T (bends (bend n0 angle) n) → Bends (n0 ⊗ sin angle) n
-bends-in n0 angle n h f t = subst (λ (z : Float). T (le z (seven-eighths ⊗ n))) (sym (abs-mul n0 (sin angle) (h .sign) (sin-mag angle f .fine))) t
+refracts-in : (n0 angle n : Float) → In 1 0 4 0 n0 → T (finite angle) → T (refracts (snell-size n0 angle) n) → Refracts (n0 ⊗ sin angle) n
+refracts-in n0 angle n h f t = subst (λ (z : Float). T (le z (seven-eighths ⊗ n))) (sym (abs-mul n0 (sin angle) (h .sign) (sin-mag angle f .fine))) t
 
 -- ---- the layers
 layer-in : (n0 angle : Float) (layer : ThinFilmLayer) → In 1 0 4 0 n0 → T (finite angle) → T (layer-passes n0 angle layer) → AdmittedLayer (n0 ⊗ sin angle) layer
@@ -76,7 +76,7 @@ layer-in n0 angle layer h f t =
     let A = within one four (layer .n) in
     let B = eq (layer .k) zero-f in
     let C = within zero-f hundred-thousand (layer .«thickness_nm») in
-    let D = bends (bend n0 angle) (layer .n) in
+    let D = refracts (snell-size n0 angle) (layer .n) in
     let t₁ = and-r A (B && (C && D)) t in
     let t₂ = and-r B (C && D) t₁ in
     let c = and-l C D t₂ in
@@ -85,7 +85,7 @@ layer-in n0 angle layer h f t =
       index = index-in (layer .n) (and-l A (B && (C && D)) t);
       lossless = equals-zero (layer .k) (and-l B (C && D) t₁);
       thickness = from-zero d hundred-thousand hundred-thousand-in (and-l (le zero-f d) (le d hundred-thousand) c) (and-r (le zero-f d) (le d hundred-thousand) c);
-      bends = bends-in n0 angle (layer .n) h f (and-r C D t₂);
+      refracts = refracts-in n0 angle (layer .n) h f (and-r C D t₂);
     }
 
 pub layers-in : (n0 angle : Float) (layers : List ThinFilmLayer) → In 1 0 4 0 n0 → T (finite angle) → T (layers-pass n0 angle layers) → AdmittedLayers (n0 ⊗ sin angle) layers
@@ -99,7 +99,7 @@ pub record Inside (s : Surface) : Type 0 where
   pub substrate : In 1 0 4 0 (s .«n_substrate»)
   pub finite-angle : T (finite (s .«angle_rad»))
   pub cosine : In 1 2 1 0 (cos (s .«angle_rad»))
-  pub bent : Bends (s .«n_incident» ⊗ sin (s .«angle_rad»)) (s .«n_substrate»)
+  pub bent : Refracts (s .«n_incident» ⊗ sin (s .«angle_rad»)) (s .«n_substrate»)
   pub presets : T (layers-pass (s .«n_incident») (s .«angle_rad») (preset-layers (interface (s .coating))))
 
 pub surface-in : (s : Surface) → T (surface-passes s) → Inside s
@@ -111,7 +111,7 @@ surface-in s t =
     let B = within one four (s .«n_substrate») in
     let C = finite angle in
     let D = le quarter (cos angle) in
-    let E = bends (bend n0 angle) (s .«n_substrate») in
+    let E = refracts (snell-size n0 angle) (s .«n_substrate») in
     let F = layers-pass n0 angle (preset-layers (interface (s .coating))) in
     let t₁ = and-r A (B && (C && (D && (E && F)))) t in
     let t₂ = and-r B (C && (D && (E && F))) t₁ in
@@ -124,6 +124,6 @@ surface-in s t =
       substrate = index-in (s .«n_substrate») (and-l B (C && (D && (E && F))) t₁);
       finite-angle = fine;
       cosine = gate-least quarter (cos angle) quarter-in (cos-mag angle fine) quarter-positive (and-l D (E && F) t₃);
-      bent = bends-in n0 angle (s .«n_substrate») incident fine (and-l E F t₄);
+      bent = refracts-in n0 angle (s .«n_substrate») incident fine (and-l E F t₄);
       presets = and-r E F t₄;
     }

@@ -38,43 +38,43 @@ unfoldable pub beam-passes : Float → Float → Float → Bool
 beam-passes wavelength s p = wavelength-passes wavelength && (power-passes s && power-passes p)
 
 -- ---- n_incident·abs(sin), and that it is at most 0.875·n
-abbrev pub bend : Float → Float → Float
-bend n-incident angle = n-incident ⊗ abs (sin angle)
+abbrev pub snell-size : Float → Float → Float
+snell-size n-incident angle = n-incident ⊗ abs (sin angle)
 
-abbrev pub bends : Float → Float → Bool
-bends b n = le b (seven-eighths ⊗ n)
+abbrev pub refracts : Float → Float → Bool
+refracts b n = le b (seven-eighths ⊗ n)
 
 -- ---- a layer, for an n_incident·abs(sin) of b: n 1 to 4, k equal to zero, thickness 0 to 100,000, b at most 0.875·n
 unfoldable pub layer-within : Float → ThinFilmLayer → Bool
-layer-within b layer = within one four (layer .n) && (eq (layer .k) zero-f && (within zero-f hundred-thousand (layer .«thickness_nm») && bends b (layer .n)))
+layer-within b layer = within one four (layer .n) && (eq (layer .k) zero-f && (within zero-f hundred-thousand (layer .«thickness_nm») && refracts b (layer .n)))
 
 unfoldable pub layers-within : Float → List ThinFilmLayer → Bool
 layers-within b [] = true
 layers-within b (layer ∷ layers) = layer-within b layer && layers-within b layers
 
 abbrev pub layer-passes : Float → Float → ThinFilmLayer → Bool
-layer-passes n-incident angle layer = layer-within (bend n-incident angle) layer
+layer-passes n-incident angle layer = layer-within (snell-size n-incident angle) layer
 
 abbrev pub layers-pass : Float → Float → List ThinFilmLayer → Bool
-layers-pass n-incident angle layers = layers-within (bend n-incident angle) layers
+layers-pass n-incident angle layers = layers-within (snell-size n-incident angle) layers
 
 -- ---- a SURFACE without its LAYERs, from b = n_incident·abs(sin) and c = cos: both indices 1 to 4; angle finite with cos at least 0.25;
 -- n_incident·abs(sin) at most 0.875·n_substrate; preset layers too
 abbrev pub angle-within : Float → Float → Surface → Bool
-angle-within b c s = le quarter c && (bends b (s .«n_substrate») && layers-within b (preset-layers (interface (s .coating))))
+angle-within b c s = le quarter c && (refracts b (s .«n_substrate») && layers-within b (preset-layers (interface (s .coating))))
 
 abbrev pub surface-within : Float → Float → Surface → Bool
 surface-within b c s = within one four (s .«n_incident») && (within one four (s .«n_substrate») && (finite (s .«angle_rad») && angle-within b c s))
 
 unfoldable pub angle-passes : Surface → Bool
-angle-passes s = angle-within (bend (s .«n_incident») (s .«angle_rad»)) (cos (s .«angle_rad»)) s
+angle-passes s = angle-within (snell-size (s .«n_incident») (s .«angle_rad»)) (cos (s .«angle_rad»)) s
 
 unfoldable pub surface-passes : Surface → Bool
 surface-passes s = within one four (s .«n_incident») && (within one four (s .«n_substrate») && (finite (s .«angle_rad») && angle-passes s))
 
 -- both that a surface passes and its n_incident·abs(sin), for its LAYERs
 abbrev pub judgement : Surface → Judgement
-judgement s = record { passes = surface-passes s; bend = bend (s .«n_incident») (s .«angle_rad») }
+judgement s = record { passes = surface-passes s; snell = snell-size (s .«n_incident») (s .«angle_rad») }
 
 -- ---- a SURFACE with its LAYERs at the wavelength that it is met with, on which none of these limits depends
 unfoldable pub passes : Float → Surface → List ThinFilmLayer → Bool

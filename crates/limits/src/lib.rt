@@ -60,53 +60,53 @@ pub fn beam_passes(wavelength_nm: f64, s: f64, p: f64) -> bool
     within(100.0, 10000.0, wavelength_nm) && (within(0.0, 1.0, s) && within(0.0, 1.0, p))
 }
 
-// A layer, for light that leans so far.
-pub fn layer_within(bend: f64, layer: ThinFilmLayer) -> bool
-    ensures { λ r. ⌜ r ≡ layer-within bend layer ⌝ }
+// A layer, for an n_incident * abs(sin) of snell.
+pub fn layer_within(snell: f64, layer: ThinFilmLayer) -> bool
+    ensures { λ r. ⌜ r ≡ layer-within snell layer ⌝ }
 {
     within(1.0, 4.0, layer.n)
         && (layer.k == 0.0
-            && (within(0.0, 100000.0, layer.thickness_nm) && bend <= 0.875 * layer.n))
+            && (within(0.0, 100000.0, layer.thickness_nm) && snell <= 0.875 * layer.n))
 }
 
-// The layers of a preset coating. All that can fail is how far the light leans, and it fails first at
+// The layers of a preset coating. All that can fail is n_incident * abs(sin), and it fails first at
 // the smallest index, MgF2's or SiO2's.
-fn presets_within(bend: f64, coating: u32) -> bool
-    ensures { λ r. ⌜ r ≡ layers-within bend (preset-layers (interface coating)) ⌝ }
+fn presets_within(snell: f64, coating: u32) -> bool
+    ensures { λ r. ⌜ r ≡ layers-within snell (preset-layers (interface coating)) ⌝ }
 {
     if coating == 2 {
-        return bend <= 0.875 * 1.38;
+        return snell <= 0.875 * 1.38;
     }
     if coating == 3 {
-        return bend <= 0.875 * 1.46;
+        return snell <= 0.875 * 1.46;
     }
     if coating == 4 {
-        return bend <= 0.875 * 1.46;
+        return snell <= 0.875 * 1.46;
     }
     true
 }
 
-// The angle of a SURFACE, where it is finite: from how far the light leans, and its cosine.
-fn angle_within(bend: f64, cos: f64, surface: Surface) -> bool
-    ensures { λ r. ⌜ r ≡ angle-within bend cos surface ⌝ }
+// The angle of a SURFACE, where it is finite, from n_incident * abs(sin) and its cosine.
+fn angle_within(snell: f64, cos: f64, surface: Surface) -> bool
+    ensures { λ r. ⌜ r ≡ angle-within snell cos surface ⌝ }
 {
-    0.25 <= cos && (bend <= 0.875 * surface.n_substrate && presets_within(bend, surface.coating))
+    0.25 <= cos && (snell <= 0.875 * surface.n_substrate && presets_within(snell, surface.coating))
 }
 
-// A SURFACE without its LAYERs, from how far the light leans and the cosine of its angle; the layers of a
+// A SURFACE without its LAYERs, from n_incident * abs(sin) and the cosine of its angle; the layers of a
 // preset coating count as its own.
-fn surface_within(bend: f64, cos: f64, surface: Surface) -> bool
-    ensures { λ r. ⌜ r ≡ surface-within bend cos surface ⌝ }
+fn surface_within(snell: f64, cos: f64, surface: Surface) -> bool
+    ensures { λ r. ⌜ r ≡ surface-within snell cos surface ⌝ }
 {
     within(1.0, 4.0, surface.n_incident)
         && (within(1.0, 4.0, surface.n_substrate)
-            && (ieee::is_finite(surface.angle_rad) && angle_within(bend, cos, surface)))
+            && (ieee::is_finite(surface.angle_rad) && angle_within(snell, cos, surface)))
 }
 
-// Whether a SURFACE is within the limits, and how far its light leans, which those of its LAYERs ask for.
+// Whether a SURFACE is within the limits, and its n_incident * abs(sin), which those of its LAYERs ask for.
 pub struct Judgement {
     pub passes: bool,
-    pub bend: f64,
+    pub snell: f64,
 }
 
 // One sine and one cosine for all of a surface's limits.
@@ -114,9 +114,9 @@ pub fn judge_surface(surface: Surface) -> Judgement
     ensures { λ r. ⌜ r ≡ judgement surface ⌝ }
 {
     let theta = trig::sin_cos(surface.angle_rad);
-    let bend = surface.n_incident * ieee::abs(theta.sin);
+    let snell = surface.n_incident * ieee::abs(theta.sin);
     Judgement {
-        passes: surface_within(bend, theta.cos, surface),
-        bend,
+        passes: surface_within(snell, theta.cos, surface),
+        snell,
     }
 }

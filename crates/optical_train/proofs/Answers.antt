@@ -11,7 +11,7 @@ use Rattle.limits.specs.Limits.{wavelength-passes, beam-passes, passes}
 use Rattle.surface.specs.Finite.{Answered}
 use Rattle.surface.proofs.Finite.{every-surface-answered}
 use Rattle.sheet.specs.Sheet.{Layer, Surface, Sheet, All}
-use Rattle.sheet_values.specs.Values.{value, films, window, layers-at}
+use Rattle.sheet_values.specs.Values.{value, films, surface-value, layers-at}
 use Rattle.gate.specs.Claim.{Within}
 use Rattle.optical_train.specs.Train.{nth}
 
@@ -36,8 +36,8 @@ wavelength-within x h = and-l (wavelength-passes (value (x .wavelength))) _ (h .
 
 -- within the limits at a wavelength
 abbrev pub Good : Float → Surface → Type 0
-Good w y = T (passes w (window y) (films (y .layers)))
+Good w y = T (passes w (surface-value y) (films (y .layers)))
 
 -- a surface within the limits, with 16 LAYERs at the most
-pub answered : (w : Float) → T (wavelength-passes w) → (y : Surface) → Good w y → length (y .layers) ≤ 16 → Answered w (window y) (films (y .layers))
-answered w t y p h = every-surface-answered w (window y) (films (y .layers)) t p (omega (arith, films-length (y .layers)))
+pub answered : (w : Float) → T (wavelength-passes w) → (y : Surface) → Good w y → length (y .layers) ≤ 16 → Answered w (surface-value y) (films (y .layers))
+answered w t y p h = every-surface-answered w (surface-value y) (films (y .layers)) t p (omega (arith, films-length (y .layers)))

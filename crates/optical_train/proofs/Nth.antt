@@ -8,11 +8,11 @@ use lib.ListN.{length}
 use Rattle.refusal.specs.declared.Refusal.{Refusal}
 use Rattle.refusal.specs.Outcome.{answer, refusal, refused, map}
 use Rattle.transfer_matrix.specs.declared.ThinFilmLayer.{ThinFilmLayer}
-use Rattle.limits.specs.declared.Surface as Window
+use Rattle.limits.specs.declared.Surface as Value
 use Rattle.sheet.specs.Sheet.{Sheet}
 use Rattle.sheet.specs.Read.{read, decode, layer-at, surface-at}
 use Rattle.sheet.specs.Scan.{run}
-use Rattle.sheet_values.specs.Values.{film, window, layers-at}
+use Rattle.sheet_values.specs.Values.{film, surface-value, layers-at}
 use Rattle.sheet_answers.proofs.Behind as Behind
 use Rattle.gate.specs.Gate.{gate, gated}
 use Rattle.gate.proofs.Admitted.{admitted, turned-back}
@@ -41,7 +41,7 @@ module _ (src : List ℕ) (i : ℕ) where
     unfolding nth-surface
     no-surface-there h = sym (ap (map numbered) (none h))
 
-    pub surface-there : i < n → (at : ℕ) → Placed src i at → (s : Window.Surface) → s ≡ window (surface-at src at []) → (m : ℕ) → m ≡ run 16 src at → answer (record { surface = s; layers = m }) ≡ nth-surface src i
+    pub surface-there : i < n → (at : ℕ) → Placed src i at → (s : Value.Surface) → s ≡ surface-value (surface-at src at []) → (m : ℕ) → m ≡ run 16 src at → answer (record { surface = s; layers = m }) ≡ nth-surface src i
     unfolding nth-surface
     surface-there h at f s es m em =
         ap answer (λ k. record { surface = es k; layers = (em ∙ sym (layers-length src (at + 7) (run 16 src at))) k }) ∙ sym (ap (map numbered) (there h at f))

@@ -12,7 +12,7 @@ use Rattle.surface.specs.declared.Powers.{Powers}
 use Rattle.surface.specs.declared.Answers.{Answers}
 use Rattle.surface.specs.Answers.{answers, powers, no-answers}
 use Rattle.sheet.specs.Sheet.{Surface, Sheet}
-use Rattle.sheet_values.specs.Values.{value, films, window}
+use Rattle.sheet_values.specs.Values.{value, films, surface-value}
 use Rattle.gate.specs.Gate.{gated}
 use Rattle.optical_train.specs.declared.Chosen.{Chosen}
 use Rattle.optical_train.specs.declared.State.{State}
@@ -37,7 +37,7 @@ chosen-of reflected (answer r) = chosen reflected r
 chosen-of reflected (refusal number place) = record { s = nan; p = nan }
 
 unfoldable pub chosen-powers : Float → Surface → Chosen
-chosen-powers wavelength y = chosen-of (window y .reflected) (powers wavelength (window y) (films (y .layers)))
+chosen-powers wavelength y = chosen-of (surface-value y .reflected) (powers wavelength (surface-value y) (films (y .layers)))
 
 -- the i-th of some surfaces, counted from 0
 abbrev pub no-surface : Surface
@@ -103,7 +103,7 @@ surface-of i (refusal number place) = refusal number place
 
 -- its words, and how many LAYERs it has
 abbrev pub numbered : Surface → NumberedSurface
-numbered y = record { surface = window y; layers = length (y .layers) }
+numbered y = record { surface = surface-value y; layers = length (y .layers) }
 
 unfoldable pub nth-surface : List ℕ → ℕ → Outcome NumberedSurface
 nth-surface src i = map numbered (surface-of i (gated src))
@@ -132,7 +132,7 @@ layer-outcome (L.Refused r) = refused r
 abbrev pub answers-to : ℕ → Outcome Sheet → Outcome Answers
 answers-to i (answer x) =
     cond (ltb i (length (x .surfaces)))
-    (let y = nth (x .surfaces) i in answers (value (x .wavelength)) (window y) (films (y .layers)))
+    (let y = nth (x .surfaces) i in answers (value (x .wavelength)) (surface-value y) (films (y .layers)))
     (refusal 7 0)
 answers-to i (refusal number place) = refusal number place
 

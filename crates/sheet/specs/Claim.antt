@@ -16,10 +16,11 @@ infixr 1 _⇔_
 abbrev pub _⇔_ : Type 0 → Type 0 → Type 0
 A ⇔ B = (A → B) × (B → A)
 
+-- 01: any bytes of any length
 abbrev pub Bytes : List ℕ → Type 0
 Bytes src = All (λ (b : ℕ). b < 256) src
 
--- a multiple of 4, not under 36 and not over 30,500
+-- refusal 4 where it is not so: a multiple of 4, not under 36 and not over 30,500
 abbrev pub length-fits : List ℕ → Bool
 length-fits src = eqb (length src % 4) 0 && (leb 36 (length src) && leb (length src) 30500)
 

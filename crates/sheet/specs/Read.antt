@@ -43,7 +43,7 @@ follows total at w done room =
     (cond (is-end w done) (cond (eqb (at + 1) total) end (wrong (at + 1)))
     (wrong at)))
 
--- END missing: the word count
+-- refusal 5 where the block is wrong; END missing: the word count
 unfoldable pub found : List ℕ → ℕ → ℕ → ℕ → Follows
 found src at done room = cond (ltb at (count src)) (follows (count src) at (word src at) done room) (wrong at)
 

@@ -1,4 +1,4 @@
--- What the code's enums stand for, and small scans of a sheet's words. Definitions only.
+-- 01 section 1: what the code's enums stand for, and how many LAYERs follow a block. Definitions only.
 use mathlib.Core.Bool.{Bool, true, false, _&&_}
 use mathlib.Core.List.{List}
 use Prim.Native.Nat.{ℕ, zero, suc, _+_}

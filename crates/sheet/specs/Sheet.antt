@@ -21,7 +21,7 @@ pub record Surface : Type 0 where
   pub angle : ℕ
   pub layers : List Layer
 
--- BEAM: wavelength nm, s power, p power; and the SURFACEs
+-- 01's sheet. BEAM: wavelength nm, s power, p power; and the SURFACEs
 pub record Sheet : Type 0 where
   pub wavelength : ℕ
   pub s : ℕ
@@ -51,7 +51,7 @@ pub record GoodSurface (x : Surface) : Type 0 where
   pub few : length (x .layers) ≤ 16
   pub custom : (x .layers ≡ []) ⊎ (x .payload / 2 ≡ 5)
 
--- 0 to 64 SURFACEs
+-- 01's grammar, of the data: 0 to 64 SURFACEs
 pub record WellFormed (x : Sheet) : Type 0 where
   pub wavelength : Pattern (x .wavelength)
   pub s : Pattern (x .s)

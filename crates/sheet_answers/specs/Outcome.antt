@@ -1,4 +1,4 @@
--- The outcome that a reply stands for. Definitions only.
+-- Document 01's number and values for each case of a reply. Definitions only.
 use Rattle.refusal.specs.Outcome.{Outcome, answer, refused}
 use Rattle.surface.specs.declared.Powers.{Powers}
 use Rattle.sheet_answers.specs.declared.PowersReply.{PowersReply}

@@ -5,7 +5,7 @@ ghost use mathlib.Core.Path.{_≡_};
 ghost use mathlib.Core.List.{[]};
 ghost use Prim.Native.Nat.{_+_, _*_};
 ghost use Rattle.sheet.specs.Read.{layer-at, surface-at};
-ghost use Rattle.sheet_values.specs.Values.{film, films, window, layers-at};
+ghost use Rattle.sheet_values.specs.Values.{film, films, surface-value, layers-at};
 ghost use Rattle.transfer_matrix.specs.Stack.{steps};
 ghost use Rattle.coating.specs.declared.Coating.the-variants as C;
 ghost use Rattle.thin_film.specs.declared.SurfaceCoating.the-variants as S;
@@ -124,7 +124,7 @@ fn evaluate_at(
 
 // The powers of the surface at a place with the n LAYERs behind it.
 pub fn powers_at(src: &[u8], at: usize, n: usize, wavelength_nm: f64) -> PowersReply
-    ensures { λ r. ⌜ outcome-of r ≡ powers «wavelength_nm» (window (surface-at (now (src .entry)) at [])) (films (layers-at (now (src .entry)) (at + 7) n)) ⌝ }
+    ensures { λ r. ⌜ outcome-of r ≡ powers «wavelength_nm» (surface-value (surface-at (now (src .entry)) at [])) (films (layers-at (now (src .entry)) (at + 7) n)) ⌝ }
 {
     let surface = sheet_values::surface_at(src, at);
     match limits::interface_of(surface.coating) {
@@ -140,7 +140,7 @@ pub fn powers_at(src: &[u8], at: usize, n: usize, wavelength_nm: f64) -> PowersR
 
 // The answers of the surface at a place with the n LAYERs behind it.
 pub fn answers_at(src: &[u8], at: usize, n: usize, wavelength_nm: f64) -> AnswersReply
-    ensures { λ r. ⌜ r ≡ returned (answers «wavelength_nm» (window (surface-at (now (src .entry)) at [])) (films (layers-at (now (src .entry)) (at + 7) n))) ⌝ }
+    ensures { λ r. ⌜ r ≡ returned (answers «wavelength_nm» (surface-value (surface-at (now (src .entry)) at [])) (films (layers-at (now (src .entry)) (at + 7) n))) ⌝ }
 {
     let surface = sheet_values::surface_at(src, at);
     match limits::interface_of(surface.coating) {

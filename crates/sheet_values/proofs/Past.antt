@@ -6,7 +6,7 @@ use native.Mathlib.Omega.{arith}
 use borrow.Author.Tests.{le-ltb}
 use Rattle.sheet.specs.Words.{word, count, float}
 use Rattle.sheet.specs.Read.{layer-at, surface-at}
-use Rattle.sheet_values.specs.Values.{film, window}
+use Rattle.sheet_values.specs.Values.{film, surface-value}
 
 pub word-past : (src : List ℕ) (at : ℕ) → count src ≤ at → word src at ≡ 0
 unfolding word
@@ -17,7 +17,7 @@ unfolding float
 float-past src at i h = simp (word-past src (at + i) (omega arith), word-past src (at + i + 1) (omega arith))
 
 module _ (src : List ℕ) (at : ℕ) (h : count src ≤ at) where
-  pub surface-past : window (record { payload = 0; n-incident = 0; n-substrate = 0; angle = 0; layers = [] }) ≡ window (surface-at src at [])
+  pub surface-past : surface-value (record { payload = 0; n-incident = 0; n-substrate = 0; angle = 0; layers = [] }) ≡ surface-value (surface-at src at [])
   surface-past = simp (word-past src at h, float-past src at 1 h, float-past src at 3 h, float-past src at 5 h)
 
   pub layer-past : film (record { n = 0; k = 0; thickness = 0 }) ≡ film (layer-at src at)

@@ -21,8 +21,8 @@ films [] = []
 films (l ∷ ls) = film l ∷ films ls
 
 -- SURFACE: the lowest payload bit is 0 to follow the transmitted light, 1 the reflected; payload / 2 is the coating; n_incident, n_substrate, angle rad
-abbrev pub window : Surface → Coated.Surface
-window x = record { reflected = eqb (x .payload % 2) 1; coating = x .payload / 2; «n_incident» = value (x .n-incident); «n_substrate» = value (x .n-substrate); «angle_rad» = value (x .angle) }
+abbrev pub surface-value : Surface → Coated.Surface
+surface-value x = record { reflected = eqb (x .payload % 2) 1; coating = x .payload / 2; «n_incident» = value (x .n-incident); «n_substrate» = value (x .n-substrate); «angle_rad» = value (x .angle) }
 
 -- ---- in a list of bytes
 -- n LAYERs, one after the other from a place on

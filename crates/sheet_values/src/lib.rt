@@ -2,13 +2,13 @@
 ghost use mathlib.Core.Path.{_≡_};
 ghost use mathlib.Core.List.{[]};
 ghost use Rattle.sheet.specs.Read.{layer-at, surface-at};
-ghost use Rattle.sheet_values.specs.Values.{film, window};
+ghost use Rattle.sheet_values.specs.Values.{film, surface-value};
 use limits::Surface;
 use transfer_matrix::ThinFilmLayer;
 
 // The SURFACE whose kind word is at a place; zero throughout past the last word.
 pub fn surface_at(src: &[u8], at: usize) -> Surface
-    ensures { λ r. ⌜ r ≡ window (surface-at (now (src .entry)) at []) ⌝ }
+    ensures { λ r. ⌜ r ≡ surface-value (surface-at (now (src .entry)) at []) ⌝ }
 {
     if at < src.len() / 4 {
         let payload = sheet::word_from(src, at) % 0x1000_0000;

@@ -32,37 +32,37 @@ use Rattle.solver_bounds.proofs.Complex.{real-up, norm-same, norm-in, d
 use Rattle.solver_bounds.proofs.Powers.{cmag-pow, mpow-up, mat-mul-pow}
 
 -- ---- the angle: its sine is at most 7/8 and one part in 2 ^ 51
-index-real : (side : Float) (layer : ThinFilmLayer) → AdmittedLayer side layer → Real 1 0 4 0 (index layer)
+index-real : (snell : Float) (layer : ThinFilmLayer) → AdmittedLayer snell layer → Real 1 0 4 0 (index layer)
 unfolding index
-index-real side layer g = record { re = g .index; im = neg-mag (g .lossless) }
+index-real snell layer g = record { re = g .index; im = neg-mag (g .lossless) }
 
 record Slope (z : Complex) : Type 0 where
   re : Mag slope 51 (z .re)
   im : Mag 0 0 (z .im)
 
-sine-quotient : (side : Float) (layer : ThinFilmLayer) → Mag 4 0 side → AdmittedLayer side layer → Slope (quotient (real side) (index layer) (layer .n ⊗ layer .n))
+sine-quotient : (snell : Float) (layer : ThinFilmLayer) → Mag 4 0 snell → AdmittedLayer snell layer → Slope (quotient (real snell) (index layer) (layer .n ⊗ layer .n))
 unfolding quotient real index
-sine-quotient side layer h g =
+sine-quotient snell layer h g =
     let n = layer .n in
     let N : In 1 0 4 0 n = g .index in
     let K : Mag 0 0 (neg (layer .k)) = neg-mag (g .lossless) in
     let d : In 1 0 16 0 (n ⊗ n) = mul-in N N tt in
-    let p : Mag 16 0 (side ⊗ n) = mul-mag h (in-mag N) tt in
-    let z = add-zero-size (side ⊗ n) (p .fine) (mul-fits binary64 side n) (zero-mul-mag zero-mag K) in
-    let i : Mag 0 0 (zero-f ⊗ n ⊖ side ⊗ neg (layer .k)) = sub-mag (zero-mul-mag zero-mag (in-mag N)) (mul-zero-mag h K) tt in
+    let p : Mag 16 0 (snell ⊗ n) = mul-mag h (in-mag N) tt in
+    let z = add-zero-size (snell ⊗ n) (p .fine) (mul-fits binary64 snell n) (zero-mul-mag zero-mag K) in
+    let i : Mag 0 0 (zero-f ⊗ n ⊖ snell ⊗ neg (layer .k)) = sub-mag (zero-mul-mag zero-mag (in-mag N)) (mul-zero-mag h K) tt in
     record {
-      re = quotient-mag side n (h .fine) N (g .bends) (side ⊗ n ⊕ zero-f ⊗ neg (layer .k)) (z .0) (z .1);
+      re = quotient-mag snell n (h .fine) N (g .refracts) (snell ⊗ n ⊕ zero-f ⊗ neg (layer .k)) (z .0) (z .1);
       im = div-mag i d tt;
     }
 
-sine-slope : (side : Float) (layer : ThinFilmLayer) → Mag 4 0 side → AdmittedLayer side layer → Slope (sin-theta side (index layer))
+sine-slope : (snell : Float) (layer : ThinFilmLayer) → Mag 4 0 snell → AdmittedLayer snell layer → Slope (sin-theta snell (index layer))
 unfolding sin-theta
-sine-slope side layer h g =
-    let N = index-real side layer g in
+sine-slope snell layer h g =
+    let N = index-real snell layer g in
     let d : In 1 0 16 0 (norm-sq (index layer)) = norm-in N tt in
     subst (λ (z : Complex). Slope z)
-    (sym (div-is (real side) (index layer) d tt ∙ ap (λ (x : Float). quotient (real side) (index layer) x) (norm-same 16 0 N tt ∙ square layer)))
-    (sine-quotient side layer h g)
+    (sym (div-is (real snell) (index layer) d tt ∙ ap (λ (x : Float). quotient (real snell) (index layer) x) (norm-same 16 0 N tt ∙ square layer)))
+    (sine-quotient snell layer h g)
   where
     square : (layer : ThinFilmLayer) → index layer .re ⊗ index layer .re ≡ layer .n ⊗ layer .n
     square layer = unfold index in refl
@@ -76,18 +76,18 @@ one-minus t h =
     let i : Mag 0 0 (t .re ⊗ t .im ⊕ t .im ⊗ t .re) = add-mag (mul-zero-mag (h .re) (h .im)) (zero-mul-mag (h .im) (h .re)) tt in
     record { re = sub-in one-in c tt; im = sub-mag zero-mag i tt }
 
-cosine-real : (side : Float) (layer : ThinFilmLayer) → Mag 4 0 side → AdmittedLayer side layer → Real 7 4 1 0 (cos-theta side (index layer))
+cosine-real : (snell : Float) (layer : ThinFilmLayer) → Mag 4 0 snell → AdmittedLayer snell layer → Real 7 4 1 0 (cos-theta snell (index layer))
 unfolding cos-theta
-cosine-real side layer h g =
-    let t = sin-theta side (index layer) in
-    sqrt-real (sub (real one) (mul t t)) (one-minus t (sine-slope side layer h g)) (fit t)
+cosine-real snell layer h g =
+    let t = sin-theta snell (index layer) in
+    sqrt-real (sub (real one) (mul t t)) (one-minus t (sine-slope snell layer h g)) (fit t)
   where
     fit : (t : Complex) → T (fits binary64 (sub (real one) (mul t t) .re))
     fit t = unfold sub real in sub-fits binary64 one (mul t t .re)
 
 -- ---- the admittances
-eta-s-real : (side : Float) (layer : ThinFilmLayer) → Mag 4 0 side → AdmittedLayer side layer → Real 7 4 4 0 (mul (index layer) (cos-theta side (index layer)))
-eta-s-real side layer h g = mul-real (index-real side layer g) (cosine-real side layer h g) tt tt
+eta-s-real : (snell : Float) (layer : ThinFilmLayer) → Mag 4 0 snell → AdmittedLayer snell layer → Real 7 4 4 0 (mul (index layer) (cos-theta snell (index layer)))
+eta-s-real snell layer h g = mul-real (index-real snell layer g) (cosine-real snell layer h g) tt tt
 
 -- an index over a cosine
 eta-quotient : (z w : Complex) (d : Float) → Real 1 0 4 0 z → Real 7 4 1 0 w → In 3 4 1 0 d → Real 7 4 22 0 (quotient z w d)
@@ -103,8 +103,8 @@ eta-div z w Z W =
     let d : In 3 4 1 0 (norm-sq w) = norm-in W tt in
     subst (λ (v : Complex). Real 7 4 22 0 v) (sym (div-is z w d tt)) (eta-quotient z w (norm-sq w) Z W d)
 
-eta-p-real : (side : Float) (layer : ThinFilmLayer) → Mag 4 0 side → AdmittedLayer side layer → Real 7 4 22 0 (div (index layer) (cos-theta side (index layer)))
-eta-p-real side layer h g = eta-div (index layer) (cos-theta side (index layer)) (index-real side layer g) (cosine-real side layer h g)
+eta-p-real : (snell : Float) (layer : ThinFilmLayer) → Mag 4 0 snell → AdmittedLayer snell layer → Real 7 4 22 0 (div (index layer) (cos-theta snell (index layer)))
+eta-p-real snell layer h g = eta-div (index layer) (cos-theta snell (index layer)) (index-real snell layer g) (cosine-real snell layer h g)
 
 -- ---- the phase: 2 π d / λ is at most 8192, so δ is at most 2 ^ 15, and real
 factor-mag : {d w : Float} → Mag 100000 0 d → In 100 0 10000 0 w → Mag 8192 0 (factor d w)
@@ -198,34 +198,34 @@ characteristic-pow δ eta h g =
     record { m11 = c; m12 = cmag-pow 7 (div-eta (i-sin-delta δ) eta i g) tt; m21 = cmag-pow 7 (times-eta i g) tt; m22 = c }
 
 -- ---- the product through the layers, of a matrix for each: entries up to 2 ^ k before n layers are up to 2 ^ (k + 9 n) behind them
-module _ (side : Float) (of : ThinFilmLayer → Matrix) (through : Matrix → List ThinFilmLayer → Matrix)
+module _ (snell : Float) (of : ThinFilmLayer → Matrix) (through : Matrix → List ThinFilmLayer → Matrix)
     (through-none : (m : Matrix) → through m [] ≡ m)
     (through-one : (m : Matrix) (layer : ThinFilmLayer) (layers : List ThinFilmLayer) → through m (layer ∷ layers) ≡ through (mat-mul m (of layer)) layers)
-    (of-pow : (layer : ThinFilmLayer) → AdmittedLayer side layer → MPow 7 (of layer)) where
-  through-pow : (k : ℕ) (m : Matrix) (layers : List ThinFilmLayer) → MPow k m → AdmittedLayers side layers → k + 9 * length layers ≤ 1023 → MPow (k + 9 * length layers) (through m layers)
+    (of-pow : (layer : ThinFilmLayer) → AdmittedLayer snell layer → MPow 7 (of layer)) where
+  through-pow : (k : ℕ) (m : Matrix) (layers : List ThinFilmLayer) → MPow k m → AdmittedLayers snell layers → k + 9 * length layers ≤ 1023 → MPow (k + 9 * length layers) (through m layers)
   through-pow k m [] M gs b = subst (λ (z : Matrix). MPow (k + 9 * 0) z) (sym (through-none m)) (mpow-up M (omega arith))
   through-pow k m (layer ∷ layers) M gs b =
       subst (λ (z : Matrix). MPow (k + 9 * suc (length layers)) z) (sym (through-one m layer layers))
       (mpow-up (through-pow (suc (suc (k + 7))) (mat-mul m (of layer)) layers (mat-mul-pow M (of-pow layer (gs .0)) (omega arith)) (gs .1) (omega arith)) (omega arith))
 
 -- ---- both polarizations
-module _ (side w : Float) (S : Mag 4 0 side) (W : In 100 0 10000 0 w) where
-  delta-turns : (layer : ThinFilmLayer) → AdmittedLayer side layer → Turns 1 (delta side w layer)
+module _ (snell w : Float) (S : Mag 4 0 snell) (W : In 100 0 10000 0 w) where
+  delta-turns : (layer : ThinFilmLayer) → AdmittedLayer snell layer → Turns 1 (delta snell w layer)
   unfolding delta
-  delta-turns layer g = scale-turns (eta-s-real side layer S g) (factor-mag (g .thickness) W)
+  delta-turns layer g = scale-turns (eta-s-real snell layer S g) (factor-mag (g .thickness) W)
 
-  layer-s-pow : (layer : ThinFilmLayer) → AdmittedLayer side layer → MPow 7 (layer-s side w layer)
+  layer-s-pow : (layer : ThinFilmLayer) → AdmittedLayer snell layer → MPow 7 (layer-s snell w layer)
   unfolding layer-s
-  layer-s-pow layer g = characteristic-pow (delta side w layer) (mul (index layer) (cos-theta side (index layer))) (delta-turns layer g) (real-up (eta-s-real side layer S g) tt)
+  layer-s-pow layer g = characteristic-pow (delta snell w layer) (mul (index layer) (cos-theta snell (index layer))) (delta-turns layer g) (real-up (eta-s-real snell layer S g) tt)
 
-  layer-p-pow : (layer : ThinFilmLayer) → AdmittedLayer side layer → MPow 7 (layer-p side w layer)
+  layer-p-pow : (layer : ThinFilmLayer) → AdmittedLayer snell layer → MPow 7 (layer-p snell w layer)
   unfolding layer-p
-  layer-p-pow layer g = characteristic-pow (delta side w layer) (div (index layer) (cos-theta side (index layer))) (delta-turns layer g) (eta-p-real side layer S g)
+  layer-p-pow layer g = characteristic-pow (delta snell w layer) (div (index layer) (cos-theta snell (index layer))) (delta-turns layer g) (eta-p-real snell layer S g)
 
-  pub through-s-pow : (k : ℕ) (m : Matrix) (layers : List ThinFilmLayer) → MPow k m → AdmittedLayers side layers → k + 9 * length layers ≤ 1023 → MPow (k + 9 * length layers) (through-s side w m layers)
+  pub through-s-pow : (k : ℕ) (m : Matrix) (layers : List ThinFilmLayer) → MPow k m → AdmittedLayers snell layers → k + 9 * length layers ≤ 1023 → MPow (k + 9 * length layers) (through-s snell w m layers)
   unfolding through-s
-  through-s-pow = through-pow side (layer-s side w) (through-s side w) (λ m. refl) (λ m layer layers. refl) layer-s-pow
+  through-s-pow = through-pow snell (layer-s snell w) (through-s snell w) (λ m. refl) (λ m layer layers. refl) layer-s-pow
 
-  pub through-p-pow : (k : ℕ) (m : Matrix) (layers : List ThinFilmLayer) → MPow k m → AdmittedLayers side layers → k + 9 * length layers ≤ 1023 → MPow (k + 9 * length layers) (through-p side w m layers)
+  pub through-p-pow : (k : ℕ) (m : Matrix) (layers : List ThinFilmLayer) → MPow k m → AdmittedLayers snell layers → k + 9 * length layers ≤ 1023 → MPow (k + 9 * length layers) (through-p snell w m layers)
   unfolding through-p
-  through-p-pow = through-pow side (layer-p side w) (through-p side w) (λ m. refl) (λ m layer layers. refl) layer-p-pow
+  through-p-pow = through-pow snell (layer-p snell w) (through-p snell w) (λ m. refl) (λ m layer layers. refl) layer-p-pow

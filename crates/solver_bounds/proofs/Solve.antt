@@ -132,15 +132,15 @@ unfolding cos-theta-sub
 cos-sub-real q h = rw (is-true (le (abs q) one) (below-one q h)) (real-in (cosine-in q h))
 
 -- ---- the whole
-pub side-mag : {n0 : Float} (angle : Float) → In 1 0 4 0 n0 → T (finite angle) → Mag 4 0 (n0 ⊗ sin angle)
-side-mag angle h f = mul-mag (in-mag h) (sin-mag angle f) tt
+pub snell-mag : {n0 : Float} (angle : Float) → In 1 0 4 0 n0 → T (finite angle) → Mag 4 0 (n0 ⊗ sin angle)
+snell-mag angle h f = mul-mag (in-mag h) (sin-mag angle f) tt
 
 module _ (n0 ns angle w : Float) (layers : List ThinFilmLayer) (g : Admitted n0 ns angle w layers) where
-  side : Mag 4 0 (n0 ⊗ sin angle)
-  side = side-mag angle (g .incident) (g .finite-angle)
+  snell : Mag 4 0 (n0 ⊗ sin angle)
+  snell = snell-mag angle (g .incident) (g .finite-angle)
 
   cosine : Real 7 4 1 0 (cos-theta-sub (n0 ⊗ sin angle ⊘ ns))
-  cosine = cos-sub-real (n0 ⊗ sin angle ⊘ ns) (ratio-mag (n0 ⊗ sin angle) ns (side .fine) (g .substrate) (g .bends))
+  cosine = cos-sub-real (n0 ⊗ sin angle ⊘ ns) (ratio-mag (n0 ⊗ sin angle) ns (snell .fine) (g .substrate) (g .refracts))
 
   eta-s : Real 7 4 22 0 (eta-sub-s (n0 ⊗ sin angle) ns)
   unfolding eta-sub-s
@@ -151,10 +151,10 @@ module _ (n0 ns angle w : Float) (layers : List ThinFilmLayer) (g : Admitted n0 
   eta-p = eta-div (real ns) (cos-theta-sub (n0 ⊗ sin angle ⊘ ns)) (real-in (g .substrate)) cosine
 
   product-s : MPow 144 (through-s (n0 ⊗ sin angle) w identity layers)
-  product-s = let f = g .few in mpow-up (through-s-pow (n0 ⊗ sin angle) w side (g .wavelength-in) 0 identity layers identity-pow (g .admitted) (omega arith)) (omega arith)
+  product-s = let f = g .few in mpow-up (through-s-pow (n0 ⊗ sin angle) w snell (g .wavelength-in) 0 identity layers identity-pow (g .admitted) (omega arith)) (omega arith)
 
   product-p : MPow 144 (through-p (n0 ⊗ sin angle) w identity layers)
-  product-p = let f = g .few in mpow-up (through-p-pow (n0 ⊗ sin angle) w side (g .wavelength-in) 0 identity layers identity-pow (g .admitted) (omega arith)) (omega arith)
+  product-p = let f = g .few in mpow-up (through-p-pow (n0 ⊗ sin angle) w snell (g .wavelength-in) 0 identity layers identity-pow (g .admitted) (omega arith)) (omega arith)
 
   bounded : Bounded (evaluate n0 ns angle w layers)
   unfolding evaluate

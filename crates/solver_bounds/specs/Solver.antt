@@ -1,4 +1,4 @@
--- What a surface within the limits is to the solver, as ranges, and what holds of its response. Definitions only; proofs/Solve.antt shows the second of the first.
+-- 01 section 3's limits as ranges of what the solver is given, a thickness being of either sign; and what holds of its response. Definitions only; proofs/Solve.antt shows the second of the first.
 use Prim.Native.Nat.{_≤_}
 use mathlib.Core.List.{List, [], _∷_}
 use lib.Dec.{T}
@@ -14,20 +14,20 @@ use Rattle.transfer_matrix.specs.declared.CoatingResponse.{CoatingResponse}
 use Rattle.transfer_matrix.specs.Solve.{evaluate}
 use Rattle.solver_bounds.specs.Range.{CPow}
 
--- the light bends by no more than 0.875 of what the medium n admits; `side` is n_incident * sin_theta0
-abbrev pub Bends : Float → Float → Type 0
-Bends side n = T (le (abs side) (seven-eighths ⊗ n))
+-- the light refracts by no more than 0.875 of what the medium n admits; `snell` is n_incident * sin_theta0
+abbrev pub Refracts : Float → Float → Type 0
+Refracts snell n = T (le (abs snell) (seven-eighths ⊗ n))
 
 -- a lossless layer
-pub record AdmittedLayer (side : Float) (layer : ThinFilmLayer) : Type 0 where
+pub record AdmittedLayer (snell : Float) (layer : ThinFilmLayer) : Type 0 where
   pub index : In 1 0 4 0 (layer .n)
   pub lossless : Mag 0 0 (layer .k)
   pub thickness : Mag 100000 0 (layer .«thickness_nm»)
-  pub bends : Bends side (layer .n)
+  pub refracts : Refracts snell (layer .n)
 
 abbrev pub AdmittedLayers : Float → List ThinFilmLayer → Type 0
-AdmittedLayers side [] = Unit {0}
-AdmittedLayers side (layer ∷ layers) = AdmittedLayer side layer × AdmittedLayers side layers
+AdmittedLayers snell [] = Unit {0}
+AdmittedLayers snell (layer ∷ layers) = AdmittedLayer snell layer × AdmittedLayers snell layers
 
 pub record Admitted (n-incident n-substrate angle wavelength : Float) (layers : List ThinFilmLayer) : Type 0 where
   pub incident : In 1 0 4 0 n-incident
@@ -35,7 +35,7 @@ pub record Admitted (n-incident n-substrate angle wavelength : Float) (layers : 
   pub finite-angle : T (finite angle)
   pub cosine : In 1 2 1 0 (cos angle)
   pub wavelength-in : In 100 0 10000 0 wavelength
-  pub bends : Bends (n-incident ⊗ sin angle) n-substrate
+  pub refracts : Refracts (n-incident ⊗ sin angle) n-substrate
   pub admitted : AdmittedLayers (n-incident ⊗ sin angle) layers
   pub few : length layers ≤ 16
 

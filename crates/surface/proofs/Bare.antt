@@ -24,7 +24,7 @@ use Rattle.fresnel.specs.Fresnel as Fresnel
 use Rattle.fresnel.specs.Fresnel.{sin2-t, power, least-den, fresnel-dielectric}
 use Rattle.polarization.specs.declared.SurfaceJones.{SurfaceJones}
 use Rattle.polarization.specs.Surface.{no-index, invalid, cos-t, refracted, bare, surface-fresnel-jones}
-use Rattle.solver_bounds.proofs.Solve.{cosine-in, side-mag}
+use Rattle.solver_bounds.proofs.Solve.{cosine-in, snell-mag}
 use Rattle.limits.specs.declared.Surface.{Surface}
 use Rattle.limits.specs.Limits.{within}
 use Rattle.surface.specs.Answers.{bare-powers}
@@ -140,5 +140,5 @@ bare-jones s h =
     record {
       value = bare n1 n2 (sin angle) (cos angle);
       is = rw (stands n1 n2 angle (h .incident) (h .substrate) (h .finite-angle));
-      pow = bare-jones-pow n1 n2 (sin angle) (cos angle) (h .incident) (h .substrate) (h .cosine) (ratio-mag (n1 ⊗ sin angle) n2 (side-mag angle (h .incident) (h .finite-angle) .fine) (h .substrate) (h .bent));
+      pow = bare-jones-pow n1 n2 (sin angle) (cos angle) (h .incident) (h .substrate) (h .cosine) (ratio-mag (n1 ⊗ sin angle) n2 (snell-mag angle (h .incident) (h .finite-angle) .fine) (h .substrate) (h .bent));
     }

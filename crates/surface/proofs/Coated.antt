@@ -70,14 +70,14 @@ chosen-few (S.Custom C.IdealAr) layers h = lit≤ tt
 chosen-few (S.Custom C.IdealMirror) layers h = lit≤ tt
 chosen-few (S.Custom C.IdealBeamsplitter) layers h = lit≤ tt
 
-turned : (side : Float) (layers rest : List ThinFilmLayer) → AdmittedLayers side layers → AdmittedLayers side rest → AdmittedLayers side (reverseAux layers rest)
-turned side [] rest h g = g
-turned side (layer ∷ layers) rest h g = turned side layers (layer ∷ rest) (h .1) (h .0, g)
+turned : (snell : Float) (layers rest : List ThinFilmLayer) → AdmittedLayers snell layers → AdmittedLayers snell rest → AdmittedLayers snell (reverseAux layers rest)
+turned snell [] rest h g = g
+turned snell (layer ∷ layers) rest h g = turned snell layers (layer ∷ rest) (h .1) (h .0, g)
 
-ordered-in : (side : Float) (far : Bool) (layers : List ThinFilmLayer) → AdmittedLayers side layers → AdmittedLayers side (ordered far layers)
+ordered-in : (snell : Float) (far : Bool) (layers : List ThinFilmLayer) → AdmittedLayers snell layers → AdmittedLayers snell (ordered far layers)
 unfolding ordered
-ordered-in side false layers h = h
-ordered-in side true layers h = turned side layers [] h tt
+ordered-in snell false layers h = h
+ordered-in snell true layers h = turned snell layers [] h tt
 
 ordered-few : (far : Bool) (layers : List ThinFilmLayer) → length layers ≤ 16 → length (ordered far layers) ≤ 16
 unfolding ordered
@@ -168,7 +168,7 @@ surface-responds s w coating layers h W p t few =
     let all : AdmittedLayers (n0 ⊗ sin angle) read = ordered-in (n0 ⊗ sin angle) (lt ns n0) (layers-of coating layers) (layers-in n0 angle (layers-of coating layers) (h .incident) (h .finite-angle) (chosen-pass n0 angle coating layers p t)) in
     let short : length read ≤ 16 = ordered-few (lt ns n0) (layers-of coating layers) (chosen-few coating layers few) in
     coating-responds n0 ns angle w (h .incident) (h .substrate) (h .finite-angle) W (coating-of coating) read short
-    (every-response-bounded n0 ns angle w read (record { incident = h .incident; substrate = h .substrate; finite-angle = h .finite-angle; cosine = h .cosine; wavelength-in = W; bends = h .bent; admitted = all; few = short }))
+    (every-response-bounded n0 ns angle w read (record { incident = h .incident; substrate = h .substrate; finite-angle = h .finite-angle; cosine = h .cosine; wavelength-in = W; refracts = h .bent; admitted = all; few = short }))
 
 -- ---- what a bounded response gives
 pub bounded-powers : {r : CoatingResponse} → Bounded r → UnitPowers (coated-powers r)

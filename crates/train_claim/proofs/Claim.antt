@@ -18,7 +18,7 @@ use Rattle.surface.specs.Finite.{UnitPowers}
 use Rattle.surface.proofs.Alone.{powers-answered}
 use Rattle.sheet.specs.Sheet.{Surface, Sheet, All, GoodSurface, WellFormed, encode}
 use Rattle.sheet.proofs.Claim.{grammar-claim}
-use Rattle.sheet_values.specs.Values.{value, films, window}
+use Rattle.sheet_values.specs.Values.{value, films, surface-value}
 use Rattle.gate.specs.Gate.{gated}
 use Rattle.gate.specs.Claim.{Within}
 use Rattle.gate.proofs.Claim.{gate-claim}
@@ -40,13 +40,13 @@ module _ (w : Float) (y : Surface) where
 
   factor-unit : AnsweredWhole w y → T (power-passes (chosen-powers w y .s)) × T (power-passes (chosen-powers w y .p))
   unfolding chosen-powers
-  factor-unit a = rw (a .powers) (chosen-unit (window y .reflected) (a .answered .value .powers) (a .answered .powers))
+  factor-unit a = rw (a .powers) (chosen-unit (surface-value y .reflected) (a .answered .value .powers) (a .answered .powers))
 
 answered-all : (w : Float) → T (wavelength-passes w) → (ys : List Surface) → All GoodSurface ys → All (Good w) ys → All (AnsweredWhole w) ys
 answered-all w t [] g h = tt
 answered-all w t (y ∷ ys) g h =
     let a = answered w t y (h .0) (g .0 .few) in
-    (record { answered = a; powers = powers-answered w (window y) (films (y .layers)) (a .value) (a .is) }, answered-all w t ys (g .1) (h .1))
+    (record { answered = a; powers = powers-answered w (surface-value y) (films (y .layers)) (a .value) (a .is) }, answered-all w t ys (g .1) (h .1))
 
 -- ---- one admitted sheet
 module _ (x : Sheet) (formed : WellFormed x) (inside : Within x) where

@@ -1,4 +1,4 @@
--- A sheet within the grammar and the limits: a bare window, met head on. Assumes nothing.
+-- A sheet within the grammar and the limits: a bare surface-value, met head on. Assumes nothing.
 use mathlib.Core.Path.{refl}
 use mathlib.Core.Logic.{inl}
 use mathlib.Core.List.{List, [], _∷_}
@@ -8,7 +8,7 @@ use lib.Ieee.{ofBits}
 use lib.Ieee.Scale.{finite}
 use Rattle.ieee.specs.Functions.{abs, clamp}
 use Rattle.ieee.proofs.Signs.{of-true}
-use Rattle.trig.specs.Trig.{wrap, fold, tuck, series, sin-at, sin, cos-at, cos-of, cos}
+use Rattle.trig.specs.Trig.{wrap, fold, second-fold, series, sin-at, sin, cos-at, cos-of, cos}
 use Rattle.limits.specs.Coating.{interface}
 use Rattle.limits.specs.Limits.{within, beam-passes, layers-within, angle-passes, surface-passes, passes}
 use Rattle.sheet.specs.Sheet.{Surface, Sheet, GoodSurface, WellFormed}
@@ -33,7 +33,7 @@ formed = record {
 }
 
 inside : Within sheet
-unfolding within beam-passes layers-within angle-passes surface-passes passes interface films wrap fold tuck series sin-at sin cos-at cos-of cos abs clamp finite Ieee.rem Ieee.lt Ieee.le Ieee.eq Ieee.add Ieee.sub Ieee.mul Ieee.div Ieee.neg Ieee.ofInt Ieee.isNan ofBits
+unfolding within beam-passes layers-within angle-passes surface-passes passes interface films wrap fold second-fold series sin-at sin cos-at cos-of cos abs clamp finite Ieee.rem Ieee.lt Ieee.le Ieee.eq Ieee.add Ieee.sub Ieee.mul Ieee.div Ieee.neg Ieee.ofInt Ieee.isNan ofBits
 inside = record { beam = of-true _ refl; surfaces = (of-true _ refl, tt) }
 
 pub one : (x : Sheet) × (WellFormed x × Within x)

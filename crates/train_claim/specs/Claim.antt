@@ -13,7 +13,7 @@ use Rattle.surface.specs.Answers.{answers, powers}
 use Rattle.surface.specs.Finite as Finite
 use Rattle.surface.specs.Finite.{Finite}
 use Rattle.sheet.specs.Sheet.{Surface, Sheet, All, WellFormed, encode}
-use Rattle.sheet_values.specs.Values.{value, films, window}
+use Rattle.sheet_values.specs.Values.{value, films, surface-value}
 use Rattle.gate.specs.Gate.{gated}
 use Rattle.gate.specs.Claim.{Within, GateClaim}
 use Rattle.optical_train.specs.declared.State.{State}
@@ -68,8 +68,8 @@ AllFall src (a ∷ more) st = Falls st (act src a st) × AllFall src more (act s
 
 -- ---- every power, amplitude, phase, Jones and Mueller entry of a surface's answers is finite, and its powers alone are those of its answers
 pub record AnsweredWhole (wavelength : Float) (y : Surface) : Type 0 where
-  pub answered : Finite.Answered wavelength (window y) (films (y .layers))
-  pub powers : powers wavelength (window y) (films (y .layers)) ≡ answer (answered .value .powers)
+  pub answered : Finite.Answered wavelength (surface-value y) (films (y .layers))
+  pub powers : powers wavelength (surface-value y) (films (y .layers)) ≡ answer (answered .value .powers)
 
 -- ---- the claim for one admitted sheet
 pub record Admitted (src : List ℕ) (x : Sheet) : Type 0 where
@@ -88,7 +88,7 @@ pub record Admitted (src : List ℕ) (x : Sheet) : Type 0 where
   -- a whole run is refused with 8 where its list is shorter than 2 × surfaces, and the list is as before
   pub eight : (list : List Float) → length list < 2 * length (x .surfaces) → run src list ≡ record { result = refusal 8 0; list = list }
   -- the answers of a surface that a sheet has are that surface's; 7 where it has none
-  pub asked : (i : ℕ) → i < length (x .surfaces) → let y = nth (x .surfaces) i in surface-answers src i ≡ answers (value (x .wavelength)) (window y) (films (y .layers))
+  pub asked : (i : ℕ) → i < length (x .surfaces) → let y = nth (x .surfaces) i in surface-answers src i ≡ answers (value (x .wavelength)) (surface-value y) (films (y .layers))
   pub no-surface : (i : ℕ) → length (x .surfaces) ≤ i → surface-answers src i ≡ refusal 7 0
   -- every answer is finite, and so are s, p and their sum after any number of steps
   pub answers : All (AnsweredWhole (value (x .wavelength))) (x .surfaces)

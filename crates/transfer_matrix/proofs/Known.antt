@@ -6,7 +6,7 @@ use lib.Ieee.{Float, binary64, ofBits}
 use Rattle.ieee.specs.Functions.{zero-f, one, half, abs, max, clamp, three}
 use Rattle.square_root.specs.Root.{squareRoot}
 use Rattle.trig.specs.Angles.{pi}
-use Rattle.trig.specs.Trig.{wrap, fold, tuck, series, sin-at, sin, cos-at, cos-of, cos}
+use Rattle.trig.specs.Trig.{wrap, fold, second-fold, series, sin-at, sin, cos-at, cos-of, cos}
 use Rattle.arctangent.specs.Atan.{with-sign, atan2}
 use Rattle.complex.specs.Complex.{real, scale, norm-sq, arg, add, sub, mul, quotient, div}
 use Rattle.transfer_matrix.specs.declared.CoatingResponse.{CoatingResponse}
@@ -29,5 +29,5 @@ bare = record {
 
 -- no layers, 1 to 3, angle 0, at any wavelength
 pub no-layers : (wavelength : Float) → evaluate one three zero-f wavelength [] ≡ bare
-unfolding eta0-s eta0-p cos-theta-sub eta-sub-s eta-sub-p through-s through-p b-of c-of reflection transmission reflectance transmittance solve respond evaluate real scale norm-sq arg add sub mul quotient div abs max clamp squareRoot wrap fold tuck series sin-at sin cos-at cos-of cos with-sign atan2 Ieee.rem Ieee.lt Ieee.le Ieee.eq Ieee.add Ieee.sub Ieee.mul Ieee.div Ieee.neg Ieee.ofInt Ieee.isNan ofBits
+unfolding eta0-s eta0-p cos-theta-sub eta-sub-s eta-sub-p through-s through-p b-of c-of reflection transmission reflectance transmittance solve respond evaluate real scale norm-sq arg add sub mul quotient div abs max clamp squareRoot wrap fold second-fold series sin-at sin cos-at cos-of cos with-sign atan2 Ieee.rem Ieee.lt Ieee.le Ieee.eq Ieee.add Ieee.sub Ieee.mul Ieee.div Ieee.neg Ieee.ofInt Ieee.isNan ofBits
 no-layers wavelength = refl

@@ -12,8 +12,8 @@ use Rattle.transfer_matrix.specs.Stack.{nested, begin, step, steps, fini
 from : (k : Stack) (layers : List ThinFilmLayer)
     → finish (steps k layers)
     ≡ respond
-    (solve (through-s (k .side) (k .«wavelength_nm») (nested (k .s)) layers) (eta0-s (k .«n_incident») (k .«cos_theta0»)) (eta-sub-s (k .side) (k .«n_substrate»)))
-    (solve (through-p (k .side) (k .«wavelength_nm») (nested (k .p)) layers) (eta0-p (k .«n_incident») (k .«cos_theta0»)) (eta-sub-p (k .side) (k .«n_substrate»)))
+    (solve (through-s (k .snell) (k .«wavelength_nm») (nested (k .s)) layers) (eta0-s (k .«n_incident») (k .«cos_theta0»)) (eta-sub-s (k .snell) (k .«n_substrate»)))
+    (solve (through-p (k .snell) (k .«wavelength_nm») (nested (k .p)) layers) (eta0-p (k .«n_incident») (k .«cos_theta0»)) (eta-sub-p (k .snell) (k .«n_substrate»)))
 unfolding finish steps step through-s through-p mat-mul
 from k [] = refl
 from k (layer ∷ layers) = from (step k layer) layers

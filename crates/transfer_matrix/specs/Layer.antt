@@ -1,5 +1,5 @@
 -- One layer of evaluate_tmm_multilayer in thin_film.rs, in the Rust's order of operations. Definitions only.
--- `side` is n_incident * sin_theta0.
+-- `snell` is n_incident * sin_theta0.
 use lib.Ieee.{Float, neg}
 use Rattle.ieee.specs.Operators.{_⊗_, _⊘_}
 use Rattle.ieee.specs.Functions.{zero-f, one, two, half}
@@ -15,10 +15,10 @@ index layer = record { re = layer .n; im = neg (layer .k) }
 
 -- Snell angle in layer: n_c * sin(theta) = n0 * sin(theta0)
 unfoldable pub sin-theta : Float → Complex → Complex
-sin-theta side n-c = div (real side) n-c
+sin-theta snell n-c = div (real snell) n-c
 
 unfoldable pub cos-theta : Float → Complex → Complex
-cos-theta side n-c = sqrt (sub (real one) (mul (sin-theta side n-c) (sin-theta side n-c)))
+cos-theta snell n-c = sqrt (sub (real one) (mul (sin-theta snell n-c) (sin-theta snell n-c)))
 
 -- 2.0 * PI * layer.thickness_nm / wavelength_nm
 unfoldable pub factor : Float → Float → Float
@@ -26,7 +26,7 @@ factor thickness wavelength = two ⊗ pi ⊗ thickness ⊘ wavelength
 
 -- Phase thickness delta = 2*pi * d / lambda * n_c * cos(theta)
 unfoldable pub delta : Float → Float → ThinFilmLayer → Complex
-delta side wavelength layer = scale (mul (index layer) (cos-theta side (index layer))) (factor (layer .«thickness_nm») wavelength)
+delta snell wavelength layer = scale (mul (index layer) (cos-theta snell (index layer))) (factor (layer .«thickness_nm») wavelength)
 
 -- e^(i delta)
 unfoldable pub exp-pos : Complex → Complex
@@ -53,8 +53,8 @@ characteristic δ eta = matrix (cos-delta δ) (div (i-sin-delta δ) eta) (mul (i
 
 -- m_layer_s, of the admittance n_c * cos_theta
 unfoldable pub layer-s : Float → Float → ThinFilmLayer → Matrix
-layer-s side wavelength layer = characteristic (delta side wavelength layer) (mul (index layer) (cos-theta side (index layer)))
+layer-s snell wavelength layer = characteristic (delta snell wavelength layer) (mul (index layer) (cos-theta snell (index layer)))
 
 -- m_layer_p, of the admittance n_c / cos_theta
 unfoldable pub layer-p : Float → Float → ThinFilmLayer → Matrix
-layer-p side wavelength layer = characteristic (delta side wavelength layer) (div (index layer) (cos-theta side (index layer)))
+layer-p snell wavelength layer = characteristic (delta snell wavelength layer) (div (index layer) (cos-theta snell (index layer)))

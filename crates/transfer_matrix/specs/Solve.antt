@@ -33,21 +33,21 @@ cos-theta-sub sin-theta-sub =
     (real (squareRoot binary64 (max (one ⊖ sin-theta-sub ⊗ sin-theta-sub) zero-f)))
     (record { re = zero-f; im = neg (squareRoot binary64 (sin-theta-sub ⊗ sin-theta-sub ⊖ one)) })
 
--- Snell: n0 * sin(theta0) = n_sub * sin(theta_sub); `side` is n_incident * sin_theta0
+-- Snell: n0 * sin(theta0) = n_sub * sin(theta_sub); `snell` is n_incident * sin_theta0
 unfoldable pub eta-sub-s : Float → Float → Complex
-eta-sub-s side n-substrate = mul (real n-substrate) (cos-theta-sub (side ⊘ n-substrate))
+eta-sub-s snell n-substrate = mul (real n-substrate) (cos-theta-sub (snell ⊘ n-substrate))
 
 unfoldable pub eta-sub-p : Float → Float → Complex
-eta-sub-p side n-substrate = div (real n-substrate) (cos-theta-sub (side ⊘ n-substrate))
+eta-sub-p snell n-substrate = div (real n-substrate) (cos-theta-sub (snell ⊘ n-substrate))
 
 -- ---- M = M * M_layer, through the layers
 unfoldable pub through-s : Float → Float → Matrix → List ThinFilmLayer → Matrix
-through-s side wavelength ms [] = ms
-through-s side wavelength ms (layer ∷ layers) = through-s side wavelength (mat-mul ms (layer-s side wavelength layer)) layers
+through-s snell wavelength ms [] = ms
+through-s snell wavelength ms (layer ∷ layers) = through-s snell wavelength (mat-mul ms (layer-s snell wavelength layer)) layers
 
 unfoldable pub through-p : Float → Float → Matrix → List ThinFilmLayer → Matrix
-through-p side wavelength mp [] = mp
-through-p side wavelength mp (layer ∷ layers) = through-p side wavelength (mat-mul mp (layer-p side wavelength layer)) layers
+through-p snell wavelength mp [] = mp
+through-p snell wavelength mp (layer ∷ layers) = through-p snell wavelength (mat-mul mp (layer-p snell wavelength layer)) layers
 
 -- ---- solve for one polarization: its matrix m, the incident admittance eta0, the substrate's eta
 -- [B; C] = M * [1; eta_sub]
@@ -96,10 +96,10 @@ respond s p = record {
 -- evaluate_tmm_multilayer: the layers in the order from the incident medium to the substrate
 unfoldable pub evaluate : Float → Float → Float → Float → List ThinFilmLayer → CoatingResponse
 evaluate n-incident n-substrate angle wavelength layers =
-    let side = n-incident ⊗ sin angle in
+    let snell = n-incident ⊗ sin angle in
     respond
-    (solve (through-s side wavelength identity layers) (eta0-s n-incident (cos angle)) (eta-sub-s side n-substrate))
-    (solve (through-p side wavelength identity layers) (eta0-p n-incident (cos angle)) (eta-sub-p side n-substrate))
+    (solve (through-s snell wavelength identity layers) (eta0-s n-incident (cos angle)) (eta-sub-s snell n-substrate))
+    (solve (through-p snell wavelength identity layers) (eta0-p n-incident (cos angle)) (eta-sub-p snell n-substrate))
 
 -- ---- CoatingResponse
 -- (R_s + R_p) * 0.5

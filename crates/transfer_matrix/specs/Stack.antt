@@ -1,4 +1,4 @@
--- The loop of evaluate_tmm_multilayer as a state that takes one layer at a time. Definitions only.
+-- thin_film.rs, the loop of evaluate_tmm_multilayer as a state that takes one layer at a time. Definitions only.
 use mathlib.Core.List.{List, [], _∷_}
 use lib.Ieee.{Float}
 use Rattle.ieee.specs.Operators.{_⊗_}
@@ -24,7 +24,7 @@ begin n-incident n-substrate angle wavelength = record {
   «n_incident» = n-incident;
   «n_substrate» = n-substrate;
   «cos_theta0» = cos angle;
-  side = n-incident ⊗ sin angle;
+  snell = n-incident ⊗ sin angle;
   «wavelength_nm» = wavelength;
   s = product identity;
   p = product identity;
@@ -36,10 +36,10 @@ step k layer = record {
   «n_incident» = k .«n_incident»;
   «n_substrate» = k .«n_substrate»;
   «cos_theta0» = k .«cos_theta0»;
-  side = k .side;
+  snell = k .snell;
   «wavelength_nm» = k .«wavelength_nm»;
-  s = product (mat-mul (nested (k .s)) (layer-s (k .side) (k .«wavelength_nm») layer));
-  p = product (mat-mul (nested (k .p)) (layer-p (k .side) (k .«wavelength_nm») layer));
+  s = product (mat-mul (nested (k .s)) (layer-s (k .snell) (k .«wavelength_nm») layer));
+  p = product (mat-mul (nested (k .p)) (layer-p (k .snell) (k .«wavelength_nm») layer));
 }
 
 -- the layers of a list, one after the other
@@ -51,5 +51,5 @@ steps k (layer ∷ layers) = steps (step k layer) layers
 unfoldable pub finish : Stack → CoatingResponse
 finish k =
     respond
-    (solve (nested (k .s)) (eta0-s (k .«n_incident») (k .«cos_theta0»)) (eta-sub-s (k .side) (k .«n_substrate»)))
-    (solve (nested (k .p)) (eta0-p (k .«n_incident») (k .«cos_theta0»)) (eta-sub-p (k .side) (k .«n_substrate»)))
+    (solve (nested (k .s)) (eta0-s (k .«n_incident») (k .«cos_theta0»)) (eta-sub-s (k .snell) (k .«n_substrate»)))
+    (solve (nested (k .p)) (eta0-p (k .«n_incident») (k .«cos_theta0»)) (eta-sub-p (k .snell) (k .«n_substrate»)))

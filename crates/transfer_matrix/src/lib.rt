@@ -94,11 +94,11 @@ pub fn mat_mul_2x2(a: [[Complex; 2]; 2], b: [[Complex; 2]; 2]) -> [[Complex; 2];
 
 // ---- one layer
 
-// cos(theta) in a layer of index n_c; side is n_incident * sin_theta0.
-fn cos_theta(side: f64, n_c: Complex) -> Complex
-    ensures { λ r. ⌜ r ≡ cos-theta side «n_c» ⌝ }
+// cos(theta) in a layer of index n_c; snell is n_incident * sin_theta0.
+fn cos_theta(snell: f64, n_c: Complex) -> Complex
+    ensures { λ r. ⌜ r ≡ cos-theta snell «n_c» ⌝ }
 {
-    let sin_theta = Complex::real(side).div(n_c);
+    let sin_theta = Complex::real(snell).div(n_c);
     Complex::real(1.0).sub(sin_theta.mul(sin_theta)).sqrt()
 }
 
@@ -152,13 +152,13 @@ pub struct Product {
     pub m22: Complex,
 }
 
-// What the incident medium fixes, and the products so far for s and for p. side is
+// What the incident medium fixes, and the products so far for s and for p. snell is
 // n_incident * sin_theta0.
 pub struct Stack {
     pub n_incident: f64,
     pub n_substrate: f64,
     pub cos_theta0: f64,
-    pub side: f64,
+    pub snell: f64,
     pub wavelength_nm: f64,
     pub s: Product,
     pub p: Product,
@@ -203,7 +203,7 @@ pub fn begin(
         n_incident,
         n_substrate,
         cos_theta0: theta0.cos,
-        side: n_incident * theta0.sin,
+        snell: n_incident * theta0.sin,
         wavelength_nm,
         s: identity,
         p: identity,
@@ -215,7 +215,7 @@ pub fn step(stack: Stack, layer: ThinFilmLayer) -> Stack
     ensures { λ r. ⌜ r ≡ step stack layer ⌝ }
 {
     let n_c = Complex::new(layer.n, -layer.k);
-    let cos = cos_theta(stack.side, n_c);
+    let cos = cos_theta(stack.snell, n_c);
     let eta_s = n_c.mul(cos);
     let eta_p = n_c.div(cos);
     let factor = 2.0 * 3.141592653589793 * layer.thickness_nm / stack.wavelength_nm;
@@ -228,7 +228,7 @@ pub fn step(stack: Stack, layer: ThinFilmLayer) -> Stack
         n_incident: stack.n_incident,
         n_substrate: stack.n_substrate,
         cos_theta0: stack.cos_theta0,
-        side: stack.side,
+        snell: stack.snell,
         wavelength_nm: stack.wavelength_nm,
         s: s_next,
         p: p_next,
@@ -281,7 +281,7 @@ fn cos_theta_sub(sin_theta_sub: f64) -> Complex
 pub fn finish(stack: Stack) -> CoatingResponse
     ensures { λ r. ⌜ r ≡ finish stack ⌝ }
 {
-    let cos = cos_theta_sub(stack.side / stack.n_substrate);
+    let cos = cos_theta_sub(stack.snell / stack.n_substrate);
     let n_sub = Complex::real(stack.n_substrate);
     let eta0_s = Complex::real(stack.n_incident * stack.cos_theta0);
     let eta0_p = Complex::real(stack.n_incident / ieee::max(stack.cos_theta0, 1e-12));

@@ -9,7 +9,7 @@ use Rattle.ieee.specs.Functions.{zero-f, one, minus-one, clamp}
 use Rattle.ieee.specs.Range.{plus}
 use Rattle.ieee.proofs.Range.Laws.{sub-is}
 use Rattle.trig.specs.Angles.{tau, pi, half-pi}
-use Rattle.trig.specs.Trig.{wrap, fold, tuck, series, sin-div, sin-at, sin, cos-of, cos}
+use Rattle.trig.specs.Trig.{wrap, fold, second-fold, series, sin-div, sin-at, sin, cos-of, cos}
 use Rattle.trig.specs.Opposite.{Opposite}
 use Rattle.trig.proofs.Constants.{minus-one-is, minus-pi-is, minus-half-pi-is}
 use Rattle.trig.proofs.Opposites.{neg-neg, mul-neg, square-neg, rem-neg, lt-neg, add-neg, sub-neg, sub-opposite, opposite-abs}
@@ -71,9 +71,9 @@ pub fold-odd : (x : Float) → Opposite (fold x) (fold (neg x))
 unfolding fold
 fold-odd x = rw (rem-neg binary64 x tau) (wrap-odd (rem binary64 x tau))
 
-tuck-odd : (r : Float) → Opposite (tuck r) (tuck (neg r))
-unfolding tuck
-tuck-odd r = rw (minus-half-pi-is, minus-pi-is) (by-sides half-pi r half-pi-plus (sub-neg pi r) under (inl refl))
+second-fold-odd : (r : Float) → Opposite (second-fold r) (second-fold (neg r))
+unfolding second-fold
+second-fold-odd r = rw (minus-half-pi-is, minus-pi-is) (by-sides half-pi r half-pi-plus (sub-neg pi r) under (inl refl))
   where
     under : Opposite (neg pi ⊖ r) (pi ⊖ neg r)
     under = subst (λ (z : Float). Opposite (neg pi ⊖ r) (z ⊖ neg r)) (neg-neg pi) (sub-neg (neg pi) r)
@@ -97,9 +97,9 @@ sin-at-odd r =
     ∙ clamp-odd (r ⊗ series sin-div 10 (r ⊗ r) one)
 
 -- ---- +0 stays +0
-tuck-zero : tuck zero-f ≡ zero-f
-unfolding tuck lt ofBits
-tuck-zero = refl
+second-fold-zero : second-fold zero-f ≡ zero-f
+unfolding second-fold lt ofBits
+second-fold-zero = refl
 
 sin-at-zero : sin-at zero-f ≡ zero-f
 unfolding sin-at series clamp lt add sub neg mul div ofBits ofInt
@@ -112,7 +112,7 @@ through g z h {x} {y} (inr e) = inr (ap g (e .0) ∙ z, ap g (e .1) ∙ z)
 
 pub sin-odd : (x : Float) → Opposite (sin x) (sin (neg x))
 unfolding sin
-sin-odd x = through sin-at sin-at-zero (λ r. inl (sin-at-odd r)) (through tuck tuck-zero tuck-odd (fold-odd x))
+sin-odd x = through sin-at sin-at-zero (λ r. inl (sin-at-odd r)) (through second-fold second-fold-zero second-fold-odd (fold-odd x))
 
 pub cos-even : (x : Float) → cos (neg x) ≡ cos x
 unfolding cos

@@ -16,7 +16,7 @@ use Rattle.ieee.proofs.Range.Quotients.{div-mag}
 use Rattle.ieee.proofs.Range.Tests.{choose, lt-in, lt-size, within, nlt-most, clamp-mag}
 use Rattle.ieee.proofs.Range.Rem.{rem-mag}
 use Rattle.trig.specs.Angles.{tau, pi, minus-pi, half-pi, minus-half-pi}
-use Rattle.trig.specs.Trig.{wrap, fold, tuck, series, sin-div, cos-div, sin-at, sin, cos-at, cos-of, cos}
+use Rattle.trig.specs.Trig.{wrap, fold, second-fold, series, sin-div, cos-div, sin-at, sin, cos-at, cos-of, cos}
 use Rattle.trig.proofs.Constants.{minus-one-is, minus-pi-is, minus-half-pi-is}
 
 -- ---- the constants. T is 7074237752028440 / 2 ^ 50, π is half of it
@@ -56,9 +56,9 @@ pub fold-mag : (x : Float) → T (finite x) → Mag P 51 (fold x)
 unfolding fold
 fold-mag x f = wrap-mag (rem binary64 x tau) (rem-mag x f tau-in tt)
 
-tuck-mag : (r : Float) → Mag P 51 r → Mag P 52 (tuck r)
-unfolding tuck
-tuck-mag r h =
+second-fold-mag : (r : Float) → Mag P 51 r → Mag P 52 (second-fold r)
+unfolding second-fold
+second-fold-mag r h =
     choose (λ z. Mag P 52 z) (lt half-pi r) (pi ⊖ r) (cond (lt r minus-half-pi) (minus-pi ⊖ r) r)
     (λ t. sub-gap pi-in (lt-in half-pi-in h t) tt)
     (λ u. choose (λ z. Mag P 52 z) (lt r minus-half-pi) (minus-pi ⊖ r) r
@@ -97,7 +97,7 @@ sin-at-mag r h =
 
 pub sin-mag : (x : Float) → T (finite x) → Mag 1 0 (sin x)
 unfolding sin
-sin-mag x f = sin-at-mag (tuck (fold x)) (tuck-mag (fold x) (fold-mag x f))
+sin-mag x f = sin-at-mag (second-fold (fold x)) (second-fold-mag (fold x) (fold-mag x f))
 
 -- ---- cos: the last divisor is 2, so the last step stands alone
 all-but-last : (d : ℕ → Float) (m : ℕ) (z p : Float) → series d (suc m) z p ≡ series d 1 z (series (λ k. d (suc k)) m z p)
@@ -145,8 +145,8 @@ fold-none nan t = refl
 fold-none (inf s) t = refl
 fold-none (fin s m e) t = absurd t
 
-sin-at-nan : sin-at (tuck nan) ≡ nan
-unfolding sin-at tuck series clamp lt sub mul div ofBits
+sin-at-nan : sin-at (second-fold nan) ≡ nan
+unfolding sin-at second-fold series clamp lt sub mul div ofBits
 sin-at-nan = refl
 
 cos-of-nan : cos-of (abs nan) ≡ nan
@@ -155,7 +155,7 @@ cos-of-nan = refl
 
 pub sin-none : (x : Float) → T (not (finite x)) → sin x ≡ nan
 unfolding sin
-sin-none x t = ap (λ (r : Float). sin-at (tuck r)) (fold-none x t) ∙ sin-at-nan
+sin-none x t = ap (λ (r : Float). sin-at (second-fold r)) (fold-none x t) ∙ sin-at-nan
 
 pub cos-none : (x : Float) → T (not (finite x)) → cos x ≡ nan
 unfolding cos

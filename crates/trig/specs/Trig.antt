@@ -18,8 +18,8 @@ unfoldable pub fold : Float → Float
 fold x = wrap (rem binary64 x tau)
 
 -- sin's second: above π/2 take π - r, below -π/2 take -π - r
-unfoldable pub tuck : Float → Float
-tuck r = cond (lt half-pi r) (pi ⊖ r) (cond (lt r minus-half-pi) (minus-pi ⊖ r) r)
+unfoldable pub second-fold : Float → Float
+second-fold r = cond (lt half-pi r) (pi ⊖ r) (cond (lt r minus-half-pi) (minus-pi ⊖ r) r)
 
 -- ---- the series: for m down to 1, p = 1 - (p·z)/(d m)
 unfoldable pub series : (ℕ → Float) → ℕ → Float → Float → Float
@@ -39,7 +39,7 @@ unfoldable pub sin-at : Float → Float
 sin-at r = clamp (r ⊗ series sin-div 10 (r ⊗ r) one) minus-one one
 
 unfoldable pub sin : Float → Float
-sin x = sin-at (tuck (fold x))
+sin x = sin-at (second-fold (fold x))
 
 -- ---- cos: p = 1; for m = 11 down to 1, z = a·a; clamped
 unfoldable pub cos-at : Float → Float

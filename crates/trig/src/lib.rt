@@ -1,7 +1,7 @@
 // sin and cos as document 01's section 2 gives them, each for every f64.
 ghost use mathlib.Core.Path.{_≡_};
 ghost use Rattle.ieee.specs.Functions.{one};
-ghost use Rattle.trig.specs.Trig.{fold, tuck, series, sin-div, cos-div, sin-at, sin, cos-at, cos-of, cos, sin-cos};
+ghost use Rattle.trig.specs.Trig.{fold, second-fold, series, sin-div, cos-div, sin-at, sin, cos-at, cos-of, cos, sin-cos};
 
 const TAU: f64 = 6.283185307179586;
 
@@ -24,8 +24,8 @@ fn fold(x: f64) -> f64
 }
 
 // sin's second fold: to -π/2..π/2.
-fn tuck(r: f64) -> f64
-    ensures { λ s. ⌜ s ≡ tuck r ⌝ }
+fn second_fold(r: f64) -> f64
+    ensures { λ s. ⌜ s ≡ second-fold r ⌝ }
 {
     if r > HALF_PI {
         PI - r
@@ -97,7 +97,7 @@ fn cos_of(a: f64) -> f64
 pub fn sin(x: f64) -> f64
     ensures { λ r. ⌜ r ≡ sin x ⌝ }
 {
-    sin_at(tuck(fold(x)))
+    sin_at(second_fold(fold(x)))
 }
 
 pub fn cos(x: f64) -> f64
@@ -118,7 +118,7 @@ pub fn sin_cos(x: f64) -> SinCos
 {
     let r = fold(x);
     SinCos {
-        sin: sin_at(tuck(r)),
+        sin: sin_at(second_fold(r)),
         cos: cos_of(ieee::abs(r)),
     }
 }

@@ -6,7 +6,7 @@ use borrow.Author.Needs.{needs}
 use borrow.Author.Tests.{not-true, not-false}
 use Rattle.limits.specs.declared.Surface.{Surface}
 use Rattle.limits.specs.declared.Judgement.{Judgement}
-use Rattle.limits.specs.Limits.{bend, surface-passes, judgement}
+use Rattle.limits.specs.Limits.{snell-size, surface-passes, judgement}
 use Rattle.sheet.specs.Words.{count}
 use Rattle.gate.proofs.Blocks.{Left, beam-fails, beam-holds, surface-fails, surface-inside, surface-holds, layer-fails, layer-inside, layer-holds, all-within}
 use Rattle.gate.proofs.limits.Statement.{statement}
@@ -17,14 +17,14 @@ module _ (j : Judgement) (s : Surface) (e : j ≡ judgement s) where
   passes-of : j .passes ≡ surface-passes s
   passes-of = ap (λ (z : Judgement). z .passes) e
 
-  bend-of : j .bend ≡ bend (s .«n_incident») (s .«angle_rad»)
-  bend-of = ap (λ (z : Judgement). z .bend) e
+  snell-of : j .snell ≡ snell-size (s .«n_incident») (s .«angle_rad»)
+  snell-of = ap (λ (z : Judgement). z .snell) e
 
 abbrev Inv-loop : tie.InvT-loop
-Inv-loop src n at₀ bend₀ at b = Left src n at b
+Inv-loop src n at₀ snell₀ at b = Left src n at b
 
 abbrev μ-loop : tie.MeasureT-loop
-μ-loop src n at₀ bend₀ at b = count src + 8 - at
+μ-loop src n at₀ snell₀ at b = count src + 8 - at
 
 float-from-requires : tie.Need-float-from-requires Inv-loop μ-loop
 float-from-requires c κs = search needs
@@ -69,7 +69,7 @@ loop-less : tie.Need-loop-less Inv-loop μ-loop
 loop-less c = omega (arith, surface-inside _ _ _ _ (c .before .before .before .before .before .before .loop .inv) _ (c .before .before .before .before .before .word-from .ensures) (c .before .before .before .before .if2 .taken) _ (c .before .before .before .surface-at .ensures) _ (passes-of _ _ (c .before .before .judge-surface .ensures)))
 
 loop-again : tie.Need-loop-again Inv-loop μ-loop
-loop-again c = surface-holds _ _ _ _ (c .before .before .before .before .before .before .loop .inv) _ (c .before .before .before .before .before .word-from .ensures) (c .before .before .before .before .if2 .taken) _ (c .before .before .before .surface-at .ensures) _ (passes-of _ _ (c .before .before .judge-surface .ensures)) (not-false _ (c .if3 .left)) _ (bend-of _ _ (c .before .before .judge-surface .ensures))
+loop-again c = surface-holds _ _ _ _ (c .before .before .before .before .before .before .loop .inv) _ (c .before .before .before .before .before .word-from .ensures) (c .before .before .before .before .if2 .taken) _ (c .before .before .before .surface-at .ensures) _ (passes-of _ _ (c .before .before .judge-surface .ensures)) (not-false _ (c .if3 .left)) _ (snell-of _ _ (c .before .before .judge-surface .ensures))
 
 layer-at-requires : tie.Need-layer-at-requires Inv-loop μ-loop
 layer-at-requires c κs = search needs

@@ -10,7 +10,7 @@ use Rattle.limits.specs.declared.Surface.{Surface}
 use Rattle.surface.specs.declared.Powers.{Powers}
 use Rattle.surface.specs.Answers.{powers}
 use Rattle.sheet.specs.Read.{surface-at}
-use Rattle.sheet_values.specs.Values.{films, window, layers-at}
+use Rattle.sheet_values.specs.Values.{films, surface-value, layers-at}
 use Rattle.sheet_answers.specs.declared.PowersReply.{PowersReply}
 use Rattle.sheet_answers.specs.declared.PowersReply.the-variants as R
 use Rattle.sheet_answers.specs.Outcome.{outcome-of}
@@ -19,17 +19,17 @@ use Rattle.optical_train.specs.Train.{chosen, chosen-of, chosen-powers}
 use Rattle.optical_train.proofs.chosen_at.Statement.{statement}
 use Rattle.optical_train.proofs.chosen_at.Tie as tie
 
-module _ (src : List ℕ) (at n : ℕ) (w : Float) (reply : PowersReply) (h : outcome-of reply ≡ powers w (window (surface-at src at [])) (films (layers-at src (at + 7) n))) where
+module _ (src : List ℕ) (at n : ℕ) (w : Float) (reply : PowersReply) (h : outcome-of reply ≡ powers w (surface-value (surface-at src at [])) (films (layers-at src (at + 7) n))) where
   abbrev answered : Chosen
   answered = chosen-powers w (surface-at src at (layers-at src (at + 7) n))
 
-  picked : (s : Surface) (r : Powers) (q : Chosen) → q ≡ chosen (s .reflected) r → s ≡ window (surface-at src at []) → reply ≡ R.Powers r → q ≡ answered
+  picked : (s : Surface) (r : Powers) (q : Chosen) → q ≡ chosen (s .reflected) r → s ≡ surface-value (surface-at src at []) → reply ≡ R.Powers r → q ≡ answered
   unfolding chosen-powers
-  picked s r q e f g = e ∙ ap (λ (z : Surface). chosen (z .reflected) r) f ∙ ap (chosen-of (window (surface-at src at []) .reflected)) (sym (ap outcome-of g) ∙ h)
+  picked s r q e f g = e ∙ ap (λ (z : Surface). chosen (z .reflected) r) f ∙ ap (chosen-of (surface-value (surface-at src at []) .reflected)) (sym (ap outcome-of g) ∙ h)
 
   unanswered : (r : Refusal) (x : Float) → x ≡ nan → reply ≡ R.Refused r → record { s = x; p = x } ≡ answered
   unfolding chosen-powers
-  unanswered r x e g = rw e (ap (chosen-of (window (surface-at src at []) .reflected)) (sym (ap outcome-of g) ∙ h))
+  unanswered r x e g = rw e (ap (chosen-of (surface-value (surface-at src at []) .reflected)) (sym (ap outcome-of g) ∙ h))
 
 powers-at-requires : tie.Need-powers-at-requires
 powers-at-requires c κs = search needs

@@ -17,7 +17,7 @@ use Rattle.sheet.specs.Words.{float}
 use Rattle.sheet.specs.Read.{read, decode, surface-at}
 use Rattle.sheet.specs.Scan.{run}
 use Rattle.sheet.proofs.Blocks.{begins}
-use Rattle.sheet_values.specs.Values.{value, films, window, layers-at}
+use Rattle.sheet_values.specs.Values.{value, films, surface-value, layers-at}
 use Rattle.gate.specs.Gate as Gate
 use Rattle.gate.specs.Gate.{gate}
 use Rattle.gate.proofs.Admitted.{admitted, turned-back}
@@ -37,7 +37,7 @@ module _ (src : List ℕ) (i n : ℕ) (e : answer n ≡ gate src) where
   -- the surface that stands at a place is the i-th, and it is answered
   there : i < n → (at m : ℕ) → ((x : Sheet) → decode src ≡ read x → i < length (x .surfaces) → surface-at src at (layers-at src (at + 7) (run 16 src at)) ≡ nth (x .surfaces) i)
       → m ≡ run 16 src at → (w : Float) → w ≡ value (float src 2)
-      → (a : Answers) × ((answers w (window (surface-at src at [])) (films (layers-at src (at + 7) m)) ≡ answer a) × (surface-answers src i ≡ answer a))
+      → (a : Answers) × ((answers w (surface-value (surface-at src at [])) (films (layers-at src (at + 7) m)) ≡ answer a) × (surface-answers src i ≡ answer a))
   unfolding surface-answers
   there h at m f em w ew =
       let a = admitted src n e in
@@ -45,8 +45,8 @@ module _ (src : List ℕ) (i n : ℕ) (e : answer n ≡ gate src) where
       let d : i < length xs = omega (arith, a .counts) in
       let y : surface-at src at (layers-at src (at + 7) m) ≡ nth xs i = ap (λ (k : ℕ). surface-at src at (layers-at src (at + 7) k)) em ∙ f (a .sheet) (a .reads) d in
       let v : w ≡ value (a .sheet .wavelength) = ew ∙ ap value (sym (begins src (a .sheet) (a .reads) .wavelength)) in
-      let same : answers w (window (surface-at src at [])) (films (layers-at src (at + 7) m)) ≡ answers (value (a .sheet .wavelength)) (window (nth xs i)) (films (nth xs i .layers)) =
-      ap (λ (z : Surface). answers w (window z) (films (z .layers))) y ∙ ap (λ (z : Float). answers z (window (nth xs i)) (films (nth xs i .layers))) v
+      let same : answers w (surface-value (surface-at src at [])) (films (layers-at src (at + 7) m)) ≡ answers (value (a .sheet .wavelength)) (surface-value (nth xs i)) (films (nth xs i .layers)) =
+      ap (λ (z : Surface). answers w (surface-value z) (films (z .layers))) y ∙ ap (λ (z : Float). answers z (surface-value (nth xs i)) (films (nth xs i .layers))) v
       in
       let l : length (nth xs i .layers) ≤ 16 = subst (λ (z : Surface). length (z .layers) ≤ 16) y (sixteen at m em) in
       let r = answered (value (a .sheet .wavelength)) (wavelength-within (a .sheet) (a .within)) (nth xs i) (all-nth (Good (value (a .sheet .wavelength))) xs i (a .within .surfaces) d) l in
@@ -56,7 +56,7 @@ module _ (src : List ℕ) (i n : ℕ) (e : answer n ≡ gate src) where
       sixteen at m em = omega (arith, few m src at em, layers-length src (at + 7) m)
 
   whole : i < n → (at m : ℕ) → ((x : Sheet) → decode src ≡ read x → i < length (x .surfaces) → surface-at src at (layers-at src (at + 7) (run 16 src at)) ≡ nth (x .surfaces) i)
-      → m ≡ run 16 src at → (w : Float) → w ≡ value (float src 2) → (reply : AnswersReply) → reply ≡ returned (answers w (window (surface-at src at [])) (films (layers-at src (at + 7) m)))
+      → m ≡ run 16 src at → (w : Float) → w ≡ value (float src 2) → (reply : AnswersReply) → reply ≡ returned (answers w (surface-value (surface-at src at [])) (films (layers-at src (at + 7) m)))
       → record { refusal = record { number = reply .refusal; place = 0 }; answers = reply .answers } ≡ given (surface-answers src i)
   unfolding returned given
   whole h at m f em w ew reply er =

@@ -18,7 +18,7 @@ abbrev diagonal : Complex → Complex → Product
 diagonal o z = record { m11 = o; m12 = z; m21 = z; m22 = o }
 
 parts : (n0 ns angle w : Float) (y : SinCos) (o z : Complex) → y ≡ sin-cos angle → o ≡ real F.one → z ≡ zero
-    → _≡_ {A = Stack} (record { «n_incident» = n0; «n_substrate» = ns; «cos_theta0» = y .cos; side = n0 ⊗ y .sin; «wavelength_nm» = w; s = diagonal o z; p = diagonal o z }) (begin n0 ns angle w)
+    → _≡_ {A = Stack} (record { «n_incident» = n0; «n_substrate» = ns; «cos_theta0» = y .cos; snell = n0 ⊗ y .sin; «wavelength_nm» = w; s = diagonal o z; p = diagonal o z }) (begin n0 ns angle w)
 unfolding begin
 parts n0 ns angle w y o z e f g = simp (e, f, g)
 

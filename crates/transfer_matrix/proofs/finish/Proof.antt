@@ -13,7 +13,7 @@ use borrow.Author.Needs.{needs}
 use Rattle.transfer_matrix.proofs.finish.Statement.{statement}
 use Rattle.transfer_matrix.proofs.finish.Tie as tie
 
-parts : (k : Stack) (z n e f : Complex) (m : Float) → z ≡ cos-theta-sub (k .side ⊘ k .«n_substrate») → n ≡ real (k .«n_substrate») → e ≡ real (k .«n_incident» ⊗ k .«cos_theta0»)
+parts : (k : Stack) (z n e f : Complex) (m : Float) → z ≡ cos-theta-sub (k .snell ⊘ k .«n_substrate») → n ≡ real (k .«n_substrate») → e ≡ real (k .«n_incident» ⊗ k .«cos_theta0»)
     → m ≡ max (k .«cos_theta0») least-cos → f ≡ real (k .«n_incident» ⊘ m) → (x y : Complex) (s p : Solved) → x ≡ mul n z → s ≡ solve (nested (k .s)) e x → y ≡ div n z → p ≡ solve (nested (k .p)) f y
     → respond s p ≡ finish k
 unfolding finish eta0-s eta0-p eta-sub-s eta-sub-p

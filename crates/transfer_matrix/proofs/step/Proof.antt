@@ -18,7 +18,7 @@ use Rattle.transfer_matrix.proofs.step.Statement.{statement}
 use Rattle.transfer_matrix.proofs.step.Tie as tie
 
 module _ (k : Stack) (layer : ThinFilmLayer) (n z e f d : Complex) (q : Phase)
-    (n-is : n ≡ record { re = layer .n; im = neg (layer .k) }) (z-is : z ≡ cos-theta (k .side) n) (e-is : e ≡ mul n z) (f-is : f ≡ div n z)
+    (n-is : n ≡ record { re = layer .n; im = neg (layer .k) }) (z-is : z ≡ cos-theta (k .snell) n) (e-is : e ≡ mul n z) (f-is : f ≡ div n z)
     (d-is : d ≡ scale e (two ⊗ pi ⊗ layer .«thickness_nm» ⊘ k .«wavelength_nm»)) (q-is : q ≡ record { cos = cos-delta d; «i_sin» = i-sin-delta d }) where
   film : Complex → Matrix
   film eta = matrix (q .cos) (div (q .«i_sin») eta) (mul (q .«i_sin») eta) (q .cos)
@@ -27,20 +27,20 @@ module _ (k : Stack) (layer : ThinFilmLayer) (n z e f d : Complex) (q : Phase)
   unfolding film characteristic
   film-is eta = simp q-is
 
-  d-of : d ≡ delta (k .side) (k .«wavelength_nm») layer
+  d-of : d ≡ delta (k .snell) (k .«wavelength_nm») layer
   unfolding delta index factor
   d-of = cc
 
-  s-is : film e ≡ layer-s (k .side) (k .«wavelength_nm») layer
+  s-is : film e ≡ layer-s (k .snell) (k .«wavelength_nm») layer
   unfolding layer-s index
-  s-is = film-is e ∙ ap (λ (x : Complex). characteristic x e) d-of ∙ ap (characteristic (delta (k .side) (k .«wavelength_nm») layer)) (cc)
+  s-is = film-is e ∙ ap (λ (x : Complex). characteristic x e) d-of ∙ ap (characteristic (delta (k .snell) (k .«wavelength_nm») layer)) (cc)
 
-  p-is : film f ≡ layer-p (k .side) (k .«wavelength_nm») layer
+  p-is : film f ≡ layer-p (k .snell) (k .«wavelength_nm») layer
   unfolding layer-p index
-  p-is = film-is f ∙ ap (λ (x : Complex). characteristic x f) d-of ∙ ap (characteristic (delta (k .side) (k .«wavelength_nm») layer)) (cc)
+  p-is = film-is f ∙ ap (λ (x : Complex). characteristic x f) d-of ∙ ap (characteristic (delta (k .snell) (k .«wavelength_nm») layer)) (cc)
 
   parts : (m′ n′ : Matrix) (s p : Product) → m′ ≡ film e → s ≡ product (mat-mul (nested (k .s)) m′) → n′ ≡ film f → p ≡ product (mat-mul (nested (k .p)) n′)
-      → _≡_ {A = Stack} (record { «n_incident» = k .«n_incident»; «n_substrate» = k .«n_substrate»; «cos_theta0» = k .«cos_theta0»; side = k .side; «wavelength_nm» = k .«wavelength_nm»; s = s; p = p }) (step k layer)
+      → _≡_ {A = Stack} (record { «n_incident» = k .«n_incident»; «n_substrate» = k .«n_substrate»; «cos_theta0» = k .«cos_theta0»; snell = k .snell; «wavelength_nm» = k .«wavelength_nm»; s = s; p = p }) (step k layer)
   unfolding step
   parts m′ n′ s p h1 h2 h3 h4 = simp (h4, h3, h2, h1, s-is, p-is)
 

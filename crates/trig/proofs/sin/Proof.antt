@@ -7,8 +7,8 @@ use Rattle.trig.proofs.sin.Tie as tie
 fold-requires : tie.Need-fold-requires
 fold-requires c κs = search needs
 
-tuck-requires : tie.Need-tuck-requires
-tuck-requires c κs = search needs
+second-fold-requires : tie.Need-second-fold-requires
+second-fold-requires c κs = search needs
 
 sin-at-requires : tie.Need-sin-at-requires
 sin-at-requires c κs = search needs
@@ -18,4 +18,4 @@ unfolding sin
 returns c = cc
 
 pub sin-spec : {M : Type 1} → statement M
-sin-spec = tie.close (tie.spec fold-requires tuck-requires sin-at-requires returns)
+sin-spec = tie.close (tie.spec fold-requires second-fold-requires sin-at-requires returns)

@@ -7,8 +7,8 @@ use Rattle.trig.proofs.sin_cos.Tie as tie
 fold-requires : tie.Need-fold-requires
 fold-requires c κs = search needs
 
-tuck-requires : tie.Need-tuck-requires
-tuck-requires c κs = search needs
+second-fold-requires : tie.Need-second-fold-requires
+second-fold-requires c κs = search needs
 
 sin-at-requires : tie.Need-sin-at-requires
 sin-at-requires c κs = search needs
@@ -25,4 +25,4 @@ returns c = cc
 
 pub sin-cos-spec : {M : Type 1} → statement M
 sin-cos-spec =
-    tie.close (tie.spec fold-requires tuck-requires sin-at-requires abs-requires cos-of-requires returns)
+    tie.close (tie.spec fold-requires second-fold-requires sin-at-requires abs-requires cos-of-requires returns)
