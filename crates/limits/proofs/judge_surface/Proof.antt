@@ -14,7 +14,7 @@ use Rattle.limits.proofs.judge_surface.Statement.{statement}
 use Rattle.limits.proofs.judge_surface.Tie as tie
 
 -- the judgement of the one sine and cosine
-judges : (s : Surface) (t : SinCos) (a : Float) (p : Bool) → t ≡ sin-cos (s .«angle_rad») → a ≡ abs (t .sin) → p ≡ surface-within (s .«n_incident» ⊗ a) (t .cos) s → _≡_ {A = Judgement} (record { passes = p; snell-size = s .«n_incident» ⊗ a }) (judgement s)
+judges : (s : Surface) (t : SinCos) (a : Float) (p : Bool) → t ≡ sin-cos (s .«angle_rad») → a ≡ abs (t .sin) → p ≡ surface-within (s .«n_incident» ⊗ a) (t .cos) s → _≡_ {A = Judgement} (record { passes = p; snell = s .«n_incident» ⊗ a }) (judgement s)
 unfolding surface-passes angle-passes
 judges s t a p e f g = rw (g, f, e)
 
