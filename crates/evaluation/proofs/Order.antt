@@ -1,4 +1,4 @@
--- Facts on lists of layers that the two loops cite: a stack takes one layer more, and the i-th layer that is read stands where `place` says.
+-- Facts on lists of layers that the loops over layers cite: a stack takes one layer more, and the i-th layer that is read stands where `place` says.
 --     front, done, as-long, within, goes-on                 where every layer is read, from either end
 --     at-most, inside, starts, turns, ends, none-lent       where all or none of a lent list are
 -- Assumes nothing.

@@ -48,7 +48,7 @@ fn refused(sheet: &Sheet) -> u64 {
     }
 }
 
-/// surface and solver_bounds, `bent_four_times`: total reflection within a thick layer overflows.
+/// limits and solver_bounds, `bent_four_times`: total reflection within a thick layer overflows.
 #[test]
 fn light_bent_further() {
     let sheet = sheet(100.0, [2.0, 2.0, 1.0], &[[1.0, 0.0, 100_000.0]]);
@@ -60,7 +60,7 @@ fn light_bent_further() {
         .is_nan());
 }
 
-/// surface, `grazing_light`: a cosine of zero.
+/// limits, `grazing_light`: a cosine of zero.
 #[test]
 fn grazing_light() {
     let sheet = sheet(100.0, [1.0, 1.5, PI / 2.0], &[]);
