@@ -1,42 +1,52 @@
 // The functions 60 to 79: of thin films.
-use super::polar::entry_out;
-use super::polar::response_at;
-use super::polar::z_at;
-use super::words::big_endian;
-use super::words::bits;
-use super::words::num;
-use super::words::small;
+ghost use Prim.Native.Nat.{_≤_};
+use super::numbers::Four;
+use super::numbers::four_at;
+use super::numbers::one;
+use super::polar::jones_at;
 use coating::Built;
 use coating::Coating;
 use coating::Layers;
+use complex::Complex;
 use evaluation::Evaluation;
+use mueller::JonesMatrix;
 use thin_film::SurfaceCoating;
 use thin_film::Text;
 use transfer_matrix::CoatingResponse;
 use transfer_matrix::ThinFilmLayer;
 
-fn one(out: &mut [u64; 256], x: f64) -> usize {
-    out[0] = bits(x);
-    1
+fn layer_out(out: &mut [u64; 256], at: usize, l: ThinFilmLayer) {
+    let w = [l.n, l.k, l.thickness_nm];
+    records::write(out, at, &w);
 }
 
-fn layer_out(out: &mut [u64; 256], at: usize, l: ThinFilmLayer) {
-    if at < 253 {
-        out[at] = bits(l.n);
-        out[at + 1] = bits(l.k);
-        out[at + 2] = bits(l.thickness_nm);
+fn layer_at(a: &[u8], i: usize) -> ThinFilmLayer
+    requires { ⌜ i ≤ 512 ⌝ }
+{
+    let x = four_at(a, i);
+    ThinFilmLayer {
+        n: x.a,
+        k: x.b,
+        thickness_nm: x.c,
     }
 }
 
-fn layer_at(a: &[u64; 512], at: usize) -> ThinFilmLayer {
-    if at < 509 {
-        ThinFilmLayer {
-            n: num(a[at]),
-            k: num(a[at + 1]),
-            thickness_nm: num(a[at + 2]),
-        }
-    } else {
-        ThinFilmLayer::dielectric(0.0, 0.0)
+// The response in a call's first fourteen words.
+pub fn response_at(a: &[u8]) -> CoatingResponse {
+    let r = four_at(a, 0);
+    let t = four_at(a, 4);
+    let powers = four_at(a, 8);
+    CoatingResponse {
+        rs: Complex::new(r.a, r.b),
+        rp: Complex::new(r.c, r.d),
+        ts: Complex::new(t.a, t.b),
+        tp: Complex::new(t.c, t.d),
+        reflectance_s: powers.a,
+        reflectance_p: powers.b,
+        transmittance_s: powers.c,
+        transmittance_p: powers.d,
+        phase_rs_rad: records::float_at(a, 12),
+        phase_rp_rad: records::float_at(a, 13),
     }
 }
 
@@ -60,7 +70,7 @@ fn code_of(c: Coating) -> u64 {
 }
 
 // A coating as it is ordered, by its code, 1 to 8.
-pub fn surface(code: u32, design: f64) -> SurfaceCoating {
+fn surface(code: u32, design: f64) -> SurfaceCoating {
     match code {
         1 => SurfaceCoating::IdealAr,
         2 => SurfaceCoating::MgF2 {
@@ -72,101 +82,80 @@ pub fn surface(code: u32, design: f64) -> SurfaceCoating {
     }
 }
 
-// The layers behind a count word.
-fn layers_at(a: &[u64; 512], at: usize) -> Layers {
+// The same of a call's first two words.
+pub fn surface_at(a: &[u8]) -> SurfaceCoating {
+    surface(records::small_at(a, 0), records::float_at(a, 1))
+}
+
+// The layers behind the count in the fourth word. They end the record, so those past them are zero.
+fn layers_at(a: &[u8]) -> Layers {
     let mut items = [ThinFilmLayer {
         n: 0.0,
         k: 0.0,
         thickness_nm: 0.0,
     }; 64];
-    let mut count = 0;
-    if at < 200 {
-        count = small(a[at]) as usize;
-        let mut i = 0;
-        while i < 64 {
-            if i < count {
-                items[i] = layer_at(a, at + 1 + 3 * i);
-            }
-            i += 1;
-        }
+    let mut i = 0;
+    while i < 64 {
+        items[i] = layer_at(a, 4 + 3 * i);
+        i += 1;
     }
-    Layers { items, count }
+    Layers {
+        items,
+        count: records::small_at(a, 3) as usize,
+    }
 }
 
-// The first 72 of the layers behind a count word.
-fn items_at(a: &[u64; 512], at: usize) -> [ThinFilmLayer; 72] {
+// The first 72 of the layers from a place on.
+fn items_at(a: &[u8], from: usize) -> [ThinFilmLayer; 72]
+    requires { ⌜ from ≤ 8 ⌝ }
+{
     let mut items = [ThinFilmLayer {
         n: 0.0,
         k: 0.0,
         thickness_nm: 0.0,
     }; 72];
-    if at < 200 {
-        let mut i = 0;
-        while i < 72 {
-            items[i] = layer_at(a, at + 1 + 3 * i);
-            i += 1;
-        }
+    let mut i = 0;
+    while i < 72 {
+        items[i] = layer_at(a, from + 3 * i);
+        i += 1;
     }
     items
 }
 
-// The layers with their count.
-fn layers_out(out: &mut [u64; 256], at: usize, layers: Layers) -> usize {
-    let items = layers.items;
-    let count = layers.count;
-    if at < 16 {
-        out[at] = count as u64;
-        let mut i = 0;
-        while i < 64 {
-            if i < count {
-                layer_out(out, at + 1 + 3 * i, items[i]);
-            }
-            i += 1;
-        }
-        if count <= 64 {
-            return at + 1 + 3 * count;
-        }
-    }
-    0
-}
-
-fn built_out(out: &mut [u64; 256], at: usize, b: Built) -> usize {
+// A coating's code and its layers with their count, from a place on; the place behind them.
+fn built_out(out: &mut [u64; 256], at: usize, b: Built) -> usize
+    requires { ⌜ at ≤ 1 ⌝ }
+{
     let c = b.coating;
     let layers = b.layers;
-    if at < 8 {
-        out[at] = code_of(c);
-        return layers_out(out, at + 1, layers);
+    let items = layers.items;
+    let count = layers.count;
+    if count > 64 {
+        return 0;
     }
-    0
+    out[at] = code_of(c);
+    out[at + 1] = count as u64;
+    let mut i = 0;
+    while i < count {
+        layer_out(out, at + 2 + 3 * i, items[i]);
+        i += 1;
+    }
+    at + 2 + 3 * count
 }
 
 // The same behind an outcome word.
 fn outcome_out(out: &mut [u64; 256], b: Built) -> usize {
     out[0] = b.refusal as u64;
     if b.refusal == 0 {
-        built_out(out, 1, b)
-    } else {
-        out[1] = 0;
-        2
+        return built_out(out, 1, b);
     }
+    out[1] = 0;
+    2
 }
 
 fn response_out(out: &mut [u64; 256], r: CoatingResponse) -> usize {
-    let rs = r.rs;
-    let rp = r.rp;
-    let ts = r.ts;
-    let tp = r.tp;
     out[0] = 0;
-    entry_out(out, 1, rs);
-    entry_out(out, 3, rp);
-    entry_out(out, 5, ts);
-    entry_out(out, 7, tp);
-    out[9] = bits(r.reflectance_s);
-    out[10] = bits(r.reflectance_p);
-    out[11] = bits(r.transmittance_s);
-    out[12] = bits(r.transmittance_p);
-    out[13] = bits(r.phase_rs_rad);
-    out[14] = bits(r.phase_rp_rad);
+    records::write_response(out, 1, r);
     15
 }
 
@@ -186,7 +175,7 @@ fn mgf2_out(out: &mut [u64; 256], s: SurfaceCoating) -> usize {
     if let SurfaceCoating::MgF2 {
         design_wavelength_nm,
     } = s {
-        out[1] = bits(design_wavelength_nm);
+        out[1] = records::bits(design_wavelength_nm);
     }
     2
 }
@@ -196,103 +185,84 @@ pub fn text_out(out: &mut [u64; 256], t: Text) -> usize {
     let b = t.bytes;
     let n = t.len;
     out[0] = n as u64;
-    out[1] = big_endian(b[0], b[1], b[2], b[3], b[4], b[5], b[6], b[7]);
-    out[2] = big_endian(b[8], b[9], b[10], b[11], b[12], b[13], b[14], b[15]);
+    out[1] = records::word_at(&b, 0);
+    out[2] = records::word_at(&b, 1);
     if n <= 8 { 2 } else { 3 }
 }
 
-fn product(a: &[u64; 512], out: &mut [u64; 256]) -> usize {
-    let x = [[z_at(a, 0), z_at(a, 2)], [z_at(a, 4), z_at(a, 6)]];
-    let y = [[z_at(a, 8), z_at(a, 10)], [z_at(a, 12), z_at(a, 14)]];
-    let m = transfer_matrix::mat_mul_2x2(x, y);
-    entry_out(out, 0, m[0][0]);
-    entry_out(out, 2, m[0][1]);
-    entry_out(out, 4, m[1][0]);
-    entry_out(out, 6, m[1][1]);
-    8
-}
-
-fn layer_call(f: usize, a: &[u64; 512], out: &mut [u64; 256]) -> usize {
-    match f {
-        60 => {
-            layer_out(out, 0, ThinFilmLayer::dielectric(num(a[0]), num(a[1])));
-            3
-        }
-        61 => {
-            layer_out(
-                out,
-                0,
-                ThinFilmLayer::absorbing(num(a[0]), num(a[1]), num(a[2])),
-            );
-            3
-        }
-        62 => one(out, response_at(a).unpolarized_reflectance()),
-        63 => one(out, response_at(a).unpolarized_transmittance()),
-        _ => 0,
+fn product(x: JonesMatrix, y: JonesMatrix) -> JonesMatrix {
+    let a = x.m;
+    let b = y.m;
+    let m = transfer_matrix::mat_mul_2x2(
+        [[a[0], a[1]], [a[2], a[3]]],
+        [[b[0], b[1]], [b[2], b[3]]],
+    );
+    JonesMatrix {
+        m: [m[0][0], m[0][1], m[1][0], m[1][1]],
     }
 }
 
-// The evaluations, which read a lent list of layers.
-fn evaluate_call(f: usize, a: &[u64; 512], out: &mut [u64; 256]) -> usize {
+fn coating_evaluation(a: &[u8]) -> Evaluation {
+    let x = four_at(a, 1);
+    let n = records::small_at(a, 5) as usize;
+    let c = coating(records::small_at(a, 0));
+    lent_layers::evaluate_coating(c, items_at(a, 6), n, x.a, x.b, x.c, x.d)
+}
+
+fn surface_evaluation(a: &[u8]) -> Evaluation {
+    let x = four_at(a, 2);
+    let n = records::small_at(a, 6) as usize;
+    lent_layers::evaluate_surface(surface_at(a), items_at(a, 7), n, x.a, x.b, x.c, x.d)
+}
+
+fn multilayer_response(a: &[u8]) -> CoatingResponse {
+    let x = four_at(a, 0);
+    let n = records::small_at(a, 4) as usize;
+    lent_layers::evaluate_multilayer(items_at(a, 5), n, x.a, x.b, x.c, x.d)
+}
+
+// 60 to 63.
+fn small_call(f: usize, x: Four, r: CoatingResponse, out: &mut [u64; 256]) -> usize {
     match f {
-        69 => evaluation_out(
+        60 => {
+            layer_out(out, 0, ThinFilmLayer::dielectric(x.a, x.b));
+            3
+        }
+        61 => {
+            layer_out(out, 0, ThinFilmLayer::absorbing(x.a, x.b, x.c));
+            3
+        }
+        62 => one(out, r.unpolarized_reflectance()),
+        _ => one(out, r.unpolarized_transmittance()),
+    }
+}
+
+// 64 to 67.
+fn built_call(f: usize, a: &[u8], x: Four, out: &mut [u64; 256]) -> usize {
+    match f {
+        64 => built_out(out, 0, Coating::quarter_wave_ar(x.a, x.b, x.c)),
+        65 => outcome_out(
             out,
-            lent_layers::evaluate_coating(
-                coating(small(a[0])),
-                items_at(a, 5),
-                small(a[5]) as usize,
-                num(a[1]),
-                num(a[2]),
-                num(a[3]),
-                num(a[4]),
-            ),
+            Coating::bragg_mirror(x.a, x.b, records::small_at(a, 2) as usize, x.d),
         ),
-        70 => evaluation_out(
-            out,
-            lent_layers::evaluate_surface(
-                surface(small(a[0]), num(a[1])),
-                items_at(a, 6),
-                small(a[6]) as usize,
-                num(a[2]),
-                num(a[3]),
-                num(a[4]),
-                num(a[5]),
-            ),
-        ),
-        71 => response_out(
-            out,
-            lent_layers::evaluate_multilayer(
-                items_at(a, 4),
-                small(a[4]) as usize,
-                num(a[0]),
-                num(a[1]),
-                num(a[2]),
-                num(a[3]),
-            ),
-        ),
-        _ => layer_call(f, a, out),
+        66 => mgf2_out(out, SurfaceCoating::mgf2_default()),
+        _ => outcome_out(out, surface_at(a).to_coating(layers_at(a), x.c)),
     }
 }
 
 // How many words the function gave; 0 where it is not one of these.
-pub fn call(f: usize, a: &[u64; 512], out: &mut [u64; 256]) -> usize {
+pub fn call(f: usize, a: &[u8], out: &mut [u64; 256]) -> usize {
     match f {
-        64 => built_out(
-            out,
-            0,
-            Coating::quarter_wave_ar(num(a[0]), num(a[1]), num(a[2])),
-        ),
-        65 => outcome_out(
-            out,
-            Coating::bragg_mirror(num(a[0]), num(a[1]), small(a[2]) as usize, num(a[3])),
-        ),
-        66 => mgf2_out(out, SurfaceCoating::mgf2_default()),
-        67 => outcome_out(
-            out,
-            surface(small(a[0]), num(a[1])).to_coating(layers_at(a, 3), num(a[2])),
-        ),
-        68 => text_out(out, surface(small(a[0]), num(a[1])).label()),
-        72 => product(a, out),
-        _ => evaluate_call(f, a, out),
+        60..=63 => small_call(f, four_at(a, 0), response_at(a), out),
+        64..=67 => built_call(f, a, four_at(a, 0), out),
+        68 => text_out(out, surface_at(a).label()),
+        69 => evaluation_out(out, coating_evaluation(a)),
+        70 => evaluation_out(out, surface_evaluation(a)),
+        71 => response_out(out, multilayer_response(a)),
+        72 => {
+            records::write_jones(out, 0, product(jones_at(a, 0), jones_at(a, 8)));
+            8
+        }
+        _ => 0,
     }
 }

@@ -3,29 +3,28 @@
 // README.md has the record format.
 mod films;
 mod names;
+mod numbers;
 mod polar;
-mod scalars;
-mod words;
 
-// The place of the first word in which two answers of n words differ; n where there is none.
-fn difference(got: &[u64; 256], want: &[u64; 512], n: usize) -> usize {
+use records::Header;
+
+fn print_words(label: &[u8], b: &[u8]) {
+    io::write_all(1, label);
+    let n = b.len() / 8;
+    let mut i = 0;
+    while i < n {
+        io::write_all(1, b" ");
+        io::print_hex(1, records::word_at(b, i), 16);
+        i += 1;
+    }
+    io::write_all(1, b"\n");
+}
+
+fn print_got(w: &[u64; 256], n: usize) {
+    io::write_all(1, b"  computed");
     let mut i = 0;
     while i < n {
         if i < 256 {
-            if got[i] != want[i] {
-                return i;
-            }
-        }
-        i += 1;
-    }
-    n
-}
-
-fn print_words(label: &[u8], w: &[u64], n: usize) {
-    io::write_all(1, label);
-    let mut i = 0;
-    while i < n {
-        if i < w.len() {
             io::write_all(1, b" ");
             io::print_hex(1, w[i], 16);
         }
@@ -35,83 +34,63 @@ fn print_words(label: &[u8], w: &[u64], n: usize) {
 }
 
 // A record that differs, whole.
-fn print_record(
-    f: usize,
-    a: &[u64; 512],
-    args: usize,
-    want: &[u64; 512],
-    results: usize,
-    got: &[u64; 256],
-    count: usize,
-) {
+fn print_record(f: usize, a: &[u8], want: &[u8], got: &[u64; 256], count: usize) {
     io::write_all(1, b"function ");
     io::print_decimal(1, f as u64);
     io::write_all(1, b" differs\n");
-    print_words(b"  arguments", a, args);
-    print_words(b"  recorded", want, results);
-    print_words(b"  computed", got, count);
+    print_words(b"  arguments", a);
+    print_words(b"  recorded", want);
+    print_got(got, count);
 }
 
-fn call(f: usize, a: &[u64; 512], out: &mut [u64; 256]) -> usize {
+// Whether the first words of an answer are the recorded ones; if not, and if it is the first of its
+// function, the record is printed.
+fn compared(f: usize, a: &[u8], want: &[u8], got: &[u64; 256], count: usize, first: bool) -> bool {
+    if records::same(got, count, want) {
+        return true;
+    }
+    if first {
+        print_record(f, a, want, got, count);
+    }
+    false
+}
+
+// How many words the function gave; 0 where it is not one of these.
+fn call(f: usize, a: &[u8], out: &mut [u64; 256]) -> usize {
     if f < 60 {
-        scalars::call(f, a, out)
+        numbers::call(f, a, out)
     } else if f < 80 {
         films::call(f, a, out)
+    } else if f < 120 {
+        polar::vector_call(f, a, out)
     } else if f < 140 {
-        polar::call(f, a, out)
+        polar::matrix_call(f, a, out)
     } else {
         names::call(f, a, out)
     }
 }
 
-// What a record's header says: the function, and the counts of its argument and result words.
-struct Header {
-    function: usize,
-    args: usize,
-    results: usize,
-}
-
-fn header_of(b: &[u8; 8]) -> Header {
-    let w = words::word_at(b, 0);
-    Header {
-        function: (w / 0x1_0000_0000_0000) as usize,
-        args: (w / 0x1_0000_0000 % 0x1_0000) as usize,
-        results: (w / 0x1_0000 % 0x1_0000) as usize,
-    }
-}
-
-// Whether the answer to a record is the recorded one; if not, and if it is the first of its function,
-// the record is printed.
-fn agrees(h: Header, body: &[u8], first: bool) -> bool {
-    let mut a = [0u64; 512];
-    let mut want = [0u64; 512];
+// Whether the answer to a record is the recorded one.
+fn agrees(f: usize, a: &[u8], want: &[u8], first: bool) -> bool {
     let mut got = [0u64; 256];
+    let count = call(f, a, &mut got);
+    compared(f, a, want, &got, count, first)
+}
+
+// The same of a record's words, all of which were read.
+fn body_agrees(h: Header, body: &[u8], first: bool) -> bool {
     if h.args > 512 {
         return false;
     }
     if h.results > 256 {
         return false;
     }
-    words::take(body, 0, h.args, &mut a);
-    words::take(body, 8 * h.args, h.results, &mut want);
-    let count = call(h.function, &a, &mut got);
-    if count == h.results {
-        if difference(&got, &want, count) == count {
-            return true;
-        }
-    }
-    if first {
-        print_record(h.function, &a, h.args, &want, h.results, &got, count);
-    }
-    false
-}
-
-// Reads n bytes; whether they were all there.
-fn read_bytes(body: &mut [u8], n: usize) -> bool {
-    if body.len() < n {
+    let middle = 8 * h.args;
+    let end = middle + 8 * h.results;
+    if end > body.len() {
         return false;
     }
-    io::read_full(0, &mut body[..n]) == n
+    agrees(h.function, &body[..middle], &body[middle..end], first)
 }
 
 // Reads a record's words; whether they were all there.
@@ -122,7 +101,45 @@ fn read_body(h: Header, body: &mut [u8]) -> bool {
     if h.results > 256 {
         return false;
     }
-    read_bytes(body, 8 * (h.args + h.results))
+    let n = 8 * (h.args + h.results);
+    if body.len() < n {
+        return false;
+    }
+    io::read_full(0, &mut body[..n]) == n
+}
+
+// Whether every answer of a function so far agreed.
+fn clean(f: usize, all: &[u32; 256], agreed: &[u32; 256]) -> bool {
+    if f < 256 {
+        return all[f] == agreed[f];
+    }
+    false
+}
+
+// One more answer of a function; there are fewer records than a count holds.
+fn count(f: usize, counts: &mut [u32; 256]) {
+    if f < 256 {
+        counts[f] = std::num::wrapping_add_u32(counts[f], 1);
+    }
+}
+
+// One record: whether there was one.
+fn replay(all: &mut [u32; 256], agreed: &mut [u32; 256], body: &mut [u8; 6144]) -> bool {
+    let mut header = [0u8; 8];
+    if io::read_full(0, &mut header) != 8 {
+        return false;
+    }
+    let h = records::header_of(&header);
+    if !read_body(h, body) {
+        io::write_all(1, b"a record is cut off or too long\n");
+        return false;
+    }
+    let f = h.function;
+    if body_agrees(h, body, clean(f, all, agreed)) {
+        count(f, agreed);
+    }
+    count(f, all);
+    true
 }
 
 fn print_line(f: usize, agreed: u32, all: u32) {
@@ -146,38 +163,12 @@ fn print_tally(all: &[u32; 256], agreed: &[u32; 256]) {
     }
 }
 
-fn more(n: u32) -> u32 {
-    if n < 0xffff_ffff { n + 1 } else { n }
-}
-
-// One record: whether there was one.
-fn replay(all: &mut [u32; 256], agreed: &mut [u32; 256]) -> bool {
-    let mut header = [0u8; 8];
-    let mut body = [0u8; 6144];
-    if io::read_full(0, &mut header) != 8 {
-        return false;
-    }
-    let h = header_of(&header);
-    if !read_body(h, &mut body) {
-        io::write_all(1, b"a record is cut off or too long\n");
-        return false;
-    }
-    let f = h.function;
-    if f < 256 {
-        let first = all[f] == agreed[f];
-        if agrees(h, &body, first) {
-            agreed[f] = more(agreed[f]);
-        }
-        all[f] = more(all[f]);
-    }
-    true
-}
-
 fn main() {
     let mut all = [0u32; 256];
     let mut agreed = [0u32; 256];
+    let mut body = [0u8; 6144];
     for _ in 0..0xffff_ffffu32 {
-        if !replay(&mut all, &mut agreed) {
+        if !replay(&mut all, &mut agreed, &mut body) {
             break;
         }
     }

@@ -1,11 +1,6 @@
 // The functions 160 to 174: of sheets and trains. Each gives its count of words; 0 where it is not one
 // of these, or where a refusal or a run changed what it must leave.
 use super::answers::answers_out;
-use super::words::bits;
-use super::words::bytes_at;
-use super::words::float_at;
-use super::words::small;
-use super::words::word_at;
 use gate::Gated;
 use optical_train::Started;
 use optical_train::State;
@@ -18,10 +13,10 @@ fn refusal_out(out: &mut [u64; 256], r: Refusal) -> usize {
 }
 
 fn state_out(out: &mut [u64; 256], state: State) -> usize {
+    let w = [state.s, state.p];
     out[0] = 0;
     out[1] = state.done as u64;
-    out[2] = bits(state.s);
-    out[3] = bits(state.p);
+    records::write(out, 2, &w);
     4
 }
 
@@ -44,7 +39,8 @@ fn start_call(src: &[u8], out: &mut [u64; 256]) -> usize {
 }
 
 fn same_state(a: State, b: State) -> bool {
-    a.done == b.done && (bits(a.s) == bits(b.s) && bits(a.p) == bits(b.p))
+    a.done == b.done
+        && (records::bits(a.s) == records::bits(b.s) && records::bits(a.p) == records::bits(b.p))
 }
 
 fn step_call(src: &[u8], state: State, out: &mut [u64; 256]) -> usize {
@@ -100,14 +96,9 @@ fn untouched(list: &[f64; 160], from: usize) -> bool {
     true
 }
 
-fn list_out(out: &mut [u64; 256], list: &[f64; 160], n: usize) {
-    let mut i = 0;
-    while i < n {
-        if i < 160 {
-            out[i + 2] = bits(list[i]);
-        }
-        i += 1;
-    }
+// All of a list; how much of it counts is for the caller to say.
+fn list_out(out: &mut [u64; 256], list: &[f64; 160]) {
+    records::write(out, 2, list);
 }
 
 // A run that lends the first n places of a list.
@@ -120,7 +111,7 @@ fn run_call(src: &[u8], n: usize, out: &mut [u64; 256]) -> usize {
     match ran {
         Gated::Admitted(count) => {
             let words = 2 * (count as usize);
-            list_out(out, &list, words);
+            list_out(out, &list);
             out[0] = 0;
             out[1] = count as u64;
             if untouched(&list, words) {
@@ -152,20 +143,21 @@ fn answers_call(src: &[u8], i: u32, out: &mut [u64; 256]) -> usize {
 
 fn state_at(a: &[u8]) -> State {
     State {
-        done: small(word_at(a, 0)),
-        s: float_at(a, 8),
-        p: float_at(a, 16),
+        done: records::small_at(a, 0),
+        s: records::float_at(a, 1),
+        p: records::float_at(a, 2),
     }
 }
 
 pub fn call(f: usize, a: &[u8], out: &mut [u64; 256]) -> usize {
+    let n = records::small_at(a, 0);
     match f {
-        160 => gate_call(bytes_at(a, 0), out),
-        170 => start_call(bytes_at(a, 0), out),
-        171 => step_call(bytes_at(a, 24), state_at(a), out),
-        172 => run_call(bytes_at(a, 8), small(word_at(a, 0)) as usize, out),
-        173 => answers_call(bytes_at(a, 8), small(word_at(a, 0)), out),
-        174 => steps_call(bytes_at(a, 8), small(word_at(a, 0)), out),
+        160 => gate_call(records::bytes_at(a, 0), out),
+        170 => start_call(records::bytes_at(a, 0), out),
+        171 => step_call(records::bytes_at(a, 3), state_at(a), out),
+        172 => run_call(records::bytes_at(a, 1), n as usize, out),
+        173 => answers_call(records::bytes_at(a, 1), n, out),
+        174 => steps_call(records::bytes_at(a, 1), n, out),
         _ => 0,
     }
 }

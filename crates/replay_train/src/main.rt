@@ -3,21 +3,19 @@
 // README.md has the record format.
 mod answers;
 mod calls;
-mod words;
 
-// The words of an answer that is recorded in bytes, from the first on: the place of the first that
-// differs; n where there is none.
-fn difference(got: &[u64; 256], want: &[u8], n: usize) -> usize {
+use records::Header;
+
+fn print_words(label: &[u8], b: &[u8]) {
+    io::write_all(1, label);
+    let n = b.len() / 8;
     let mut i = 0;
     while i < n {
-        if i < 256 {
-            if got[i] != words::word_at(want, 8 * i) {
-                return i;
-            }
-        }
+        io::write_all(1, b" ");
+        io::print_hex(1, records::word_at(b, i), 16);
         i += 1;
     }
-    n
+    io::write_all(1, b"\n");
 }
 
 fn print_got(w: &[u64; 256], n: usize) {
@@ -33,18 +31,6 @@ fn print_got(w: &[u64; 256], n: usize) {
     io::write_all(1, b"\n");
 }
 
-fn print_words(label: &[u8], b: &[u8]) {
-    io::write_all(1, label);
-    let n = b.len() / 8;
-    let mut i = 0;
-    while i < n {
-        io::write_all(1, b" ");
-        io::print_hex(1, words::word_at(b, 8 * i), 16);
-        i += 1;
-    }
-    io::write_all(1, b"\n");
-}
-
 // A record that differs, whole.
 fn print_record(f: usize, a: &[u8], want: &[u8], got: &[u64; 256], count: usize) {
     io::write_all(1, b"function ");
@@ -55,64 +41,26 @@ fn print_record(f: usize, a: &[u8], want: &[u8], got: &[u64; 256], count: usize)
     print_got(got, count);
 }
 
-// Whether the answer to a record is the recorded one; if not, and if it is the first of its function,
-// the record is printed.
-fn agrees(f: usize, a: &[u8], want: &[u8], first: bool) -> bool {
-    let mut got = [0u64; 256];
-    let count = calls::call(f, a, &mut got);
-    if count == want.len() / 8 {
-        if difference(&got, want, count) == count {
-            return true;
-        }
+// Whether the first words of an answer are the recorded ones; if not, and if it is the first of its
+// function, the record is printed.
+fn compared(f: usize, a: &[u8], want: &[u8], got: &[u64; 256], count: usize, first: bool) -> bool {
+    if records::same(got, count, want) {
+        return true;
     }
     if first {
-        print_record(f, a, want, &got, count);
+        print_record(f, a, want, got, count);
     }
     false
 }
 
-// What a record's header says: the function, and the counts of its argument and result words.
-struct Header {
-    function: usize,
-    args: usize,
-    results: usize,
+// Whether the answer to a record is the recorded one.
+fn agrees(f: usize, a: &[u8], want: &[u8], first: bool) -> bool {
+    let mut got = [0u64; 256];
+    let count = calls::call(f, a, &mut got);
+    compared(f, a, want, &got, count, first)
 }
 
-fn header_of(b: &[u8; 8]) -> Header {
-    let w = words::word_at(b, 0);
-    Header {
-        function: (w / 0x1_0000_0000_0000) as usize,
-        args: (w / 0x1_0000_0000 % 0x1_0000) as usize,
-        results: (w / 0x1_0000 % 0x1_0000) as usize,
-    }
-}
-
-fn print_line(f: u64, agreed: u32, all: u32) {
-    io::write_all(1, b"function ");
-    io::print_decimal(1, f);
-    io::write_all(1, b": ");
-    io::print_decimal(1, agreed as u64);
-    io::write_all(1, b" of ");
-    io::print_decimal(1, all as u64);
-    io::write_all(1, b" agree\n");
-}
-
-// A line for each function that was called; they are counted from 160 on.
-fn print_tally(all: &[u32; 16], agreed: &[u32; 16]) {
-    let mut f = 0;
-    while f < 16 {
-        if all[f] > 0 {
-            print_line(160 + f as u64, agreed[f], all[f]);
-        }
-        f += 1;
-    }
-}
-
-fn more(n: u32) -> u32 {
-    if n < 0xffff_ffff { n + 1 } else { n }
-}
-
-// Whether a record's words, all of which were read, agree.
+// The same of a record's words, all of which were read.
 fn body_agrees(h: Header, body: &[u8], first: bool) -> bool {
     if h.args > 4096 {
         return false;
@@ -128,28 +76,6 @@ fn body_agrees(h: Header, body: &[u8], first: bool) -> bool {
     agrees(h.function, &body[..middle], &body[middle..end], first)
 }
 
-// The same, counted.
-fn count(h: Header, body: &[u8], all: &mut [u32; 16], agreed: &mut [u32; 16]) {
-    if h.function >= 160 {
-        let i = h.function - 160;
-        if i < 16 {
-            let first = all[i] == agreed[i];
-            if body_agrees(h, body, first) {
-                agreed[i] = more(agreed[i]);
-            }
-            all[i] = more(all[i]);
-        }
-    }
-}
-
-// Reads n bytes; whether they were all there.
-fn read_bytes(body: &mut [u8], n: usize) -> bool {
-    if body.len() < n {
-        return false;
-    }
-    io::read_full(0, &mut body[..n]) == n
-}
-
 // Reads a record's words; whether they were all there.
 fn read_body(h: Header, body: &mut [u8]) -> bool {
     if h.args > 4096 {
@@ -158,30 +84,74 @@ fn read_body(h: Header, body: &mut [u8]) -> bool {
     if h.results > 256 {
         return false;
     }
-    read_bytes(body, 8 * (h.args + h.results))
+    let n = 8 * (h.args + h.results);
+    if body.len() < n {
+        return false;
+    }
+    io::read_full(0, &mut body[..n]) == n
+}
+
+// Whether every answer of a function so far agreed.
+fn clean(f: usize, all: &[u32; 256], agreed: &[u32; 256]) -> bool {
+    if f < 256 {
+        return all[f] == agreed[f];
+    }
+    false
+}
+
+// One more answer of a function; there are fewer records than a count holds.
+fn count(f: usize, counts: &mut [u32; 256]) {
+    if f < 256 {
+        counts[f] = std::num::wrapping_add_u32(counts[f], 1);
+    }
 }
 
 // One record: whether there was one.
-fn replay(all: &mut [u32; 16], agreed: &mut [u32; 16]) -> bool {
+fn replay(all: &mut [u32; 256], agreed: &mut [u32; 256], body: &mut [u8; 34816]) -> bool {
     let mut header = [0u8; 8];
-    let mut body = io::large_buffer();
     if io::read_full(0, &mut header) != 8 {
         return false;
     }
-    let h = header_of(&header);
-    if !read_body(h, &mut body) {
+    let h = records::header_of(&header);
+    if !read_body(h, body) {
         io::write_all(1, b"a record is cut off or too long\n");
         return false;
     }
-    count(h, &body, all, agreed);
+    let f = h.function;
+    if body_agrees(h, body, clean(f, all, agreed)) {
+        count(f, agreed);
+    }
+    count(f, all);
     true
 }
 
+fn print_line(f: usize, agreed: u32, all: u32) {
+    io::write_all(1, b"function ");
+    io::print_decimal(1, f as u64);
+    io::write_all(1, b": ");
+    io::print_decimal(1, agreed as u64);
+    io::write_all(1, b" of ");
+    io::print_decimal(1, all as u64);
+    io::write_all(1, b" agree\n");
+}
+
+// A line for each function that was called.
+fn print_tally(all: &[u32; 256], agreed: &[u32; 256]) {
+    let mut f = 0;
+    while f < 256 {
+        if all[f] > 0 {
+            print_line(f, agreed[f], all[f]);
+        }
+        f += 1;
+    }
+}
+
 fn main() {
-    let mut all = [0u32; 16];
-    let mut agreed = [0u32; 16];
+    let mut all = [0u32; 256];
+    let mut agreed = [0u32; 256];
+    let mut body = [0u8; 34816];
     for _ in 0..0xffff_ffffu32 {
-        if !replay(&mut all, &mut agreed) {
+        if !replay(&mut all, &mut agreed, &mut body) {
             break;
         }
     }

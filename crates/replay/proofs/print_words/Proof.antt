@@ -5,10 +5,10 @@ use Rattle.replay.proofs.print_words.Statement.{statement}
 use Rattle.replay.proofs.print_words.Tie as tie
 
 abbrev Inv-loop : tie.InvT-loop
-Inv-loop label w n i₀ t5 t6 i = i ≤ n
+Inv-loop label b n i₀ t5 t6 i = i ≤ n
 
 abbrev μ-loop : tie.MeasureT-loop
-μ-loop label w n i₀ t5 t6 i = n - i
+μ-loop label b n i₀ t5 t6 i = n - i
 
 write-all-requires : tie.Need-write-all-requires Inv-loop μ-loop
 write-all-requires c κs = search needs
@@ -22,11 +22,8 @@ slice-aggregate-write-all c = search needs
 write-all-requires-2 : tie.Need-write-all-requires-2 Inv-loop μ-loop
 write-all-requires-2 c κs = search needs
 
-mul-print-hex : tie.Need-mul-print-hex Inv-loop μ-loop
-mul-print-hex c = search needs
-
-shared-slice-read-print-hex : tie.Need-shared-slice-read-print-hex Inv-loop μ-loop
-shared-slice-read-print-hex c = search needs
+word-at-requires : tie.Need-word-at-requires Inv-loop μ-loop
+word-at-requires c κs = search needs
 
 print-hex-requires : tie.Need-print-hex-requires Inv-loop μ-loop
 print-hex-requires c κs = search needs
@@ -50,21 +47,4 @@ returns : tie.Need-returns Inv-loop μ-loop
 returns c = search needs
 
 pub print-words-spec : {M : Type 1} → statement M
-print-words-spec =
-    tie.close
-    (tie.spec
-    Inv-loop
-    μ-loop
-    write-all-requires
-    loop-holds
-    slice-aggregate-write-all
-    write-all-requires-2
-    mul-print-hex
-    shared-slice-read-print-hex
-    print-hex-requires
-    add-i
-    loop-less
-    loop-again
-    slice-aggregate-write-all-2
-    write-all-requires-3
-    returns)
+print-words-spec = tie.close (tie.spec Inv-loop μ-loop write-all-requires loop-holds slice-aggregate-write-all write-all-requires-2 word-at-requires print-hex-requires add-i loop-less loop-again slice-aggregate-write-all-2 write-all-requires-3 returns)

@@ -42,4 +42,18 @@ returns-4 : tie.Need-returns-4
 returns-4 c = search needs
 
 pub body-agrees-spec : {M : Type 1} → statement M
-body-agrees-spec = tie.close (tie.spec returns returns-2 mul-middle mul-end add-end returns-3 slice-aggregate-agrees sub-agrees part-agrees-start part-agrees-end agrees-requires returns-4)
+body-agrees-spec =
+    tie.close
+    (tie.spec
+    returns
+    returns-2
+    mul-middle
+    mul-end
+    add-end
+    returns-3
+    slice-aggregate-agrees
+    sub-agrees
+    part-agrees-start
+    part-agrees-end
+    agrees-requires
+    returns-4)

@@ -5,10 +5,10 @@ use Rattle.replay_train.proofs.main.Statement.{statement}
 use Rattle.replay_train.proofs.main.Tie as tie
 
 abbrev Inv-loop : tie.InvT-loop
-Inv-loop all₀ agreed₀ counter₀ all agreed counter = counter ≤ 0xffff_ffff
+Inv-loop all₀ agreed₀ body₀ counter₀ all agreed body counter = counter ≤ 0xffff_ffff
 
 abbrev μ-loop : tie.MeasureT-loop
-μ-loop all₀ agreed₀ counter₀ all agreed counter = 0xffff_ffff - counter
+μ-loop all₀ agreed₀ body₀ counter₀ all agreed body counter = 0xffff_ffff - counter
 
 loop-holds : tie.Need-loop-holds Inv-loop μ-loop
 loop-holds c = search needs
@@ -32,4 +32,15 @@ returns : tie.Need-returns Inv-loop μ-loop
 returns c = search needs
 
 pub main-spec : {M : Type 1} → statement M
-main-spec = tie.close (tie.spec Inv-loop μ-loop loop-holds replay-requires add-counter loop-less loop-again print-tally-requires returns)
+main-spec =
+    tie.close
+    (tie.spec
+    Inv-loop
+    μ-loop
+    loop-holds
+    replay-requires
+    add-counter
+    loop-less
+    loop-again
+    print-tally-requires
+    returns)

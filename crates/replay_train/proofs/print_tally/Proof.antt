@@ -5,10 +5,10 @@ use Rattle.replay_train.proofs.print_tally.Statement.{statement}
 use Rattle.replay_train.proofs.print_tally.Tie as tie
 
 abbrev Inv-loop : tie.InvT-loop
-Inv-loop all agreed f₀ f = f ≤ 16
+Inv-loop all agreed f₀ f = f ≤ 256
 
 abbrev μ-loop : tie.MeasureT-loop
-μ-loop all agreed f₀ f = 16 - f
+μ-loop all agreed f₀ f = 256 - f
 
 loop-holds : tie.Need-loop-holds Inv-loop μ-loop
 loop-holds c = search needs
@@ -18,9 +18,6 @@ mul-if1 c = search needs
 
 element-copy-out-if1 : tie.Need-element-copy-out-if1 Inv-loop μ-loop
 element-copy-out-if1 c = search needs
-
-add-print-line : tie.Need-add-print-line Inv-loop μ-loop
-add-print-line c = search needs
 
 mul-print-line : tie.Need-mul-print-line Inv-loop μ-loop
 mul-print-line c = search needs
@@ -50,4 +47,20 @@ returns : tie.Need-returns Inv-loop μ-loop
 returns c = search needs
 
 pub print-tally-spec : {M : Type 1} → statement M
-print-tally-spec = tie.close (tie.spec Inv-loop μ-loop loop-holds mul-if1 element-copy-out-if1 add-print-line mul-print-line element-copy-out-print-line mul-print-line-2 element-copy-out-print-line-2 print-line-requires add-f loop-less loop-again returns)
+print-tally-spec =
+    tie.close
+    (tie.spec
+    Inv-loop
+    μ-loop
+    loop-holds
+    mul-if1
+    element-copy-out-if1
+    mul-print-line
+    element-copy-out-print-line
+    mul-print-line-2
+    element-copy-out-print-line-2
+    print-line-requires
+    add-f
+    loop-less
+    loop-again
+    returns)

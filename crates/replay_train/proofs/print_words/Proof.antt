@@ -22,9 +22,6 @@ slice-aggregate-write-all c = search needs
 write-all-requires-2 : tie.Need-write-all-requires-2 Inv-loop μ-loop
 write-all-requires-2 c κs = search needs
 
-mul-word-at : tie.Need-mul-word-at Inv-loop μ-loop
-mul-word-at c = search needs
-
 word-at-requires : tie.Need-word-at-requires Inv-loop μ-loop
 word-at-requires c κs = search needs
 
@@ -50,4 +47,4 @@ returns : tie.Need-returns Inv-loop μ-loop
 returns c = search needs
 
 pub print-words-spec : {M : Type 1} → statement M
-print-words-spec = tie.close (tie.spec Inv-loop μ-loop write-all-requires loop-holds slice-aggregate-write-all write-all-requires-2 mul-word-at word-at-requires print-hex-requires add-i loop-less loop-again slice-aggregate-write-all-2 write-all-requires-3 returns)
+print-words-spec = tie.close (tie.spec Inv-loop μ-loop write-all-requires loop-holds slice-aggregate-write-all write-all-requires-2 word-at-requires print-hex-requires add-i loop-less loop-again slice-aggregate-write-all-2 write-all-requires-3 returns)

@@ -1,26 +1,23 @@
--- `replay::items_at` is safe and ends. Assumes nothing.
+-- `replay::films::items_at` is safe and ends. Assumes nothing.
 use Prim.Native.Nat.{_-_, _≤_}
 use borrow.Author.Needs.{needs}
 use Rattle.replay.proofs.films.items_at.Statement.{statement}
 use Rattle.replay.proofs.films.items_at.Tie as tie
 
 abbrev Inv-loop : tie.InvT-loop
-Inv-loop a at items₀ i₀ items i = i ≤ 72
+Inv-loop a from items₀ i₀ items i = i ≤ 72
 
 abbrev μ-loop : tie.MeasureT-loop
-μ-loop a at items₀ i₀ items i = 72 - i
+μ-loop a from items₀ i₀ items i = 72 - i
 
 loop-holds : tie.Need-loop-holds Inv-loop μ-loop
 loop-holds c = search needs
 
-add-layer-at : tie.Need-add-layer-at Inv-loop μ-loop
-add-layer-at c = search needs
-
 mul-layer-at : tie.Need-mul-layer-at Inv-loop μ-loop
 mul-layer-at c = search needs
 
-add-layer-at-2 : tie.Need-add-layer-at-2 Inv-loop μ-loop
-add-layer-at-2 c = search needs
+add-layer-at : tie.Need-add-layer-at Inv-loop μ-loop
+add-layer-at c = search needs
 
 layer-at-requires : tie.Need-layer-at-requires Inv-loop μ-loop
 layer-at-requires c κs = search needs
@@ -43,9 +40,6 @@ loop-again c = search needs
 returns : tie.Need-returns Inv-loop μ-loop
 returns c = search needs
 
-returns-2 : tie.Need-returns-2 Inv-loop μ-loop
-returns-2 c = search needs
-
 pub items-at-spec : {M : Type 1} → statement M
 items-at-spec =
     tie.close
@@ -53,14 +47,12 @@ items-at-spec =
     Inv-loop
     μ-loop
     loop-holds
-    add-layer-at
     mul-layer-at
-    add-layer-at-2
+    add-layer-at
     layer-at-requires
     mul-items
     array-set-from-items
     add-i
     loop-less
     loop-again
-    returns
-    returns-2)
+    returns)

@@ -1,38 +1,23 @@
--- `replay::layers_at` is safe and ends. Assumes nothing.
+-- `replay::films::layers_at` is safe and ends. Assumes nothing.
 use Prim.Native.Nat.{_-_, _≤_}
 use borrow.Author.Needs.{needs}
 use Rattle.replay.proofs.films.layers_at.Statement.{statement}
 use Rattle.replay.proofs.films.layers_at.Tie as tie
 
 abbrev Inv-loop : tie.InvT-loop
-Inv-loop a at items₀ count i₀ items i = i ≤ 64
+Inv-loop a items₀ i₀ items i = i ≤ 64
 
 abbrev μ-loop : tie.MeasureT-loop
-μ-loop a at items₀ count i₀ items i = 64 - i
-
-mul-small : tie.Need-mul-small Inv-loop μ-loop
-mul-small c = search needs
-
-element-copy-out-small : tie.Need-element-copy-out-small Inv-loop μ-loop
-element-copy-out-small c = search needs
-
-small-requires : tie.Need-small-requires Inv-loop μ-loop
-small-requires c κs = search needs
-
-cast-count : tie.Need-cast-count Inv-loop μ-loop
-cast-count c = search needs
+μ-loop a items₀ i₀ items i = 64 - i
 
 loop-holds : tie.Need-loop-holds Inv-loop μ-loop
 loop-holds c = search needs
 
-add-layer-at : tie.Need-add-layer-at Inv-loop μ-loop
-add-layer-at c = search needs
-
 mul-layer-at : tie.Need-mul-layer-at Inv-loop μ-loop
 mul-layer-at c = search needs
 
-add-layer-at-2 : tie.Need-add-layer-at-2 Inv-loop μ-loop
-add-layer-at-2 c = search needs
+add-layer-at : tie.Need-add-layer-at Inv-loop μ-loop
+add-layer-at c = search needs
 
 layer-at-requires : tie.Need-layer-at-requires Inv-loop μ-loop
 layer-at-requires c κs = search needs
@@ -52,11 +37,14 @@ loop-less c = search needs
 loop-again : tie.Need-loop-again Inv-loop μ-loop
 loop-again c = search needs
 
+small-at-requires : tie.Need-small-at-requires Inv-loop μ-loop
+small-at-requires c κs = search needs
+
+cast-t14 : tie.Need-cast-t14 Inv-loop μ-loop
+cast-t14 c = search needs
+
 returns : tie.Need-returns Inv-loop μ-loop
 returns c = search needs
-
-returns-2 : tie.Need-returns-2 Inv-loop μ-loop
-returns-2 c = search needs
 
 pub layers-at-spec : {M : Type 1} → statement M
 layers-at-spec =
@@ -64,19 +52,15 @@ layers-at-spec =
     (tie.spec
     Inv-loop
     μ-loop
-    mul-small
-    element-copy-out-small
-    small-requires
-    cast-count
     loop-holds
-    add-layer-at
     mul-layer-at
-    add-layer-at-2
+    add-layer-at
     layer-at-requires
     mul-items
     array-set-from-items
     add-i
     loop-less
     loop-again
-    returns
-    returns-2)
+    small-at-requires
+    cast-t14
+    returns)

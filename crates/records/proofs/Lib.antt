@@ -1,0 +1,2 @@
+-- Facts on the words of a record and of an answer.
+pub mod Words

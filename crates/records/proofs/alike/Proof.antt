@@ -1,0 +1,58 @@
+-- `records::alike` meets its contract. Assumes nothing.
+use mathlib.Core.Path.{_≡_, refl, sym, _∙_}
+use Prim.Native.Nat.{_+_, _-_, _≤_}
+use lib.ListN.{length, drop}
+use Rattle.records.specs.Words.{agree}
+use Rattle.records.proofs.Words.{goes-on, differs, counted}
+use borrow.Author.Needs.{needs}
+use Rattle.records.proofs.alike.Statement.{statement}
+use Rattle.records.proofs.alike.Tie as tie
+
+abbrev Inv-loop : tie.InvT-loop
+Inv-loop got want i₀ i = (i ≤ length got) × (agree (drop i got) want i ≡ agree got want 0)
+
+abbrev μ-loop : tie.MeasureT-loop
+μ-loop got want i₀ i = length got - i
+
+loop-holds : tie.Need-loop-holds Inv-loop μ-loop
+loop-holds c = (search needs, refl)
+
+mul-if1 : tie.Need-mul-if1 Inv-loop μ-loop
+mul-if1 c = search needs
+
+shared-slice-read-if1 : tie.Need-shared-slice-read-if1 Inv-loop μ-loop
+shared-slice-read-if1 c = search needs
+
+word-at-requires : tie.Need-word-at-requires Inv-loop μ-loop
+word-at-requires c κs = search needs
+
+returns : tie.Need-returns Inv-loop μ-loop
+returns c = differs _ _ _ (c .before .before .before .loop-test .taken) _ (c .before .word-at .ensures) (c .if1 .taken) ∙ c .before .before .before .before .loop .inv .1
+
+add-i : tie.Need-add-i Inv-loop μ-loop
+add-i c = search needs
+
+loop-less : tie.Need-loop-less Inv-loop μ-loop
+loop-less c = search needs
+
+loop-again : tie.Need-loop-again Inv-loop μ-loop
+loop-again c = (search needs, goes-on _ _ _ (c .before .before .before .loop-test .taken) _ (c .before .word-at .ensures) (c .if1 .left) ∙ c .before .before .before .before .loop .inv .1)
+
+returns-2 : tie.Need-returns-2 Inv-loop μ-loop
+returns-2 c = counted _ _ _ (c .loop-test .left) ∙ c .before .loop .inv .1
+
+pub alike-spec : {M : Type 1} → statement M
+alike-spec =
+    tie.close
+    (tie.spec
+    Inv-loop
+    μ-loop
+    loop-holds
+    mul-if1
+    shared-slice-read-if1
+    word-at-requires
+    returns
+    add-i
+    loop-less
+    loop-again
+    returns-2)

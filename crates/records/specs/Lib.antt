@@ -1,0 +1,3 @@
+-- Recorded answers: their words, and the words of an answer.
+pub mod Words
+pub mod Parts
