@@ -10,7 +10,8 @@ use Rattle.thin_film.specs.Coating.{mgf2-default, layers-of}
 use Rattle.limits.specs.declared.Interface.{Interface}
 use Rattle.limits.specs.declared.Interface.the-variants.{Bare, Coated}
 
--- payload / 2 is the coating: 0 bare, 1 IdealAr, 2 MgF2 at 550, 3 BroadbandAr, 4 HighReflectanceMirror, 5 Custom layers, 6 Coating::IdealBeamsplitter, 7 Coating::IdealMirror
+-- payload / 2 is the coating: 0 bare, 1 IdealAr, 2 MgF2 at 550, 3 BroadbandAr, 4 HighReflectanceMirror, 5 Custom layers, 6 Coating::IdealBeamsplitter, 7 Coating::IdealMirror;
+-- no payload of a sheet goes above it
 unfoldable pub interface : ℕ → Interface
 interface code =
     cond (eqb code 0) Bare
