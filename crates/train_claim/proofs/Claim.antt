@@ -18,13 +18,14 @@ use Rattle.surface.specs.Finite.{UnitPowers}
 use Rattle.surface.proofs.Alone.{powers-answered}
 use Rattle.sheet.specs.Sheet.{Surface, Sheet, All, GoodSurface, WellFormed, encode}
 use Rattle.sheet.proofs.Claim.{grammar-claim}
+use Rattle.sheet_values.specs.Nth.{nth}
 use Rattle.sheet_values.specs.Values.{value, films, window}
 use Rattle.gate.specs.Gate.{gated}
 use Rattle.gate.specs.Claim.{Within}
 use Rattle.gate.proofs.Claim.{gate-claim}
 use Rattle.optical_train.specs.declared.State.{State}
-use Rattle.optical_train.specs.Train.{chosen, chosen-powers, nth, fresh, start, past, stepped, step, after-each, Ran, ran, run}
-use Rattle.optical_train.proofs.Answers.{all-nth, Good, wavelength-within, answered}
+use Rattle.optical_train.specs.Train.{chosen, chosen-powers, fresh, start, past, stepped, step, after-each, Ran, ran, run}
+use Rattle.sheet_surfaces.proofs.Answers.{all-nth, Good, wavelength-within, answered}
 use Rattle.train_claim.specs.Claim.{worked-out, Action, a-step, act, acts, steps, Falls, AllFall, AnsweredWhole, Admitted, TrainClaim}
 use Rattle.train_claim.proofs.Falls.{Unit-powers, stays, taken, unit, begun, power-finite, sum-finite}
 use Rattle.train_claim.proofs.Values.{first, done-is, taken-on, all-done, coasts}

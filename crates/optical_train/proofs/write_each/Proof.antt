@@ -11,10 +11,12 @@ use Rattle.sheet.specs.Sheet.{Sheet}
 use Rattle.sheet.specs.Words.{float}
 use Rattle.sheet.specs.Read.{read, decode, surface-at}
 use Rattle.sheet.specs.Scan.{run}
+use Rattle.sheet_values.specs.Nth.{nth}
 use Rattle.sheet_values.specs.Values.{value, layers-at}
+use Rattle.sheet_values.proofs.Along.{At, first, surface-here, onward, few}
 use Rattle.optical_train.specs.declared.Chosen.{Chosen}
-use Rattle.optical_train.specs.Train.{nth, chosen-powers, fresh, after-each}
-use Rattle.optical_train.proofs.Along.{At, fresh-is, first, surface-here, onward, few}
+use Rattle.optical_train.specs.Train.{chosen-powers, fresh, after-each}
+use Rattle.optical_train.proofs.Fresh.{fresh-is}
 use Rattle.optical_train.proofs.Written.{Half, nothing, written, whole}
 use Rattle.optical_train.proofs.write_each.Statement.{statement}
 use Rattle.optical_train.proofs.write_each.Tie as tie
