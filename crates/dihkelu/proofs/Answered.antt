@@ -18,10 +18,11 @@ use Rattle.limits.specs.declared.Interface.the-variants.{Bare, Coated}
 use Rattle.limits.specs.Coating.{interface}
 use Rattle.surface.specs.Answers.{coated-answers, bare-answers, answers-of}
 use Rattle.sheet.specs.Sheet.{Sheet}
+use Rattle.sheet_values.specs.Nth.{nth}
 use Rattle.sheet_values.specs.Values.{value, films, surface-value}
 use Rattle.gate.specs.Gate.{gated}
-use Rattle.optical_train.specs.declared.SurfaceReply.{SurfaceReply}
-use Rattle.optical_train.specs.Train.{nth, answers-to, surface-answers, given}
+use Rattle.sheet_surfaces.specs.declared.SurfaceReply.{SurfaceReply}
+use Rattle.sheet_surfaces.specs.Surfaces.{answers-to, surface-answers, given}
 use Rattle.flat_layers.proofs.Plain.{Plain, either, mapped, of-surface}
 use Rattle.dihkelu.proofs.Returned.{Sound, plain-sound}
 use Rattle.dihkelu.proofs.Places.{gate-sound}

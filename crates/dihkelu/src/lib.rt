@@ -7,7 +7,8 @@ ghost use Rattle.gate.specs.Gate.{gated, gate};
 ghost use Rattle.flat_layers.specs.Evaluate.{evaluate};
 ghost use Rattle.call.specs.Call.{done, Apart, returned, answered};
 ghost use Rattle.call.specs.Layout.{evaluated, surface-answered};
-ghost use Rattle.optical_train.specs.Train.{step, run, surface-answers};
+ghost use Rattle.optical_train.specs.Train.{step, run};
+ghost use Rattle.sheet_surfaces.specs.Surfaces.{surface-answers};
 ghost use Rattle.dihkelu.specs.Train.{begun, gone-on, taken, run-whole};
 use evaluation::Evaluation;
 use gate::Gated;
@@ -129,7 +130,7 @@ pub extern "C" fn dihkelu_run(sheet: &[u8], list: &mut [f64]) -> u64
 pub extern "C" fn dihkelu_answers(sheet: &[u8], surface: u32, list: &mut [f64]) -> u64
     ensures { λ r. ⌜ done r (now (list .exit)) ≡ answered surface-answered (surface-answers (now (sheet .entry)) surface) (now (list .entry)) ⌝ }
 {
-    let reply = optical_train::surface_answers(sheet, surface);
+    let reply = sheet_surfaces::surface_answers(sheet, surface);
     let refusal = reply.refusal;
     if refusal.number != 0 {
         return call::packed(refusal);

@@ -1,5 +1,3 @@
--- Facts on a walk over the surfaces of a sheet, on what is written on the way, and demand 3.
-pub mod Along
+-- Facts on a fresh train, and on what a run writes on the way.
+pub mod Fresh
 pub mod Written
-pub mod Answers
-pub mod Nth

@@ -9,8 +9,9 @@ use lib.Seq.{drop-cons, drop-length, take-suc-set, drop-set-lt}
 use lib.Ieee.{Float}
 use Rattle.ieee.specs.Operators.{_⊗_}
 use Rattle.sheet.specs.Sheet.{Surface}
+use Rattle.sheet_values.specs.Nth.{no-surface, nth}
 use Rattle.optical_train.specs.declared.State.{State}
-use Rattle.optical_train.specs.Train.{no-surface, nth, chosen-powers, past, after-each}
+use Rattle.optical_train.specs.Train.{chosen-powers, past, after-each}
 
 abbrev state : ℕ → Float → Float → State
 state i s p = record { done = i; s = s; p = p }

@@ -3,15 +3,14 @@ use mathlib.Core.Bool.{Bool, cond}
 use mathlib.Core.List.{List, [], _∷_, _++_}
 use Prim.Native.Nat.{ℕ, _+_, _*_}
 use lib.Dec.{leb, ltb}
-use lib.ListN.{length, getD, drop}
+use lib.ListN.{length, drop}
 use lib.Ieee.{Float, nan}
-use Rattle.ieee.specs.Operators.{_⊗_}
+use Rattle.ieee.specs.Operators.{_⊗_, _⊕_}
 use Rattle.refusal.specs.Outcome.{Outcome, answer, refusal, refused, map}
-use Rattle.transfer_matrix.specs.declared.ThinFilmLayer.{ThinFilmLayer}
 use Rattle.surface.specs.declared.Powers.{Powers}
-use Rattle.surface.specs.declared.Answers.{Answers}
-use Rattle.surface.specs.Answers.{answers, powers, no-answers}
+use Rattle.surface.specs.Answers.{powers}
 use Rattle.sheet.specs.Sheet.{Surface, Sheet}
+use Rattle.sheet_values.specs.Nth.{nth}
 use Rattle.sheet_values.specs.Values.{value, films, surface-value}
 use Rattle.gate.specs.Gate.{gated}
 use Rattle.optical_train.specs.declared.Chosen.{Chosen}
@@ -19,12 +18,6 @@ use Rattle.optical_train.specs.declared.State.{State}
 use Rattle.optical_train.specs.declared.Started.{Started}
 use Rattle.optical_train.specs.declared.Started.the-variants as S
 use Rattle.optical_train.specs.declared.Stepped.{Stepped}
-use Rattle.optical_train.specs.declared.SurfaceReply.{SurfaceReply}
-use Rattle.optical_train.specs.declared.NumberedSurface.{NumberedSurface}
-use Rattle.optical_train.specs.declared.NthSurface.{NthSurface}
-use Rattle.optical_train.specs.declared.NthSurface.the-variants as N
-use Rattle.optical_train.specs.declared.NthLayer.{NthLayer}
-use Rattle.optical_train.specs.declared.NthLayer.the-variants as L
 
 -- ---- a surface
 -- the R_s or T_s and the R_p or T_p of its answers, as chosen by the lowest payload bit
@@ -39,14 +32,7 @@ chosen-of reflected (refusal number place) = record { s = nan; p = nan }
 unfoldable pub chosen-powers : Float → Surface → Chosen
 chosen-powers wavelength y = chosen-of (surface-value y .reflected) (powers wavelength (surface-value y) (films (y .layers)))
 
--- the i-th of some surfaces, counted from 0
-abbrev pub no-surface : Surface
-no-surface = record { payload = 0; n-incident = 0; n-substrate = 0; angle = 0; layers = [] }
-
-abbrev pub nth : List Surface → ℕ → Surface
-nth ys i = getD ys i no-surface
-
--- ---- Start: 0 and the BEAM's powers
+-- ---- Start: 0 and the BEAM's powers; a train in that state is fresh
 abbrev pub fresh : Sheet → State
 fresh x = record { done = 0; s = value (x .s); p = value (x .p) }
 
@@ -57,6 +43,10 @@ start src = map fresh (gated src)
 abbrev pub outcome : Started → Outcome State
 outcome (S.Fresh st) = answer st
 outcome (S.Refused r) = refused r
+
+-- Sum is s + p
+abbrev pub sum : Float → Float → Float
+sum s p = s ⊕ p
 
 -- ---- a step takes the surface after those done: it multiplies s and p by its chosen powers and adds one to the surfaces done
 unfoldable pub past : Float → State → Surface → State
@@ -95,51 +85,3 @@ ran list (refusal number place) = record { result = refusal number place; list =
 
 unfoldable pub run : List ℕ → List Float → Ran
 run src list = ran list (gated src)
-
--- ---- the surfaces of a sheet by their numbers, counted from 0; 7 where there is no such surface
-abbrev pub surface-of : ℕ → Outcome Sheet → Outcome Surface
-surface-of i (answer x) = cond (ltb i (length (x .surfaces))) (answer (nth (x .surfaces) i)) (refusal 7 0)
-surface-of i (refusal number place) = refusal number place
-
--- its words, and how many LAYERs it has
-abbrev pub numbered : Surface → NumberedSurface
-numbered y = record { surface = surface-value y; layers = length (y .layers) }
-
-unfoldable pub nth-surface : List ℕ → ℕ → Outcome NumberedSurface
-nth-surface src i = map numbered (surface-of i (gated src))
-
--- its j-th LAYER, counted from 0; 7 where there is no such layer
-abbrev pub no-film : ThinFilmLayer
-no-film = record { n = nan; k = nan; «thickness_nm» = nan }
-
-abbrev pub layer-of : ℕ → Outcome Surface → Outcome ThinFilmLayer
-layer-of j (answer y) = cond (ltb j (length (y .layers))) (answer (getD (films (y .layers)) j no-film)) (refusal 7 0)
-layer-of j (refusal number place) = refusal number place
-
-unfoldable pub nth-layer : List ℕ → ℕ → ℕ → Outcome ThinFilmLayer
-nth-layer src i j = layer-of j (surface-of i (gated src))
-
--- document 01's number and values for each case
-abbrev pub surface-outcome : NthSurface → Outcome NumberedSurface
-surface-outcome (N.Surface y) = answer y
-surface-outcome (N.Refused r) = refused r
-
-abbrev pub layer-outcome : NthLayer → Outcome ThinFilmLayer
-layer-outcome (L.Layer l) = answer l
-layer-outcome (L.Refused r) = refused r
-
--- ---- the answers of a sheet's surface, counted from 0; 7 where there is no such surface
-abbrev pub answers-to : ℕ → Outcome Sheet → Outcome Answers
-answers-to i (answer x) =
-    cond (ltb i (length (x .surfaces)))
-    (let y = nth (x .surfaces) i in answers (value (x .wavelength)) (surface-value y) (films (y .layers)))
-    (refusal 7 0)
-answers-to i (refusal number place) = refusal number place
-
-unfoldable pub surface-answers : List ℕ → ℕ → Outcome Answers
-surface-answers src i = answers-to i (gated src)
-
--- as a struct: a refusal's number, which is 0 where there is none, with its place, beside the answers; zero throughout where refused
-unfoldable pub given : Outcome Answers → SurfaceReply
-given (answer a) = record { refusal = record { number = 0; place = 0 }; answers = a }
-given (refusal number place) = record { refusal = record { number = number; place = place }; answers = no-answers }

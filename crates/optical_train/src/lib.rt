@@ -1,23 +1,19 @@
-// The train of document 01, section 7: start, step, whole run, and the answers of a surface. Each is
-// handed the sheet's bytes and gates them anew.
+// The train of document 01, section 7: start, step and whole run. Each is handed the sheet's bytes and
+// gates them anew.
 ghost use mathlib.Core.Path.{_≡_};
 ghost use mathlib.Core.List.{_++_};
 ghost use Prim.Native.Nat.{_+_, _*_, _≤_, _<_};
 ghost use lib.ListN.{length, drop};
-ghost use Rattle.refusal.specs.Outcome.{refused as refused-with};
 ghost use Rattle.sheet.specs.Sheet.{Sheet};
 ghost use Rattle.sheet.specs.Read.{read, decode, surface-at};
-ghost use Rattle.sheet.specs.Scan.{run as layer-count};
+ghost use Rattle.sheet.specs.Scan.{layer-run};
 ghost use Rattle.sheet_values.specs.Values.{layers-at};
 ghost use Rattle.gate.specs.Gate as Gate;
-ghost use Rattle.optical_train.specs.Train.{chosen, chosen-powers, nth, fresh, start, outcome, past, step, after-each, run, surface-answers, given, nth-surface, surface-outcome, nth-layer, layer-outcome};
+ghost use Rattle.optical_train.specs.Train.{chosen, chosen-powers, fresh, start, outcome, past, step, after-each, run, sum};
 use gate::Gated;
-use limits::Surface;
 use refusal::Refusal;
 use sheet_answers::PowersReply;
-use surface::Answers;
 use surface::Powers;
-use transfer_matrix::ThinFilmLayer;
 
 // ---- a surface
 
@@ -57,26 +53,19 @@ fn chosen_at(src: &[u8], at: usize, n: usize, wavelength_nm: f64) -> Chosen
     }
 }
 
-// The place of the n-th SURFACE of a sheet in grammar, counted from 0.
-fn place_of(src: &[u8], n: u32) -> usize
-    ensures { λ r. ⌜ ((x : Sheet) → decode (now (src .entry)) ≡ read x → n < length (x .surfaces) → surface-at (now (src .entry)) r (layers-at (now (src .entry)) (r + 7) (layer-count 16 (now (src .entry)) r)) ≡ nth (x .surfaces) n) ⌝ }
-{
-    let mut at = 8;
-    let mut i = 0;
-    while i < n {
-        at += 7 + 7 * sheet::layer_run(src, at);
-        i += 1;
-    }
-    at
-}
-
 // ---- the train
 
-// Surfaces done, s and p.
+// Document 01's State: surfaces done, s and p.
 pub struct State {
     pub done: u32,
     pub s: f64,
     pub p: f64,
+}
+
+pub fn sum(s: f64, p: f64) -> f64
+    ensures { λ r. ⌜ r ≡ sum s p ⌝ }
+{
+    s + p
 }
 
 // A fresh train, or a refusal.
@@ -108,7 +97,7 @@ pub struct Stepped {
 // Past the surface whose SURFACE word is at a place.
 fn past(src: &[u8], at: usize, wavelength_nm: f64, state: State) -> State
     requires { ⌜ state .done < 0xFFFF_FFFF ⌝ }
-    ensures { λ r. ⌜ r ≡ past «wavelength_nm» state (surface-at (now (src .entry)) at (layers-at (now (src .entry)) (at + 7) (layer-count 16 (now (src .entry)) at))) ⌝ }
+    ensures { λ r. ⌜ r ≡ past «wavelength_nm» state (surface-at (now (src .entry)) at (layers-at (now (src .entry)) (at + 7) (layer-run 16 (now (src .entry)) at))) ⌝ }
 {
     let c = chosen_at(src, at, sheet::layer_run(src, at), wavelength_nm);
     State {
@@ -133,7 +122,7 @@ pub fn step(src: &[u8], state: State) -> Stepped
                     state,
                 };
             }
-            let at = place_of(src, state.done);
+            let at = sheet_values::place_of(src, state.done);
             let next = past(src, at, sheet::float_from(src, 2), state);
             Stepped {
                 refusal: Refusal {
@@ -187,113 +176,5 @@ pub fn run(src: &[u8], list: &mut [f64]) -> Gated
             Gated::Admitted(count)
         }
         Gated::Refused(r) => Gated::Refused(r),
-    }
-}
-
-// ---- a surface's answers
-
-// The answers of a surface, and a refusal, whose number is 0 where there is none.
-pub struct SurfaceReply {
-    pub refusal: Refusal,
-    pub answers: Answers,
-}
-
-fn refused(refusal: Refusal) -> SurfaceReply
-    ensures { λ r. ⌜ r ≡ given (refused-with refusal) ⌝ }
-{
-    let reply = surface::refused(refusal.number);
-    let answers = reply.answers;
-    SurfaceReply { refusal, answers }
-}
-
-// Of the i-th surface, counted from 0.
-pub fn surface_answers(src: &[u8], i: u32) -> SurfaceReply
-    ensures { λ r. ⌜ r ≡ given (surface-answers (now (src .entry)) i) ⌝ }
-{
-    match gate::gate(src) {
-        Gated::Admitted(count) => {
-            if i >= count {
-                return refused(Refusal {
-                    number: 7,
-                    place: 0,
-                });
-            }
-            let at = place_of(src, i);
-            let n = sheet::layer_run(src, at);
-            let reply = sheet_answers::answers_at(src, at, n, sheet::float_from(src, 2));
-            let answers = reply.answers;
-            SurfaceReply {
-                refusal: Refusal {
-                    number: reply.refusal,
-                    place: 0,
-                },
-                answers,
-            }
-        }
-        Gated::Refused(r) => refused(r),
-    }
-}
-
-// ---- the surfaces of a sheet by their numbers, counted from 0
-
-// A SURFACE's words, and how many LAYERs stand behind it.
-pub struct NumberedSurface {
-    pub surface: Surface,
-    pub layers: usize,
-}
-
-pub enum NthSurface {
-    Surface(NumberedSurface),
-    Refused(Refusal),
-}
-
-// The i-th surface.
-pub fn nth_surface(src: &[u8], i: u32) -> NthSurface
-    ensures { λ r. ⌜ surface-outcome r ≡ nth-surface (now (src .entry)) i ⌝ }
-{
-    match gate::gate(src) {
-        Gated::Admitted(count) => {
-            if i >= count {
-                return NthSurface::Refused(Refusal {
-                    number: 7,
-                    place: 0,
-                });
-            }
-            let at = place_of(src, i);
-            let surface = sheet_values::surface_at(src, at);
-            let layers = sheet::layer_run(src, at);
-            NthSurface::Surface(NumberedSurface { surface, layers })
-        }
-        Gated::Refused(r) => NthSurface::Refused(r),
-    }
-}
-
-pub enum NthLayer {
-    Layer(ThinFilmLayer),
-    Refused(Refusal),
-}
-
-// The j-th LAYER of the i-th surface.
-pub fn nth_layer(src: &[u8], i: u32, j: usize) -> NthLayer
-    ensures { λ r. ⌜ layer-outcome r ≡ nth-layer (now (src .entry)) i j ⌝ }
-{
-    match gate::gate(src) {
-        Gated::Admitted(count) => {
-            if i >= count {
-                return NthLayer::Refused(Refusal {
-                    number: 7,
-                    place: 0,
-                });
-            }
-            let at = place_of(src, i);
-            if j >= sheet::layer_run(src, at) {
-                return NthLayer::Refused(Refusal {
-                    number: 7,
-                    place: 0,
-                });
-            }
-            NthLayer::Layer(sheet_answers::layer_behind(src, at, j))
-        }
-        Gated::Refused(r) => NthLayer::Refused(r),
     }
 }

@@ -131,7 +131,7 @@ fn run_call(src: &[u8], n: usize, out: &mut [u64; 256]) -> usize {
 }
 
 fn answers_call(src: &[u8], i: u32, out: &mut [u64; 256]) -> usize {
-    let reply = optical_train::surface_answers(src, i);
+    let reply = sheet_surfaces::surface_answers(src, i);
     let refusal = reply.refusal;
     let answers = reply.answers;
     if refusal.number == 0 {

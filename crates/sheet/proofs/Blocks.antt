@@ -10,7 +10,7 @@ use borrow.Author.Tests.{eqb-true, lt-ltb, eq-eqb}
 use Rattle.sheet.specs.Sheet.{Sheet, kind-word}
 use Rattle.sheet.specs.Words.{word, count, kind, payload, float}
 use Rattle.sheet.specs.Read.{Result, read, fault, Follows, surface, layer, end, wrong, room-after, found, Rest, layer-at, with-layer, surface-at, with-surface, with-beam, decode}
-use Rattle.sheet.specs.Scan.{layer-follows, or-none, run}
+use Rattle.sheet.specs.Scan.{layer-follows, or-none, layer-run}
 use Rattle.sheet.proofs.Scan.{left, never, and-second, surface-room, layer-room, surface-kind, layer-kind, end-kind, left-surface, left-layer, left-end, left-wrong}
 
 abbrev no-more : Rest
@@ -106,8 +106,8 @@ begins src x e = first (eqb (word src 0) (kind-word 1 1)) e
     first false w = never (cc)
 
 -- ---- the LAYERs after a SURFACE are as many as stand there
-pub counts : (src : List ℕ) (most at done room : ℕ) (r : Rest) → room ≤ most → left src (at + 7) done room ≡ read r → run most src at ≡ length (r .layers)
-unfolding run
+pub counts : (src : List ℕ) (most at done room : ℕ) (r : Rest) → room ≤ most → left src (at + 7) done room ≡ read r → layer-run most src at ≡ length (r .layers)
+unfolding layer-run
 counts src zero at done room r h e = none room h e
   where
     none : (room : ℕ) → room ≤ 0 → left src (at + 7) done room ≡ read r → 0 ≡ length (r .layers)
@@ -118,7 +118,7 @@ counts src (suc most) at done room r h e = go (λ q w. counts src most (at + 7) 
     no-layer : kind (word src (at + 7)) ≡ 4 → at + 7 + 7 ≤ count src → layer-follows src at ≡ true
     no-layer k l = rw (lt-ltb (at + 7) (count src) (omega arith), eq-eqb (kind (word src (at + 7))) 4 k)
 
-    go : ((q : Rest) → left src (at + 7 + 7) done (room - 1) ≡ read q → run most src (at + 7) ≡ length (q .layers)) → (b : Bool) → layer-follows src at ≡ b → {q : Rest} → Next src (at + 7) done room q → or-none b (suc (run most src (at + 7))) ≡ length (q .layers)
+    go : ((q : Rest) → left src (at + 7 + 7) done (room - 1) ≡ read q → layer-run most src (at + 7) ≡ length (q .layers)) → (b : Bool) → layer-follows src at ≡ b → {q : Rest} → Next src (at + 7) done room q → or-none b (suc (layer-run most src (at + 7))) ≡ length (q .layers)
     go again true f (next-surface k l d q w) = absurd (omega (arith, k, eqb-true (kind (word src (at + 7))) 4 (and-second (ltb (at + 7) (count src)) _ f)))
     go again true f (next-layer k l d q w) = ap suc (again q w)
     go again true f (next-end k) = absurd (omega (arith, k, eqb-true (kind (word src (at + 7))) 4 (and-second (ltb (at + 7) (count src)) _ f)))

@@ -36,6 +36,6 @@ abbrev pub layer-follows : List ℕ → ℕ → Bool
 layer-follows src at = ltb (at + 7) (count src) && eqb (kind (word src (at + 7))) 4
 
 -- how many LAYERs stand directly after the block at a place: `most` at the most
-unfoldable pub run : ℕ → List ℕ → ℕ → ℕ
-run zero src at = 0
-run (suc most) src at = or-none (layer-follows src at) (suc (run most src (at + 7)))
+unfoldable pub layer-run : ℕ → List ℕ → ℕ → ℕ
+layer-run zero src at = 0
+layer-run (suc most) src at = or-none (layer-follows src at) (suc (layer-run most src (at + 7)))

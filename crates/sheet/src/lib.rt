@@ -4,7 +4,7 @@ ghost use Prim.Native.Nat.{_<_};
 ghost use lib.Ieee.{binary64, ofBits};
 ghost use Rattle.sheet.specs.Words.{big-endian, word as wordOf, float};
 ghost use Rattle.sheet.specs.Read as Read;
-ghost use Rattle.sheet.specs.Scan.{block-of, verdict-of, counted, layer-follows, run};
+ghost use Rattle.sheet.specs.Scan.{block-of, verdict-of, counted, layer-follows, layer-run};
 
 // ---- words
 
@@ -215,7 +215,7 @@ fn layer_follows(src: &[u8], at: usize) -> bool
 
 // How many LAYERs stand directly after the block at a place: 16 at the most.
 pub fn layer_run(src: &[u8], at: usize) -> usize
-    ensures { λ r. ⌜ r ≡ run 16 (now (src .entry)) at ⌝ }
+    ensures { λ r. ⌜ r ≡ layer-run 16 (now (src .entry)) at ⌝ }
 {
     let mut n = 0;
     let mut next = at;

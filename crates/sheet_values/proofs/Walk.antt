@@ -10,7 +10,7 @@ use lib.ListN.{length}
 use Rattle.sheet.specs.Sheet.{Layer, Surface}
 use Rattle.sheet.specs.Words.{word, count, payload}
 use Rattle.sheet.specs.Read.{read, Rest, layer-at, surface-at}
-use Rattle.sheet.specs.Scan.{run}
+use Rattle.sheet.specs.Scan.{layer-run}
 use Rattle.sheet.proofs.Scan.{left}
 use Rattle.sheet.proofs.Blocks.{Next, next-surface, next-layer, next-end, next, counts}
 use Rattle.sheet_values.specs.Values.{layers-at}
@@ -69,7 +69,7 @@ pub record Stands (src : List ℕ) (at done : ℕ) (y : Surface) (ys : List Surf
   -- and are the surface's, as are the LAYERs behind it
   pub is : y ≡ surface-at src at (y .layers)
   pub layers : y .layers ≡ layers-at src (at + 7) (length (y .layers))
-  pub counted : run 16 src at ≡ length (y .layers)
+  pub counted : layer-run 16 src at ≡ length (y .layers)
   -- the surfaces after it
   pub room : ℕ
   pub after : left src (at + 7 + 7 * length (y .layers)) (suc done) room ≡ read (blocks [] ys)

@@ -1,7 +1,8 @@
-// The SURFACEs and LAYERs of a sheet as values: document 01, section 1.
+// The SURFACEs and LAYERs of a sheet as values, and where a SURFACE stands: document 01, section 1.
 ghost use mathlib.Core.Path.{_≡_};
 ghost use mathlib.Core.List.{[]};
 ghost use Rattle.sheet.specs.Read.{layer-at, surface-at};
+ghost use Rattle.sheet_values.specs.Nth.{place};
 ghost use Rattle.sheet_values.specs.Values.{film, surface-value};
 use limits::Surface;
 use transfer_matrix::ThinFilmLayer;
@@ -45,4 +46,17 @@ pub fn layer_at(src: &[u8], at: usize) -> ThinFilmLayer
         k: 0.0,
         thickness_nm: 0.0,
     }
+}
+
+// The place of the n-th SURFACE of a sheet in grammar, counted from 0.
+pub fn place_of(src: &[u8], n: u32) -> usize
+    ensures { λ r. ⌜ r ≡ place (now (src .entry)) n ⌝ }
+{
+    let mut at = 8;
+    let mut i = 0;
+    while i < n {
+        at += 7 + 7 * sheet::layer_run(src, at);
+        i += 1;
+    }
+    at
 }

@@ -70,7 +70,7 @@ fn print_surface(number: u64, reflected: bool, s: f64, p: f64) {
 
 fn print_sum(s: f64, p: f64) {
     io::write_all(1, b"sum");
-    print_bits(s + p);
+    print_bits(optical_train::sum(s, p));
     io::write_all(1, b"\n");
 }
 

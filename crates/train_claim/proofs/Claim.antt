@@ -10,6 +10,8 @@ use lib.ListN.{length, getD, drop}
 use lib.Ieee.{Float}
 use lib.Ieee.Fits.{and-l, and-r}
 use borrow.Author.Tests.{lt-ltb, le-ltb, le-leb, lt-leb, ltb-true, ltb-false}
+use Rattle.sheet_surfaces.specs.Surfaces.{answers-to, surface-answers}
+use Rattle.sheet_values.specs.Nth.{nth}
 use Rattle.refusal.specs.Outcome.{Outcome, answer, refusal, map}
 use Rattle.surface.specs.declared.Powers.{Powers}
 use Rattle.limits.specs.Limits.{wavelength-passes, power-passes, beam-passes}
@@ -24,8 +26,8 @@ use Rattle.gate.specs.Claim.{Within}
 use Rattle.gate.proofs.Claim.{gate-claim}
 use Rattle.optical_train.specs.declared.State.{State}
 use Rattle.optical_train.specs.declared.Stepped.{Stepped}
-use Rattle.optical_train.specs.Train.{chosen, chosen-powers, nth, fresh, start, past, stepped, step, after-each, Ran, ran, run, answers-to, surface-answers}
-use Rattle.optical_train.proofs.Answers.{all-nth, Good, wavelength-within, answered}
+use Rattle.optical_train.specs.Train.{chosen, chosen-powers, fresh, start, past, stepped, step, after-each, Ran, ran, run}
+use Rattle.sheet_surfaces.proofs.Answers.{all-nth, Good, wavelength-within, answered}
 use Rattle.train_claim.specs.Claim.{worked-out, Action, a-step, act, acts, steps, Falls, AllFall, AnsweredWhole, Admitted, TurnedBack, TrainClaim}
 use Rattle.train_claim.proofs.One.{one}
 use Rattle.train_claim.proofs.Falls.{Unit-powers, stays, taken, unit, begun, power-finite, sum-finite}

@@ -6,7 +6,9 @@ use Prim.Native.Nat.{ℕ, suc, _+_, _*_, _≤_, _<_, min}
 use lib.Dec.{T}
 use lib.ListN.{length, getD, take}
 use lib.Ieee.{Float, le}
-use Rattle.ieee.specs.Operators.{_⊗_, _⊕_}
+use Rattle.sheet_surfaces.specs.Surfaces.{surface-answers}
+use Rattle.sheet_values.specs.Nth.{nth}
+use Rattle.ieee.specs.Operators.{_⊗_}
 use Rattle.ieee.specs.Functions.{zero-f}
 use Rattle.refusal.specs.Outcome.{answer, refusal}
 use Rattle.surface.specs.Answers.{answers, powers}
@@ -17,7 +19,7 @@ use Rattle.sheet_values.specs.Values.{value, films, surface-value}
 use Rattle.gate.specs.Gate.{gated}
 use Rattle.gate.specs.Claim.{Within, GateClaim}
 use Rattle.optical_train.specs.declared.State.{State}
-use Rattle.optical_train.specs.Train.{chosen-powers, nth, fresh, start, step, run, surface-answers}
+use Rattle.optical_train.specs.Train.{chosen-powers, fresh, start, step, run, sum}
 
 -- ---- section 7's values, from a sheet's data alone: the BEAM's powers, multiplied in sheet order by the chosen powers of so many surfaces from the first on
 unfoldable pub product : Float → List Float → Float
@@ -59,7 +61,7 @@ steps (a-step ∷ more) = suc (steps more)
 pub record Falls (old new : State) : Type 0 where
   pub s : T (le zero-f (new .s) && le (new .s) (old .s))
   pub p : T (le zero-f (new .p) && le (new .p) (old .p))
-  pub sum : T (le zero-f (new .s ⊕ new .p) && le (new .s ⊕ new .p) (old .s ⊕ old .p))
+  pub sum : T (le zero-f (sum (new .s) (new .p)) && le (sum (new .s) (new .p)) (sum (old .s) (old .p)))
 
 -- at each action of a list
 abbrev pub AllFall : List ℕ → List Action → State → Type 0
@@ -92,7 +94,7 @@ pub record Admitted (src : List ℕ) (x : Sheet) : Type 0 where
   pub no-surface : (i : ℕ) → length (x .surfaces) ≤ i → surface-answers src i ≡ refusal 7 0
   -- every answer is finite, and so are s, p and their sum after any number of steps
   pub answers : All (AnsweredWhole (value (x .wavelength))) (x .surfaces)
-  pub finite : (n : ℕ) → (Finite (worked-out x n .s) × Finite (worked-out x n .p)) × Finite (worked-out x n .s ⊕ worked-out x n .p)
+  pub finite : (n : ℕ) → (Finite (worked-out x n .s) × Finite (worked-out x n .p)) × Finite (sum (worked-out x n .s) (worked-out x n .p))
 
 -- ---- the claim for bytes that the gate refuses: every call has the same refusal and leaves what it was lent
 pub record TurnedBack (src : List ℕ) (number place : ℕ) : Type 0 where

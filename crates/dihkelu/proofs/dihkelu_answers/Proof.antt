@@ -4,8 +4,8 @@ use mathlib.Core.List.{List}
 use Prim.Native.Nat.{ℕ, _%_, _^_}
 use lib.Ieee.{Float}
 use borrow.Author.Needs.{needs}
-use Rattle.optical_train.specs.declared.SurfaceReply.{SurfaceReply}
-use Rattle.optical_train.specs.Train.{surface-answers, given}
+use Rattle.sheet_surfaces.specs.declared.SurfaceReply.{SurfaceReply}
+use Rattle.sheet_surfaces.specs.Surfaces.{surface-answers, given}
 use Rattle.call.specs.Call.{Done, done, packed, written, answered}
 use Rattle.call.specs.Layout.{surface-answered}
 use Rattle.dihkelu.proofs.Returned.{sound-apart, refuses, answers}

@@ -12,7 +12,7 @@ use Rattle.gate.specs.Gate as Gate
 use Rattle.gate.specs.Gate.{surfaces-of, gated, gate}
 use Rattle.gate.proofs.Admitted.{admitted, turned-back}
 use Rattle.optical_train.specs.declared.State.{State}
-use Rattle.optical_train.proofs.Along.{fresh-is}
+use Rattle.optical_train.proofs.Fresh.{fresh-is}
 use Rattle.call.specs.Call.{reply, written, answered}
 use Rattle.dihkelu.specs.Train.{powers, begun}
 use Rattle.dihkelu.proofs.Places.{gate-apart}

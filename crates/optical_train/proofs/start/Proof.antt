@@ -12,7 +12,7 @@ use Rattle.gate.specs.Gate as Gate
 use Rattle.gate.specs.Gate.{gate}
 use Rattle.gate.proofs.Admitted.{admitted, turned-back}
 use Rattle.optical_train.specs.Train.{fresh, start}
-use Rattle.optical_train.proofs.Along.{fresh-is}
+use Rattle.optical_train.proofs.Fresh.{fresh-is}
 use Rattle.optical_train.proofs.start.Statement.{statement}
 use Rattle.optical_train.proofs.start.Tie as tie
 

@@ -9,17 +9,18 @@ use lib.ListN.{length}
 use lib.Ieee.{Float}
 use Rattle.refusal.specs.declared.Refusal.{Refusal}
 use Rattle.refusal.specs.Outcome.{answer, refused}
-use Rattle.sheet.specs.Sheet.{Sheet}
 use Rattle.sheet.specs.Words.{float}
-use Rattle.sheet.specs.Read.{read, decode, surface-at}
-use Rattle.sheet.specs.Scan.{run}
+use Rattle.sheet.specs.Read.{surface-at}
+use Rattle.sheet.specs.Scan.{layer-run}
 use Rattle.sheet.proofs.Blocks.{begins}
+use Rattle.sheet_values.specs.Nth.{nth, place}
 use Rattle.sheet_values.specs.Values.{value, layers-at}
+use Rattle.sheet_values.proofs.Along.{placed}
 use Rattle.gate.specs.Gate as Gate
 use Rattle.gate.specs.Gate.{gate}
 use Rattle.gate.proofs.Admitted.{admitted, turned-back}
 use Rattle.optical_train.specs.declared.State.{State}
-use Rattle.optical_train.specs.Train.{nth, past, stepped, step}
+use Rattle.optical_train.specs.Train.{past, stepped, step}
 use Rattle.optical_train.proofs.step.Statement.{statement}
 use Rattle.optical_train.proofs.step.Tie as tie
 
@@ -31,16 +32,16 @@ module _ (src : List ℕ) (st : State) where
         let a = admitted src n e in
         rw (a .is, le-ltb (st .done) (length (a .sheet .surfaces)) (omega (arith, a .counts)))
 
-    one-more : st .done < n → (at : ℕ) → ((x : Sheet) → decode src ≡ read x → st .done < length (x .surfaces) → surface-at src at (layers-at src (at + 7) (run 16 src at)) ≡ nth (x .surfaces) (st .done))
-        → (w : Float) → w ≡ value (float src 2) → (next : State) → next ≡ past w st (surface-at src at (layers-at src (at + 7) (run 16 src at)))
+    one-more : st .done < n → (at : ℕ) → at ≡ place src (st .done)
+        → (w : Float) → w ≡ value (float src 2) → (next : State) → next ≡ past w st (surface-at src at (layers-at src (at + 7) (layer-run 16 src at)))
         → record { refusal = record { number = 0; place = 0 }; state = next } ≡ step src st
     unfolding step
-    one-more h at f w ew next en =
+    one-more h at q w ew next en =
         let a = admitted src n e in
         let d : st .done < length (a .sheet .surfaces) = omega (arith, a .counts) in
         rw (a .is, lt-ltb (st .done) (length (a .sheet .surfaces)) d)
         (ap (λ (z : State). record { refusal = record { number = 0; place = 0 }; state = z })
-        (en ∙ ap (past w st) (f (a .sheet) (a .reads) d) ∙ ap (λ (z : Float). past z st (nth (a .sheet .surfaces) (st .done))) (ew ∙ ap value (sym (begins src (a .sheet) (a .reads) .wavelength)))))
+        (en ∙ ap (past w st) (placed src (st .done) at q (a .sheet) (a .reads) d) ∙ ap (λ (z : Float). past z st (nth (a .sheet .surfaces) (st .done))) (ew ∙ ap value (sym (begins src (a .sheet) (a .reads) .wavelength)))))
 
   not-taken : (r : Refusal) → refused r ≡ gate src → record { refusal = r; state = st } ≡ step src st
   unfolding step

@@ -10,11 +10,13 @@ use Rattle.ieee.specs.Operators.{_⊗_}
 use Rattle.sheet.specs.Sheet.{Sheet}
 use Rattle.sheet.specs.Words.{float}
 use Rattle.sheet.specs.Read.{read, decode, surface-at}
-use Rattle.sheet.specs.Scan.{run}
+use Rattle.sheet.specs.Scan.{layer-run}
+use Rattle.sheet_values.specs.Nth.{nth}
 use Rattle.sheet_values.specs.Values.{value, layers-at}
+use Rattle.sheet_values.proofs.Along.{At, first, surface-here, onward, few}
 use Rattle.optical_train.specs.declared.Chosen.{Chosen}
-use Rattle.optical_train.specs.Train.{nth, chosen-powers, fresh, after-each}
-use Rattle.optical_train.proofs.Along.{At, fresh-is, first, surface-here, onward, few}
+use Rattle.optical_train.specs.Train.{chosen-powers, fresh, after-each}
+use Rattle.optical_train.proofs.Fresh.{fresh-is}
 use Rattle.optical_train.proofs.Written.{Half, nothing, written, whole}
 use Rattle.optical_train.proofs.write_each.Statement.{statement}
 use Rattle.optical_train.proofs.write_each.Tie as tie
@@ -43,7 +45,7 @@ begun src n w list s p f g = record {
 }
 
 module _ (src : List ℕ) (n : ℕ) (w : Float) (list₀ list : List Float) (s p : Float) (at i : ℕ) (b : Before src n w list₀ list s p at i) where
-  further : i < n → 2 * n ≤ length list₀ → (m : ℕ) → m ≡ run 16 src at → (c : Chosen) → c ≡ chosen-powers w (surface-at src at (layers-at src (at + 7) m))
+  further : i < n → 2 * n ≤ length list₀ → (m : ℕ) → m ≡ layer-run 16 src at → (c : Chosen) → c ≡ chosen-powers w (surface-at src at (layers-at src (at + 7) m))
       → Before src n w list₀ (set (set list (2 * i) (s ⊗ c .s)) (2 * i + 1) (p ⊗ c .p)) (s ⊗ c .s) (p ⊗ c .p) (at + (7 + 7 * m)) (i + 1)
   further h r m e c f = record {
     most = omega arith;

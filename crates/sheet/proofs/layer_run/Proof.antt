@@ -1,4 +1,4 @@
--- `sheet::layer_run` meets its contract. The loop's invariant: the LAYERs passed, with the run from here on, are the whole run. Assumes nothing.
+-- `sheet::layer_run` meets its contract. The loop's invariant: the LAYERs passed, with the layer-run from here on, are the whole layer-run. Assumes nothing.
 use mathlib.Core.Path.{_≡_, sym, ap, _∙_}
 use mathlib.Core.Bool.{Bool, true, false, not}
 use mathlib.Core.List.{List}
@@ -11,7 +11,7 @@ use lib.Dec.{ltb}
 use lib.Ieee.Bits.{is-true}
 use Rattle.ieee.proofs.Signs.{and-true}
 use Rattle.sheet.specs.Words.{count}
-use Rattle.sheet.specs.Scan.{layer-follows, run}
+use Rattle.sheet.specs.Scan.{layer-follows, layer-run}
 use Rattle.sheet.proofs.layer_run.Statement.{statement}
 use Rattle.sheet.proofs.layer_run.Tie as tie
 
@@ -20,21 +20,21 @@ module _ (src : List ℕ) (n next : ℕ) (h : n < 16) where
   fewer : 16 - n ≡ suc (16 - (n + 1))
   fewer = omega arith
 
-  more : layer-follows src next ≡ true → n + 1 + run (16 - (n + 1)) src (next + 7) ≡ n + run (16 - n) src next
-  unfolding run
-  more e = up n (run (16 - (n + 1)) src (next + 7)) ∙ ap (λ (k : ℕ). n + k) (sym (ap (λ (k : ℕ). run k src next) fewer ∙ simp e))
+  more : layer-follows src next ≡ true → n + 1 + layer-run (16 - (n + 1)) src (next + 7) ≡ n + layer-run (16 - n) src next
+  unfolding layer-run
+  more e = up n (layer-run (16 - (n + 1)) src (next + 7)) ∙ ap (λ (k : ℕ). n + k) (sym (ap (λ (k : ℕ). layer-run k src next) fewer ∙ simp e))
     where
       up : (n r : ℕ) → n + 1 + r ≡ n + suc r
       up n r = omega arith
 
-  last : layer-follows src next ≡ false → n ≡ n + run (16 - n) src next
-  unfolding run
-  last e = sym (add-zero n) ∙ ap (λ (k : ℕ). n + k) (sym (ap (λ (k : ℕ). run k src next) fewer ∙ simp e))
+  last : layer-follows src next ≡ false → n ≡ n + layer-run (16 - n) src next
+  unfolding layer-run
+  last e = sym (add-zero n) ∙ ap (λ (k : ℕ). n + k) (sym (ap (λ (k : ℕ). layer-run k src next) fewer ∙ simp e))
 
 -- no more than 16
-whole : (src : List ℕ) (n next : ℕ) → 16 ≤ n → n ≡ n + run (16 - n) src next
-unfolding run
-whole src n next l = sym (add-zero n) ∙ ap (λ (k : ℕ). n + k) (sym (ap (λ (k : ℕ). run k src next) (gone n l)))
+whole : (src : List ℕ) (n next : ℕ) → 16 ≤ n → n ≡ n + layer-run (16 - n) src next
+unfolding layer-run
+whole src n next l = sym (add-zero n) ∙ ap (λ (k : ℕ). n + k) (sym (ap (λ (k : ℕ). layer-run k src next) (gone n l)))
   where
     gone : (n : ℕ) → 16 ≤ n → 16 - n ≡ 0
     gone n l = omega arith
@@ -44,7 +44,7 @@ room : (src : List ℕ) (next : ℕ) → layer-follows src next ≡ true → nex
 room src next e = ltb-true (next + 7) (count src) (is-true _ (and-true (ltb (next + 7) (count src)) _ e))
 
 abbrev Inv-loop : tie.InvT-loop
-Inv-loop src at n₀ next₀ n next = (n ≤ 16) × (n + run (16 - n) src next ≡ run 16 src at)
+Inv-loop src at n₀ next₀ n next = (n ≤ 16) × (n + layer-run (16 - n) src next ≡ layer-run 16 src at)
 
 abbrev μ-loop : tie.MeasureT-loop
 μ-loop src at n₀ next₀ n next = 16 - n

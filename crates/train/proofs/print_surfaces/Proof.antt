@@ -2,7 +2,7 @@
 use Prim.Native.Nat.{_+_, _-_, _*_, _≤_}
 use native.Mathlib.Omega.{arith}
 use borrow.Author.Needs.{needs}
-use Rattle.optical_train.proofs.Along.{few}
+use Rattle.sheet_values.proofs.Along.{few}
 use Rattle.train.proofs.print_surfaces.Statement.{statement}
 use Rattle.train.proofs.print_surfaces.Tie as tie
 

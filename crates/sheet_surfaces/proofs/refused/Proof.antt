@@ -1,4 +1,4 @@
--- `optical_train::refused` meets its contract. Assumes nothing.
+-- `sheet_surfaces::refused` meets its contract. Assumes nothing.
 use mathlib.Core.Path.{_≡_, ap}
 use Prim.Native.Nat.{_-_}
 use borrow.Author.Needs.{needs}
@@ -6,9 +6,9 @@ use Rattle.refusal.specs.declared.Refusal.{Refusal}
 use Rattle.refusal.specs.Outcome.{refusal, refused}
 use Rattle.surface.specs.declared.AnswersReply.{AnswersReply}
 use Rattle.surface.specs.Answers.{returned}
-use Rattle.optical_train.specs.Train.{given}
-use Rattle.optical_train.proofs.refused.Statement.{statement}
-use Rattle.optical_train.proofs.refused.Tie as tie
+use Rattle.sheet_surfaces.specs.Surfaces.{given}
+use Rattle.sheet_surfaces.proofs.refused.Statement.{statement}
+use Rattle.sheet_surfaces.proofs.refused.Tie as tie
 
 made : (r : Refusal) (reply : AnswersReply) → reply ≡ returned (refusal (r .number) 0) → record { refusal = r; answers = reply .answers } ≡ given (refused r)
 unfolding returned given

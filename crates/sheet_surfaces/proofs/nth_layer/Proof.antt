@@ -1,10 +1,10 @@
--- `optical_train::nth_layer` meets its contract. Assumes nothing.
+-- `sheet_surfaces::nth_layer` meets its contract. Assumes nothing.
 use mathlib.Core.Path.{sym, ap, _∙_}
 use borrow.Author.Needs.{needs}
 use Rattle.gate.specs.Gate as Gate
-use Rattle.optical_train.proofs.Nth.{no-layer-there, past-layers, layer-there, layer-refused}
-use Rattle.optical_train.proofs.nth_layer.Statement.{statement}
-use Rattle.optical_train.proofs.nth_layer.Tie as tie
+use Rattle.sheet_surfaces.proofs.Nth.{no-layer-there, past-layers, layer-there, layer-refused}
+use Rattle.sheet_surfaces.proofs.nth_layer.Statement.{statement}
+use Rattle.sheet_surfaces.proofs.nth_layer.Tie as tie
 
 gate-requires : tie.Need-gate-requires
 gate-requires c κs = search needs

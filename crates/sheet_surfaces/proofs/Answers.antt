@@ -11,9 +11,9 @@ use Rattle.limits.specs.Limits.{wavelength-passes, beam-passes, passes}
 use Rattle.surface.specs.Finite.{Answered}
 use Rattle.surface.proofs.Finite.{every-surface-answered}
 use Rattle.sheet.specs.Sheet.{Layer, Surface, Sheet, All}
+use Rattle.sheet_values.specs.Nth.{nth}
 use Rattle.sheet_values.specs.Values.{value, films, surface-value, layers-at}
 use Rattle.gate.specs.Claim.{Within}
-use Rattle.optical_train.specs.Train.{nth}
 
 pub all-nth : (P : Surface → Type 0) (ys : List Surface) (i : ℕ) → All P ys → i < length ys → P (nth ys i)
 all-nth P [] i a h = absurd (omega arith)

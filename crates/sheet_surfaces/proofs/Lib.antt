@@ -1,0 +1,3 @@
+-- Facts on the surface of a number, and that every surface of an admitted sheet is answered.
+pub mod Nth
+pub mod Answers

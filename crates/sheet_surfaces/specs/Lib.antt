@@ -1,0 +1,2 @@
+-- The surfaces of a sheet by their numbers: their words, their LAYERs, their answers.
+pub mod Surfaces

@@ -1,0 +1,118 @@
+// The surfaces of a sheet by their numbers, counted from 0: document 01, section 7. Each call is handed
+// the sheet's bytes and gates them anew.
+ghost use mathlib.Core.Path.{_≡_};
+ghost use Rattle.refusal.specs.Outcome.{refused as refused-with};
+ghost use Rattle.sheet_surfaces.specs.Surfaces.{surface-answers, given, nth-surface, surface-outcome, nth-layer, layer-outcome};
+use gate::Gated;
+use limits::Surface;
+use refusal::Refusal;
+use surface::Answers;
+use transfer_matrix::ThinFilmLayer;
+
+// ---- a surface's answers
+
+// The answers of a surface, and a refusal, whose number is 0 where there is none.
+pub struct SurfaceReply {
+    pub refusal: Refusal,
+    pub answers: Answers,
+}
+
+fn refused(refusal: Refusal) -> SurfaceReply
+    ensures { λ r. ⌜ r ≡ given (refused-with refusal) ⌝ }
+{
+    let reply = surface::refused(refusal.number);
+    let answers = reply.answers;
+    SurfaceReply { refusal, answers }
+}
+
+// Of the i-th surface, counted from 0.
+pub fn surface_answers(src: &[u8], i: u32) -> SurfaceReply
+    ensures { λ r. ⌜ r ≡ given (surface-answers (now (src .entry)) i) ⌝ }
+{
+    match gate::gate(src) {
+        Gated::Admitted(count) => {
+            if i >= count {
+                return refused(Refusal {
+                    number: 7,
+                    place: 0,
+                });
+            }
+            let at = sheet_values::place_of(src, i);
+            let n = sheet::layer_run(src, at);
+            let reply = sheet_answers::answers_at(src, at, n, sheet::float_from(src, 2));
+            let answers = reply.answers;
+            SurfaceReply {
+                refusal: Refusal {
+                    number: reply.refusal,
+                    place: 0,
+                },
+                answers,
+            }
+        }
+        Gated::Refused(r) => refused(r),
+    }
+}
+
+// ---- its words
+
+// A SURFACE's words, and how many LAYERs stand behind it.
+pub struct NumberedSurface {
+    pub surface: Surface,
+    pub layers: usize,
+}
+
+pub enum NthSurface {
+    Surface(NumberedSurface),
+    Refused(Refusal),
+}
+
+// The i-th surface.
+pub fn nth_surface(src: &[u8], i: u32) -> NthSurface
+    ensures { λ r. ⌜ surface-outcome r ≡ nth-surface (now (src .entry)) i ⌝ }
+{
+    match gate::gate(src) {
+        Gated::Admitted(count) => {
+            if i >= count {
+                return NthSurface::Refused(Refusal {
+                    number: 7,
+                    place: 0,
+                });
+            }
+            let at = sheet_values::place_of(src, i);
+            let surface = sheet_values::surface_at(src, at);
+            let layers = sheet::layer_run(src, at);
+            NthSurface::Surface(NumberedSurface { surface, layers })
+        }
+        Gated::Refused(r) => NthSurface::Refused(r),
+    }
+}
+
+pub enum NthLayer {
+    Layer(ThinFilmLayer),
+    Refused(Refusal),
+}
+
+// The j-th LAYER of the i-th surface.
+pub fn nth_layer(src: &[u8], i: u32, j: usize) -> NthLayer
+    ensures { λ r. ⌜ layer-outcome r ≡ nth-layer (now (src .entry)) i j ⌝ }
+{
+    match gate::gate(src) {
+        Gated::Admitted(count) => {
+            if i >= count {
+                return NthLayer::Refused(Refusal {
+                    number: 7,
+                    place: 0,
+                });
+            }
+            let at = sheet_values::place_of(src, i);
+            if j >= sheet::layer_run(src, at) {
+                return NthLayer::Refused(Refusal {
+                    number: 7,
+                    place: 0,
+                });
+            }
+            NthLayer::Layer(sheet_answers::layer_behind(src, at, j))
+        }
+        Gated::Refused(r) => NthLayer::Refused(r),
+    }
+}
