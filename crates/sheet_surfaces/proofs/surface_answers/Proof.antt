@@ -59,7 +59,7 @@ module _ (src : List ℕ) (i n : ℕ) (e : answer n ≡ gate src) where
         in
         let r = answered-there in
         let said : surface-answers src i ≡ answer (r .value) = sym (there its-answers src i n e h at q) ∙ r .is in
-        rw said (ap (λ (z : Reply). record { refusal = record { number = z .refusal; place = 0 }; answers = z .answers }) (er ∙ ap returned (same ∙ r .is)))
+        rw said (ap (λ (z : AnswersReply). record { refusal = record { number = z .refusal; place = 0 }; answers = z .answers }) (er ∙ ap returned (same ∙ r .is)))
 
 not-there : (src : List ℕ) (i : ℕ) (r : Refusal) → refused r ≡ gate src → given (refused r) ≡ given (surface-answers src i)
 unfolding surface-answers
