@@ -11,7 +11,7 @@ use Rattle.complex.specs.Complex.{real, scale, norm-sq, arg, add, sub, mul, div
 use Rattle.transfer_matrix.specs.declared.ThinFilmLayer.{ThinFilmLayer}
 use Rattle.transfer_matrix.specs.declared.CoatingResponse.{CoatingResponse}
 use Rattle.transfer_matrix.specs.declared.Solved.{Solved}
-use Rattle.transfer_matrix.specs.Matrix.{Matrix, at, mat-mul, identity}
+use Rattle.characteristic.specs.Matrix.{Matrix, at, mat-mul, identity}
 use Rattle.transfer_matrix.specs.Layer.{layer-s, layer-p}
 
 -- ---- incident admittance
