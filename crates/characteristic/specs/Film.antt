@@ -3,15 +3,15 @@
 use lib.Ieee.{Float, neg}
 use Rattle.ieee.specs.Functions.{zero-f, one, half}
 use Rattle.complex.specs.declared.Complex.{Complex}
-use Rattle.complex.specs.Complex.{real, scale, add, sub, mul, div, exp, sqrt}
+use Rattle.complex.specs.Complex.{real, scale, exp, sqrt, _⊞_, _⊟_, _⊠_, _⧄_}
 use Rattle.characteristic.specs.Matrix.{Matrix, matrix}
 
 -- Snell angle in layer: n_c * sin(theta) = n0 * sin(theta0)
 unfoldable pub sin-theta : Float → Complex → Complex
-sin-theta snell n-c = div (real snell) n-c
+sin-theta snell n-c = real snell ⧄ n-c
 
 unfoldable pub cos-theta : Float → Complex → Complex
-cos-theta snell n-c = sqrt (sub (real one) (mul (sin-theta snell n-c) (sin-theta snell n-c)))
+cos-theta snell n-c = sqrt (real one ⊟ sin-theta snell n-c ⊠ sin-theta snell n-c)
 
 -- e^(i delta)
 unfoldable pub exp-pos : Complex → Complex
@@ -22,11 +22,11 @@ unfoldable pub exp-neg : Complex → Complex
 exp-neg δ = exp (record { re = δ .im; im = neg (δ .re) })
 
 unfoldable pub cos-delta : Complex → Complex
-cos-delta δ = scale (add (exp-pos δ) (exp-neg δ)) half
+cos-delta δ = scale (exp-pos δ ⊞ exp-neg δ) half
 
 -- (e^(i d) - e^(-i d)) / (2 i)
 unfoldable pub sin-delta : Complex → Complex
-sin-delta δ = mul (sub (exp-pos δ) (exp-neg δ)) (record { re = zero-f; im = neg half })
+sin-delta δ = (exp-pos δ ⊟ exp-neg δ) ⊠ record { re = zero-f; im = neg half }
 
 -- i * sin(delta)
 unfoldable pub i-sin-delta : Complex → Complex
@@ -34,4 +34,4 @@ i-sin-delta δ = record { re = neg (sin-delta δ .im); im = sin-delta δ .re }
 
 -- the characteristic matrix of a film of phase thickness δ and admittance eta
 unfoldable pub characteristic : Complex → Complex → Matrix
-characteristic δ eta = matrix (cos-delta δ) (div (i-sin-delta δ) eta) (mul (i-sin-delta δ) eta) (cos-delta δ)
+characteristic δ eta = matrix (cos-delta δ) (i-sin-delta δ ⧄ eta) (i-sin-delta δ ⊠ eta) (cos-delta δ)

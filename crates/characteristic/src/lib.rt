@@ -2,7 +2,7 @@
 // and the body of the loop in its evaluate_tmm_multilayer.
 ghost use mathlib.Core.Path.{_≡_};
 ghost use Rattle.exponential.specs.Exp.{exp};
-ghost use Rattle.complex.specs.Complex.{mul, div};
+ghost use Rattle.complex.specs.Complex.{_⊠_, _⧄_};
 ghost use Rattle.characteristic.specs.Matrix.{matrix, dot, mat-mul};
 ghost use Rattle.characteristic.specs.Film.{cos-theta, cos-delta, i-sin-delta};
 use complex::Complex;
@@ -74,7 +74,7 @@ pub fn phase_of(delta: Complex) -> Phase
 
 // The characteristic matrix of a film of admittance eta.
 pub fn characteristic(phase: Phase, eta: Complex) -> [[Complex; 2]; 2]
-    ensures { λ r. ⌜ r ≡ matrix (phase .cos) (div (phase .«i_sin») eta) (mul (phase .«i_sin») eta) (phase .cos) ⌝ }
+    ensures { λ r. ⌜ r ≡ matrix (phase .cos) (phase .«i_sin» ⧄ eta) (phase .«i_sin» ⊠ eta) (phase .cos) ⌝ }
 {
     let cos = phase.cos;
     let i_sin = phase.i_sin;

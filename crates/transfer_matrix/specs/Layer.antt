@@ -5,7 +5,7 @@ use Rattle.ieee.specs.Operators.{_⊗_, _⊘_}
 use Rattle.ieee.specs.Functions.{two}
 use Rattle.trig.specs.Angles.{pi}
 use Rattle.complex.specs.declared.Complex.{Complex}
-use Rattle.complex.specs.Complex.{scale, mul, div}
+use Rattle.complex.specs.Complex.{scale, _⊠_, _⧄_}
 use Rattle.characteristic.specs.Matrix.{Matrix}
 use Rattle.characteristic.specs.Film.{cos-theta, characteristic}
 use Rattle.transfer_matrix.specs.declared.ThinFilmLayer.{ThinFilmLayer}
@@ -20,12 +20,12 @@ factor thickness wavelength = two ⊗ pi ⊗ thickness ⊘ wavelength
 
 -- Phase thickness delta = 2*pi * d / lambda * n_c * cos(theta)
 unfoldable pub delta : Float → Float → ThinFilmLayer → Complex
-delta snell wavelength layer = scale (mul (index layer) (cos-theta snell (index layer))) (factor (layer .«thickness_nm») wavelength)
+delta snell wavelength layer = scale (index layer ⊠ cos-theta snell (index layer)) (factor (layer .«thickness_nm») wavelength)
 
 -- m_layer_s, of the admittance n_c * cos_theta
 unfoldable pub layer-s : Float → Float → ThinFilmLayer → Matrix
-layer-s snell wavelength layer = characteristic (delta snell wavelength layer) (mul (index layer) (cos-theta snell (index layer)))
+layer-s snell wavelength layer = characteristic (delta snell wavelength layer) (index layer ⊠ cos-theta snell (index layer))
 
 -- m_layer_p, of the admittance n_c / cos_theta
 unfoldable pub layer-p : Float → Float → ThinFilmLayer → Matrix
-layer-p snell wavelength layer = characteristic (delta snell wavelength layer) (div (index layer) (cos-theta snell (index layer)))
+layer-p snell wavelength layer = characteristic (delta snell wavelength layer) (index layer ⧄ cos-theta snell (index layer))
