@@ -67,3 +67,20 @@ quotient z w denom = record {
 
 unfoldable pub div : Complex → Complex → Complex
 div z w = cond (lt (norm-sq w) least-denom) zero (quotient z w (norm-sq w))
+
+-- the four operations of two complex numbers, infix, so that a formula reads as a formula
+infixl 6 _⊞_
+infixl 6 _⊟_
+infixl 7 _⊠_
+infixl 7 _⧄_
+abbrev pub _⊞_ : Complex → Complex → Complex
+z ⊞ w = add z w
+
+abbrev pub _⊟_ : Complex → Complex → Complex
+z ⊟ w = sub z w
+
+abbrev pub _⊠_ : Complex → Complex → Complex
+z ⊠ w = mul z w
+
+abbrev pub _⧄_ : Complex → Complex → Complex
+z ⧄ w = div z w

@@ -9,7 +9,7 @@ use Rattle.trig.specs.Angles.{pi, half-pi}
 use Rattle.trig.specs.Trig.{sin, cos}
 use Rattle.complex.specs.declared.Complex.{Complex}
 use Rattle.complex.specs.Complex.{real, zero, scale, add, sub}
-use Rattle.transfer_matrix.specs.Matrix.{none, dot}
+use Rattle.characteristic.specs.Matrix.{none, dot}
 use Rattle.stokes.specs.declared.JonesVector.{JonesVector}
 use Rattle.mueller.specs.declared.JonesMatrix.{JonesMatrix}
 

@@ -1,6 +1,6 @@
 // Jones and Mueller matrices, as polarization.rs has them: flat arrays, one row after the other.
 ghost use mathlib.Core.Path.{_≡_};
-ghost use Rattle.transfer_matrix.specs.Matrix.{dot};
+ghost use Rattle.characteristic.specs.Matrix.{dot};
 ghost use Rattle.mueller.specs.Jones.{identity, linear-polarizer, retarding, retarder, quarter-wave-plate, half-wave-plate, diattenuator, apply, mul};
 ghost use Rattle.mueller.specs.Mueller as M;
 use complex::Complex;

@@ -193,10 +193,7 @@ pub fn text_out(out: &mut [u64; 256], t: Text) -> usize {
 fn product(x: JonesMatrix, y: JonesMatrix) -> JonesMatrix {
     let a = x.m;
     let b = y.m;
-    let m = transfer_matrix::mat_mul_2x2(
-        [[a[0], a[1]], [a[2], a[3]]],
-        [[b[0], b[1]], [b[2], b[3]]],
-    );
+    let m = characteristic::mat_mul_2x2([[a[0], a[1]], [a[2], a[3]]], [[b[0], b[1]], [b[2], b[3]]]);
     JonesMatrix {
         m: [m[0][0], m[0][1], m[1][0], m[1][1]],
     }

@@ -23,8 +23,9 @@ use Rattle.arctangent.proofs.AtanBounds.{pi-mag}
 use Rattle.complex.specs.declared.Complex.{Complex}
 use Rattle.complex.specs.Complex.{real, scale, norm-sq, add, sub, mul, quotient, div}
 use Rattle.transfer_matrix.specs.declared.ThinFilmLayer.{ThinFilmLayer}
-use Rattle.transfer_matrix.specs.Matrix.{Matrix, mat-mul}
-use Rattle.transfer_matrix.specs.Layer.{index, sin-theta, cos-theta, factor, delta, exp-pos, exp-neg, cos-delta, sin-delta, i-sin-delta, characteristic, layer-s, layer-p}
+use Rattle.characteristic.specs.Matrix.{Matrix, mat-mul}
+use Rattle.characteristic.specs.Film.{sin-theta, cos-theta, exp-pos, exp-neg, cos-delta, sin-delta, i-sin-delta, characteristic}
+use Rattle.transfer_matrix.specs.Layer.{index, factor, delta, layer-s, layer-p}
 use Rattle.transfer_matrix.specs.Solve.{through-s, through-p}
 use Rattle.solver_bounds.specs.Range.{CMag, CPow, Real, MPow}
 use Rattle.solver_bounds.specs.Solver.{AdmittedLayer, AdmittedLayers}

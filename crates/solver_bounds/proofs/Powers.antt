@@ -12,7 +12,7 @@ use Rattle.ieee.proofs.Range.Tests.{choose, nlt-in}
 use Rattle.ieee.proofs.Range.Constants.{zero-mag, one-mag}
 use Rattle.complex.specs.declared.Complex.{Complex}
 use Rattle.complex.specs.Complex.{real, zero, norm-sq, add, sub, mul, quotient, div, least-denom}
-use Rattle.transfer_matrix.specs.Matrix.{Matrix, dot, mat-mul, identity}
+use Rattle.characteristic.specs.Matrix.{Matrix, dot, mat-mul, identity}
 use Rattle.solver_bounds.specs.Range.{CMag, CPow, Real, MPow}
 use Rattle.solver_bounds.proofs.Complex.{least-denom-in}
 

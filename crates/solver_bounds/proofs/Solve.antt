@@ -27,7 +27,7 @@ use Rattle.arctangent.proofs.AtanBounds.{atan2-mag}
 use Rattle.complex.specs.declared.Complex.{Complex}
 use Rattle.complex.specs.Complex.{real, scale, norm-sq, arg, add, sub, mul}
 use Rattle.transfer_matrix.specs.declared.ThinFilmLayer.{ThinFilmLayer}
-use Rattle.transfer_matrix.specs.Matrix.{Matrix, identity}
+use Rattle.characteristic.specs.Matrix.{Matrix, identity}
 use Rattle.transfer_matrix.specs.Solve.{eta0-s, eta0-p, least-cos, cos-theta-sub, eta-sub-s, eta-sub-p, through-s, through-p, b-of, c-of, reflection, transmission, reflectance, transmittance, solve, respond, evaluate}
 use Rattle.solver_bounds.specs.Range.{CPow, Real, MPow}
 use Rattle.solver_bounds.specs.Solver.{Admitted, Bounded, EveryResponseBounded}

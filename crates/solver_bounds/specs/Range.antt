@@ -2,7 +2,7 @@
 use Prim.Native.Nat.{ℕ}
 use Rattle.ieee.specs.Range.{Mag, In, Pow}
 use Rattle.complex.specs.declared.Complex.{Complex}
-use Rattle.transfer_matrix.specs.Matrix.{Matrix, at}
+use Rattle.characteristic.specs.Matrix.{Matrix, at}
 
 -- both parts are finite, and at most p / 2 ^ j in size
 pub record CMag (p j : ℕ) (z : Complex) : Type 0 where

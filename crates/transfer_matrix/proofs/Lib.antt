@@ -1,5 +1,3 @@
--- Laws of the solver: equal entries, exponentials, a list of layers taken one by one; and a known answer.
-pub mod Entries
-pub mod Exponentials
+-- Laws of the solver: a list of layers taken one by one; and a known answer.
 pub mod Steps
 pub mod Known

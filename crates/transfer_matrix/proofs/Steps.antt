@@ -4,7 +4,7 @@ use mathlib.Core.List.{List, [], _∷_}
 use lib.Ieee.{Float}
 use Rattle.transfer_matrix.specs.declared.ThinFilmLayer.{ThinFilmLayer}
 use Rattle.transfer_matrix.specs.declared.Stack.{Stack}
-use Rattle.transfer_matrix.specs.Matrix.{mat-mul}
+use Rattle.characteristic.specs.Matrix.{mat-mul}
 use Rattle.transfer_matrix.specs.Solve.{eta0-s, eta0-p, eta-sub-s, eta-sub-p, through-s, through-p, solve, respond, evaluate}
 use Rattle.transfer_matrix.specs.Stack.{nested, begin, step, steps, finish}
 

@@ -1,5 +1,4 @@
 -- The transfer-matrix method of thin_film.rs, one layer at a time.
-pub mod Matrix
 pub mod Layer
 pub mod Solve
 pub mod Stack

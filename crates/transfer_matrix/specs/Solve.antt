@@ -7,11 +7,11 @@ use Rattle.ieee.specs.Functions.{zero-f, one, two, half, abs, max, clamp}
 use Rattle.square_root.specs.Root.{squareRoot}
 use Rattle.trig.specs.Trig.{sin, cos}
 use Rattle.complex.specs.declared.Complex.{Complex}
-use Rattle.complex.specs.Complex.{real, scale, norm-sq, arg, add, sub, mul, div}
+use Rattle.complex.specs.Complex.{real, scale, norm-sq, arg, _⊞_, _⊟_, _⊠_, _⧄_}
 use Rattle.transfer_matrix.specs.declared.ThinFilmLayer.{ThinFilmLayer}
 use Rattle.transfer_matrix.specs.declared.CoatingResponse.{CoatingResponse}
 use Rattle.transfer_matrix.specs.declared.Solved.{Solved}
-use Rattle.transfer_matrix.specs.Matrix.{Matrix, at, mat-mul, identity}
+use Rattle.characteristic.specs.Matrix.{Matrix, at, mat-mul, identity}
 use Rattle.transfer_matrix.specs.Layer.{layer-s, layer-p}
 
 -- ---- incident admittance
@@ -35,10 +35,10 @@ cos-theta-sub sin-theta-sub =
 
 -- Snell: n0 * sin(theta0) = n_sub * sin(theta_sub); `snell` is n_incident * sin_theta0
 unfoldable pub eta-sub-s : Float → Float → Complex
-eta-sub-s snell n-substrate = mul (real n-substrate) (cos-theta-sub (snell ⊘ n-substrate))
+eta-sub-s snell n-substrate = real n-substrate ⊠ cos-theta-sub (snell ⊘ n-substrate)
 
 unfoldable pub eta-sub-p : Float → Float → Complex
-eta-sub-p snell n-substrate = div (real n-substrate) (cos-theta-sub (snell ⊘ n-substrate))
+eta-sub-p snell n-substrate = real n-substrate ⧄ cos-theta-sub (snell ⊘ n-substrate)
 
 -- ---- M = M * M_layer, through the layers
 unfoldable pub through-s : Float → Float → Matrix → List ThinFilmLayer → Matrix
@@ -52,18 +52,18 @@ through-p snell wavelength mp (layer ∷ layers) = through-p snell wavelength (m
 -- ---- solve for one polarization: its matrix m, the incident admittance eta0, the substrate's eta
 -- [B; C] = M * [1; eta_sub]
 unfoldable pub b-of : Matrix → Complex → Complex
-b-of m eta = add (at m 0 0) (mul (at m 0 1) eta)
+b-of m eta = at m 0 0 ⊞ at m 0 1 ⊠ eta
 
 unfoldable pub c-of : Matrix → Complex → Complex
-c-of m eta = add (at m 1 0) (mul (at m 1 1) eta)
+c-of m eta = at m 1 0 ⊞ at m 1 1 ⊠ eta
 
 -- r = (eta0 B - C) / (eta0 B + C)
 unfoldable pub reflection : Matrix → Complex → Complex → Complex
-reflection m eta0 eta = div (sub (mul eta0 (b-of m eta)) (c-of m eta)) (add (mul eta0 (b-of m eta)) (c-of m eta))
+reflection m eta0 eta = (eta0 ⊠ b-of m eta ⊟ c-of m eta) ⧄ (eta0 ⊠ b-of m eta ⊞ c-of m eta)
 
 -- t = 2 eta0 / (eta0 B + C)
 unfoldable pub transmission : Matrix → Complex → Complex → Complex
-transmission m eta0 eta = div (scale eta0 two) (add (mul eta0 (b-of m eta)) (c-of m eta))
+transmission m eta0 eta = scale eta0 two ⧄ (eta0 ⊠ b-of m eta ⊞ c-of m eta)
 
 unfoldable pub reflectance : Complex → Float
 reflectance r = clamp (norm-sq r) zero-f one

@@ -7,7 +7,7 @@ use Rattle.transfer_matrix.specs.declared.ThinFilmLayer.{ThinFilmLayer}
 use Rattle.transfer_matrix.specs.declared.CoatingResponse.{CoatingResponse}
 use Rattle.transfer_matrix.specs.declared.Product.{Product}
 use Rattle.transfer_matrix.specs.declared.Stack.{Stack}
-use Rattle.transfer_matrix.specs.Matrix.{Matrix, at, matrix, mat-mul, identity}
+use Rattle.characteristic.specs.Matrix.{Matrix, at, matrix, mat-mul, identity}
 use Rattle.transfer_matrix.specs.Layer.{layer-s, layer-p}
 use Rattle.transfer_matrix.specs.Solve.{eta0-s, eta0-p, eta-sub-s, eta-sub-p, solve, respond}
 

@@ -3,10 +3,7 @@
 // A stack is begun at the incident medium, takes each layer in turn, and is finished at the
 // substrate. Whoever has layers, in a list, by index or in a sheet, calls these three.
 ghost use mathlib.Core.Path.{_≡_};
-ghost use Rattle.exponential.specs.Exp.{exp};
-ghost use Rattle.complex.specs.Complex.{mul, div};
-ghost use Rattle.transfer_matrix.specs.Matrix.{matrix, dot, mat-mul};
-ghost use Rattle.transfer_matrix.specs.Layer.{cos-theta, cos-delta, i-sin-delta};
+ghost use Rattle.characteristic.specs.Matrix.{mat-mul};
 ghost use Rattle.transfer_matrix.specs.Solve.{cos-theta-sub, solve, unpolarized-reflectance, unpolarized-transmittance, dielectric};
 ghost use Rattle.transfer_matrix.specs.Stack.{product, nested, begin, step, finish};
 use complex::Complex;
@@ -68,80 +65,6 @@ impl CoatingResponse {
     }
 }
 
-// ---- matrices
-
-// a b + c d
-fn dot(a: Complex, b: Complex, c: Complex, d: Complex) -> Complex
-    ensures { λ r. ⌜ r ≡ dot a b c d ⌝ }
-{
-    a.mul(b).add(c.mul(d))
-}
-
-pub fn mat_mul_2x2(a: [[Complex; 2]; 2], b: [[Complex; 2]; 2]) -> [[Complex; 2]; 2]
-    ensures { λ r. ⌜ r ≡ mat-mul a b ⌝ }
-{
-    [
-        [
-            dot(a[0][0], b[0][0], a[0][1], b[1][0]),
-            dot(a[0][0], b[0][1], a[0][1], b[1][1]),
-        ],
-        [
-            dot(a[1][0], b[0][0], a[1][1], b[1][0]),
-            dot(a[1][0], b[0][1], a[1][1], b[1][1]),
-        ],
-    ]
-}
-
-// ---- one layer
-
-// cos(theta) in a layer of index n_c; snell is n_incident * sin_theta0.
-fn cos_theta(snell: f64, n_c: Complex) -> Complex
-    ensures { λ r. ⌜ r ≡ cos-theta snell «n_c» ⌝ }
-{
-    let sin_theta = Complex::real(snell).div(n_c);
-    Complex::real(1.0).sub(sin_theta.mul(sin_theta)).sqrt()
-}
-
-// cos(delta) and i sin(delta) of a phase thickness.
-struct Phase {
-    cos: Complex,
-    i_sin: Complex,
-}
-
-// e^x, at once where x is a zero.
-fn exp_of(x: f64) -> f64
-    ensures { λ r. ⌜ r ≡ exp x ⌝ }
-{
-    if x == 0.0 { 1.0 } else { exponential::exp(x) }
-}
-
-// Both exponentials from one sine and one cosine: -sin(x) stands for sin(-x). Where these differ,
-// both are zeros, and the sum and the difference of the exponentials have the same bits.
-fn phase_of(delta: Complex) -> Phase
-    ensures { λ r. ⌜ r ≡ record { cos = cos-delta delta; «i_sin» = i-sin-delta delta } ⌝ }
-{
-    let y = trig::sin_cos(delta.re);
-    let pos = exp_of(-delta.im);
-    let neg = exp_of(delta.im);
-    let exp_pos = Complex::new(pos * y.cos, pos * y.sin);
-    let exp_neg = Complex::new(neg * y.cos, neg * -y.sin);
-    let cos_delta = exp_pos.add(exp_neg).scale(0.5);
-    let sin_delta = exp_pos.sub(exp_neg).mul(Complex::new(0.0, -0.5));
-    Phase {
-        cos: cos_delta,
-        i_sin: Complex::new(-sin_delta.im, sin_delta.re),
-    }
-}
-
-// The characteristic matrix of a layer of admittance eta.
-fn characteristic(phase: Phase, eta: Complex) -> [[Complex; 2]; 2]
-    ensures { λ r. ⌜ r ≡ matrix (phase .cos) (div (phase .«i_sin») eta) (mul (phase .«i_sin») eta) (phase .cos) ⌝ }
-{
-    let cos = phase.cos;
-    let i_sin = phase.i_sin;
-    [[cos, i_sin.div(eta)], [i_sin.mul(eta), cos]]
-}
-
 // ---- stacks
 
 // The product of the layers' characteristic matrices, by its entries.
@@ -172,7 +95,7 @@ fn times(m: Product, layer: [[Complex; 2]; 2]) -> Product
     let m12 = m.m12;
     let m21 = m.m21;
     let m22 = m.m22;
-    let r = mat_mul_2x2([[m11, m12], [m21, m22]], layer);
+    let r = characteristic::mat_mul_2x2([[m11, m12], [m21, m22]], layer);
     Product {
         m11: r[0][0],
         m12: r[0][1],
@@ -215,15 +138,15 @@ pub fn step(stack: Stack, layer: ThinFilmLayer) -> Stack
     ensures { λ r. ⌜ r ≡ step stack layer ⌝ }
 {
     let n_c = Complex::new(layer.n, -layer.k);
-    let cos = cos_theta(stack.snell, n_c);
+    let cos = characteristic::cos_theta(stack.snell, n_c);
     let eta_s = n_c.mul(cos);
     let eta_p = n_c.div(cos);
     let factor = 2.0 * 3.141592653589793 * layer.thickness_nm / stack.wavelength_nm;
-    let phase = phase_of(eta_s.scale(factor));
+    let phase = characteristic::phase_of(eta_s.scale(factor));
     let s = stack.s;
     let p = stack.p;
-    let s_next = times(s, characteristic(phase, eta_s));
-    let p_next = times(p, characteristic(phase, eta_p));
+    let s_next = times(s, characteristic::characteristic(phase, eta_s));
+    let p_next = times(p, characteristic::characteristic(phase, eta_p));
     Stack {
         n_incident: stack.n_incident,
         n_substrate: stack.n_substrate,

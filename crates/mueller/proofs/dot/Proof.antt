@@ -1,5 +1,5 @@
 -- `mueller::dot` meets its contract. Assumes nothing.
-use Rattle.transfer_matrix.specs.Matrix.{dot}
+use Rattle.characteristic.specs.Matrix.{dot}
 use borrow.Author.Needs.{needs}
 use Rattle.mueller.proofs.dot.Statement.{statement}
 use Rattle.mueller.proofs.dot.Tie as tie

@@ -9,9 +9,10 @@ use Rattle.complex.specs.Complex.{scale, mul, div}
 use Rattle.transfer_matrix.specs.declared.ThinFilmLayer.{ThinFilmLayer}
 use Rattle.transfer_matrix.specs.declared.Stack.{Stack}
 use Rattle.transfer_matrix.specs.declared.Product.{Product}
-use Rattle.transfer_matrix.specs.declared.Phase.{Phase}
-use Rattle.transfer_matrix.specs.Matrix.{Matrix, matrix, mat-mul}
-use Rattle.transfer_matrix.specs.Layer.{index, cos-theta, factor, delta, cos-delta, i-sin-delta, characteristic, layer-s, layer-p}
+use Rattle.characteristic.specs.declared.Phase.{Phase}
+use Rattle.characteristic.specs.Matrix.{Matrix, matrix, mat-mul}
+use Rattle.characteristic.specs.Film.{cos-theta, cos-delta, i-sin-delta, characteristic}
+use Rattle.transfer_matrix.specs.Layer.{index, factor, delta, layer-s, layer-p}
 use Rattle.transfer_matrix.specs.Stack.{nested, product, step}
 use borrow.Author.Needs.{needs}
 use Rattle.transfer_matrix.proofs.step.Statement.{statement}

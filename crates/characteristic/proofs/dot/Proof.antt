@@ -1,8 +1,8 @@
--- `transfer_matrix::dot` meets its contract. Assumes nothing.
-use Rattle.transfer_matrix.specs.Matrix.{dot}
+-- `characteristic::dot` meets its contract. Assumes nothing.
+use Rattle.characteristic.specs.Matrix.{dot}
 use borrow.Author.Needs.{needs}
-use Rattle.transfer_matrix.proofs.dot.Statement.{statement}
-use Rattle.transfer_matrix.proofs.dot.Tie as tie
+use Rattle.characteristic.proofs.dot.Statement.{statement}
+use Rattle.characteristic.proofs.dot.Tie as tie
 
 mul-requires : tie.Need-mul-requires
 mul-requires c κs = search needs

@@ -1,9 +1,9 @@
--- `transfer_matrix::mat_mul_2x2` meets its contract. Assumes nothing.
-use Rattle.transfer_matrix.specs.Matrix.{mat-mul}
+-- `characteristic::mat_mul_2x2` meets its contract. Assumes nothing.
+use Rattle.characteristic.specs.Matrix.{mat-mul}
 use borrow.Author.Needs.{needs}
-use Rattle.transfer_matrix.proofs.Entries.{four}
-use Rattle.transfer_matrix.proofs.mat_mul_2x2.Statement.{statement}
-use Rattle.transfer_matrix.proofs.mat_mul_2x2.Tie as tie
+use Rattle.characteristic.proofs.Entries.{four}
+use Rattle.characteristic.proofs.mat_mul_2x2.Statement.{statement}
+use Rattle.characteristic.proofs.mat_mul_2x2.Tie as tie
 
 index-1-dot : tie.Need-index-1-dot
 index-1-dot c = search needs

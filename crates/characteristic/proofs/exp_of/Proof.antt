@@ -1,11 +1,11 @@
--- `transfer_matrix::exp_of` meets its contract. Assumes nothing.
+-- `characteristic::exp_of` meets its contract. Assumes nothing.
 use mathlib.Core.Path.{sym}
 use Rattle.ieee.proofs.Signs.{of-true}
 use Rattle.ieee.proofs.Range.FromZero.{equals-zero}
 use Rattle.exponential.proofs.ExpBounds.{exp-zero}
 use borrow.Author.Needs.{needs}
-use Rattle.transfer_matrix.proofs.exp_of.Statement.{statement}
-use Rattle.transfer_matrix.proofs.exp_of.Tie as tie
+use Rattle.characteristic.proofs.exp_of.Statement.{statement}
+use Rattle.characteristic.proofs.exp_of.Tie as tie
 
 exp-requires : tie.Need-exp-requires
 exp-requires c κs = search needs

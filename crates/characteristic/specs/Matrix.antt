@@ -5,7 +5,7 @@ use lib.ListN.{getD}
 use lib.Ieee.{nan}
 use Rattle.ieee.specs.Functions.{one}
 use Rattle.complex.specs.declared.Complex.{Complex}
-use Rattle.complex.specs.Complex.{real, zero, add, mul}
+use Rattle.complex.specs.Complex.{real, zero, _⊞_, _⊠_}
 
 abbrev pub Matrix : Type 0
 Matrix = List (List Complex)
@@ -24,7 +24,7 @@ matrix a b c d = (a ∷ b ∷ []) ∷ (c ∷ d ∷ []) ∷ []
 
 -- a b + c d
 unfoldable pub dot : Complex → Complex → Complex → Complex → Complex
-dot a b c d = add (mul a b) (mul c d)
+dot a b c d = a ⊠ b ⊞ c ⊠ d
 
 unfoldable pub mat-mul : Matrix → Matrix → Matrix
 mat-mul a b =

@@ -1,4 +1,4 @@
--- `transfer_matrix::phase_of` meets its contract. Assumes nothing.
+-- `characteristic::phase_of` meets its contract. Assumes nothing.
 use mathlib.Core.Path.{_≡_, ap, sym, _∙_}
 use lib.Ieee.{Float, neg}
 use Rattle.ieee.specs.Operators.{_⊕_, _⊖_, _⊗_}
@@ -9,12 +9,12 @@ use Rattle.exponential.specs.Exp as Exp
 use Rattle.trig.proofs.Parity.{sin-odd, cos-even}
 use Rattle.complex.specs.declared.Complex.{Complex}
 use Rattle.complex.specs.Complex.{scale, add, sub, mul, exp}
-use Rattle.transfer_matrix.specs.declared.Phase.{Phase}
-use Rattle.transfer_matrix.specs.Layer.{exp-pos, exp-neg, cos-delta, sin-delta, i-sin-delta}
-use Rattle.transfer_matrix.proofs.Exponentials.{exp-sgn, sum-odd, difference-odd}
+use Rattle.characteristic.specs.declared.Phase.{Phase}
+use Rattle.characteristic.specs.Film.{exp-pos, exp-neg, cos-delta, sin-delta, i-sin-delta}
+use Rattle.characteristic.proofs.Exponentials.{exp-sgn, sum-odd, difference-odd}
 use borrow.Author.Needs.{needs}
-use Rattle.transfer_matrix.proofs.phase_of.Statement.{statement}
-use Rattle.transfer_matrix.proofs.phase_of.Tie as tie
+use Rattle.characteristic.proofs.phase_of.Statement.{statement}
+use Rattle.characteristic.proofs.phase_of.Tie as tie
 
 module _ (d : Complex) where
   -- the two factors, and the two exponentials as they are computed

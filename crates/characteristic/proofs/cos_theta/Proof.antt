@@ -1,8 +1,8 @@
--- `transfer_matrix::cos_theta` meets its contract. Assumes nothing.
-use Rattle.transfer_matrix.specs.Layer.{sin-theta, cos-theta}
+-- `characteristic::cos_theta` meets its contract. Assumes nothing.
+use Rattle.characteristic.specs.Film.{sin-theta, cos-theta}
 use borrow.Author.Needs.{needs}
-use Rattle.transfer_matrix.proofs.cos_theta.Statement.{statement}
-use Rattle.transfer_matrix.proofs.cos_theta.Tie as tie
+use Rattle.characteristic.proofs.cos_theta.Statement.{statement}
+use Rattle.characteristic.proofs.cos_theta.Tie as tie
 
 real-requires : tie.Need-real-requires
 real-requires c κs = search needs

@@ -1,0 +1,3 @@
+-- Laws of one film: equal entries, exponentials.
+pub mod Entries
+pub mod Exponentials
