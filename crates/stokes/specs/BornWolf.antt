@@ -26,37 +26,47 @@ pub record Parameters (A : Type 0) : Type 0 where
   pub s3 : A
 
 module _ {A : Type 0} (K : Arithmetic A) where
+  -- its operations, infix
+  infixl 6 _+_
+  infixl 6 _-_
+  infixl 7 _·_
+  abbrev _+_ : A → A → A
+  x + y = K .plus x y
+
+  abbrev _-_ : A → A → A
+  x - y = K .minus x y
+
+  abbrev _·_ : A → A → A
+  x · y = K .times x y
+
   -- z*
   abbrev pub conjugate : Number A → Number A
   conjugate z = record { re = z .re; im = K .opposite (z .im) }
 
   -- z w = (x u - y v) + i (x v + y u)
   abbrev pub product : Number A → Number A → Number A
-  product z w = record {
-    re = K .minus (K .times (z .re) (w .re)) (K .times (z .im) (w .im));
-    im = K .plus (K .times (z .re) (w .im)) (K .times (z .im) (w .re));
-  }
+  product z w = record { re = z .re · w .re - z .im · w .im; im = z .re · w .im + z .im · w .re }
 
   -- |z|² = x² + y²
   abbrev pub modulus-squared : Number A → A
-  modulus-squared z = K .plus (K .times (z .re) (z .re)) (K .times (z .im) (z .im))
+  modulus-squared z = z .re · z .re + z .im · z .im
 
   -- S0 = |Ex|² + |Ey|², S1 = |Ex|² - |Ey|², S2 = 2·Re(Ex·Ey*), S3 = 2·Im(Ex*·Ey)
   abbrev pub born-and-wolf : Number A → Number A → Parameters A
   born-and-wolf ex ey = record {
-    s0 = K .plus (modulus-squared ex) (modulus-squared ey);
-    s1 = K .minus (modulus-squared ex) (modulus-squared ey);
-    s2 = K .times (K .two) ((product ex (conjugate ey)) .re);
-    s3 = K .times (K .two) ((product (conjugate ex) ey) .im);
+    s0 = modulus-squared ex + modulus-squared ey;
+    s1 = modulus-squared ex - modulus-squared ey;
+    s2 = K .two · (product ex (conjugate ey)) .re;
+    s3 = K .two · (product (conjugate ex) ey) .im;
   }
 
   -- the same written out in the parts of Ex = x1 + i y1 and Ey = x2 + i y2: S2 = 2·(x1 x2 + y1 y2), S3 = 2·(x1 y2 - y1 x2)
   abbrev pub in-parts : Number A → Number A → Parameters A
   in-parts ex ey = record {
-    s0 = K .plus (K .plus (K .times (ex .re) (ex .re)) (K .times (ex .im) (ex .im))) (K .plus (K .times (ey .re) (ey .re)) (K .times (ey .im) (ey .im)));
-    s1 = K .minus (K .plus (K .times (ex .re) (ex .re)) (K .times (ex .im) (ex .im))) (K .plus (K .times (ey .re) (ey .re)) (K .times (ey .im) (ey .im)));
-    s2 = K .times (K .two) (K .plus (K .times (ex .re) (ey .re)) (K .times (ex .im) (ey .im)));
-    s3 = K .times (K .two) (K .minus (K .times (ex .re) (ey .im)) (K .times (ex .im) (ey .re)));
+    s0 = (ex .re · ex .re + ex .im · ex .im) + (ey .re · ey .re + ey .im · ey .im);
+    s1 = (ex .re · ex .re + ex .im · ex .im) - (ey .re · ey .re + ey .im · ey .im);
+    s2 = K .two · (ex .re · ey .re + ex .im · ey .im);
+    s3 = K .two · (ex .re · ey .im - ex .im · ey .re);
   }
 
 -- whole numbers
