@@ -1,6 +1,5 @@
 // Jones and Mueller matrices, as polarization.rs has them: flat arrays, one row after the other.
 ghost use mathlib.Core.Path.{_≡_};
-ghost use Rattle.characteristic.specs.Matrix.{dot};
 ghost use Rattle.mueller.specs.Jones.{identity, linear-polarizer, retarding, retarder, quarter-wave-plate, half-wave-plate, diattenuator, apply, mul};
 ghost use Rattle.mueller.specs.Mueller as M;
 use complex::Complex;
@@ -12,13 +11,6 @@ use stokes::StokesVector;
 // The entry [i][j] stands at 2 i + j.
 pub struct JonesMatrix {
     pub m: [Complex; 4],
-}
-
-// a b + c d
-fn dot(a: Complex, b: Complex, c: Complex, d: Complex) -> Complex
-    ensures { λ r. ⌜ r ≡ dot a b c d ⌝ }
-{
-    a.mul(b).add(c.mul(d))
 }
 
 // A retarder, of e^(i delta/2) and e^(-i delta/2) and the fast axis's cosine and sine.
@@ -150,8 +142,8 @@ impl JonesMatrix {
         let x = v.ex;
         let y = v.ey;
         JonesVector {
-            ex: dot(m[0], x, m[1], y),
-            ey: dot(m[2], x, m[3], y),
+            ex: characteristic::dot(m[0], x, m[1], y),
+            ey: characteristic::dot(m[2], x, m[3], y),
         }
     }
 
@@ -162,10 +154,10 @@ impl JonesMatrix {
         let b = rhs.m;
         Self {
             m: [
-                dot(a[0], b[0], a[1], b[2]),
-                dot(a[0], b[1], a[1], b[3]),
-                dot(a[2], b[0], a[3], b[2]),
-                dot(a[2], b[1], a[3], b[3]),
+                characteristic::dot(a[0], b[0], a[1], b[2]),
+                characteristic::dot(a[0], b[1], a[1], b[3]),
+                characteristic::dot(a[2], b[0], a[3], b[2]),
+                characteristic::dot(a[2], b[1], a[3], b[3]),
             ],
         }
     }
