@@ -1,4 +1,4 @@
--- ASCII bytes. Definitions only.
+-- 01, The rest: ASCII bytes of a name. Definitions only.
 use Prim.Native.Nat.{ℕ, _-_}
 use mathlib.Core.Bool.{Bool, _&&_, cond}
 use mathlib.Core.List.{List}

@@ -15,7 +15,7 @@ use Rattle.thin_film.specs.Coating.{mgf2-default}
 use Rattle.before_layers.specs.Valid.{positive}
 use Rattle.thin_film.specs.Evaluate.{evaluate-surface}
 use Rattle.fresnel.specs.Fresnel.{fresnel-dielectric, schlick-approx}
-use Rattle.stokes.specs.Stokes.{least-s0, degree-of-polarization, degree-of-linear-polarization, degree-of-circular-polarization}
+use Rattle.stokes.specs.Stokes.{degree-of-polarization, degree-of-linear-polarization, degree-of-circular-polarization}
 use Rattle.stokes.specs.Jones.{to-stokes}
 use Rattle.coating_name.specs.Name.{from-format-name}
 
@@ -26,6 +26,10 @@ minus-half = ofBits binary64 0xBFE0_0000_0000_0000
 -- 0.75
 abbrev pub three-quarters : Float
 three-quarters = ofBits binary64 0x3FE8_0000_0000_0000
+
+-- 1e-15, by its own bits and not by the constant of the guard that it tries
+abbrev pub dark : Float
+dark = ofBits binary64 0x3CD2_03AF_9EE7_5616
 
 pub record KnownAnswers : Type 0 where
   -- sqrt(2^-1074) = 2^-537
@@ -57,9 +61,9 @@ pub record KnownAnswers : Type 0 where
   -- Jones (1, i): Stokes (2,0,0,2)
   pub stokes : to-stokes (record { ex = real one; ey = record { re = zero-f; im = one } }) ≡ record { s0 = two; s1 = zero-f; s2 = zero-f; s3 = two }
   -- s0 = 1e-15: degree 0, each of the three
-  pub degree : (s1 s2 s3 : Float) → degree-of-polarization (record { s0 = least-s0; s1 = s1; s2 = s2; s3 = s3 }) ≡ zero-f
-  pub linear-degree : (s1 s2 s3 : Float) → degree-of-linear-polarization (record { s0 = least-s0; s1 = s1; s2 = s2; s3 = s3 }) ≡ zero-f
-  pub circular-degree : (s1 s2 s3 : Float) → degree-of-circular-polarization (record { s0 = least-s0; s1 = s1; s2 = s2; s3 = s3 }) ≡ zero-f
+  pub degree : (s1 s2 s3 : Float) → degree-of-polarization (record { s0 = dark; s1 = s1; s2 = s2; s3 = s3 }) ≡ zero-f
+  pub linear-degree : (s1 s2 s3 : Float) → degree-of-linear-polarization (record { s0 = dark; s1 = s1; s2 = s2; s3 = s3 }) ≡ zero-f
+  pub circular-degree : (s1 s2 s3 : Float) → degree-of-circular-polarization (record { s0 = dark; s1 = s1; s2 = s2; s3 = s3 }) ≡ zero-f
   -- " mgf2 " is MgF2 550; "CUSTOM" is IdealAr; "none" is none
   pub mgf2 : from-format-name (32 ∷ 109 ∷ 103 ∷ 102 ∷ 50 ∷ 32 ∷ []) ≡ answer (some mgf2-default)
   pub custom : from-format-name (67 ∷ 85 ∷ 83 ∷ 84 ∷ 79 ∷ 77 ∷ []) ≡ answer (some S.IdealAr)

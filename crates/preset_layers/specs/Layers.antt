@@ -27,6 +27,7 @@ bragg-layers n-high n-low zero design = dielectric n-high (quarter-wave design n
 bragg-layers n-high n-low (suc pairs) design =
     dielectric n-high (quarter-wave design n-high) ∷ dielectric n-low (quarter-wave design n-low) ∷ bragg-layers n-high n-low pairs design
 
+-- the last layer of BroadbandAr: TiO2 15
 abbrev pub broadband-last : ThinFilmLayer
 broadband-last = dielectric n-tio2 (ofBits binary64 0x402E_0000_0000_0000)
 

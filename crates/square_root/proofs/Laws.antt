@@ -186,25 +186,3 @@ positive-value (fin false m d) a c p e = (refl, e)
 
 pub fits-unique : (f : Format) (x y : Float) → T (fits f x) → T (fits f y) → T (positive x) → T (positive y) → num x * den y ≡ num y * den x → x ≡ y
 fits-unique f x y h k p q e = unique f x y false (num y) (den y) (den-pos y) h k (positive-value x (num y) (den y) p e) (own-value y q)
-
--- ---- finite and not negative: -0 counts, and its root is -0
-abbrev pub notNegative : Float → Bool
-notNegative nan = false
-notNegative (inf s) = false
-notNegative (fin false m e) = true
-notNegative (fin true zero e) = true
-notNegative (fin true (suc m) e) = false
-
-positive-not-negative : (x : Float) → T (positive x) → T (notNegative x)
-positive-not-negative nan p = absurd p
-positive-not-negative (inf s) p = absurd p
-positive-not-negative (fin true m e) p = absurd p
-positive-not-negative (fin false m e) p = tt
-
-pub squareRoot-not-negative : (f : Format) (x : Float) → T (fits f x) → T (notNegative x) → T (notNegative (squareRoot f x))
-squareRoot-not-negative f nan h n = absurd n
-squareRoot-not-negative f (inf s) h n = absurd n
-squareRoot-not-negative f (fin true zero e) h n = unfold squareRoot in tt
-squareRoot-not-negative f (fin true (suc m) e) h n = absurd n
-squareRoot-not-negative f (fin false zero e) h n = unfold squareRoot in tt
-squareRoot-not-negative f (fin false (suc m) e) h n = positive-not-negative (squareRoot f (fin false (suc m) e)) (squareRoot-positive f (fin false (suc m) e) h (lt→ltb 0 (suc m) (zero-lt-suc m)))

@@ -45,9 +45,6 @@ in-size {x = x} h = record { fine = plus-finite x (h .sign); least = h .least; m
 pub zero-under : (d n : ℕ) → 0 * d ≤ n
 zero-under d n = omega arith
 
-pub mag-size : {p j : ℕ} {x : Float} → Mag p j x → Size 0 0 p j x
-mag-size {x = x} h = record { fine = h .fine; least = zero-under (den x) (num x * 2 ^ 0); most = h .most }
-
 -- ---- a constant's range is a test
 pub mag-lit : {p j : ℕ} (x : Float) → T (magb p j x) → Mag p j x
 mag-lit {p} {j} x t = record { fine = and-l (finite x) (leb (num x * 2 ^ j) (p * den x)) t; most = leb→le (num x * 2 ^ j) (p * den x) (and-r (finite x) (leb (num x * 2 ^ j) (p * den x)) t) }
