@@ -2,7 +2,7 @@
 use Prim.Native.Nat.{ℕ, zero, suc, _+_, _*_}
 use mathlib.Core.Bool.{Bool, _&&_, _||_, cond}
 use lib.IntN.{pos}
-use lib.Ieee.{Float, nan, binary64, neg, lt, ofInt, ofBits, isNan}
+use lib.Ieee.{Float, nan, binary64, neg, lt, ofInt, isNan}
 use Rattle.ieee.specs.Operators.{_⊕_, _⊖_, _⊗_, _⊘_}
 use Rattle.ieee.specs.Functions.{zero-f, one, two, is-inf, is-zero, abs, three, four}
 use Rattle.ieee.specs.Range.{sgn}

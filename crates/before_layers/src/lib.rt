@@ -1,29 +1,22 @@
 // What an evaluation asks and answers before any layer is read: the tests of its numbers, and the
 // responses of the ideal coatings.
 ghost use mathlib.Core.Path.{_≡_};
-ghost use Rattle.before_layers.specs.Valid.{positive, valid};
+ghost use Rattle.before_layers.specs.Valid.{valid};
 ghost use Rattle.before_layers.specs.Ideal.{ideal-ar, ideal-mirror, ideal-beamsplitter};
 use complex::Complex;
 use transfer_matrix::CoatingResponse;
-
-// Finite and above zero.
-fn positive(x: f64) -> bool
-    ensures { λ r. ⌜ r ≡ positive x ⌝ }
-{
-    ieee::is_finite(x) && !(x <= 0.0)
-}
 
 // The seven tests of evaluate: what fails one is InvalidParameter.
 pub fn valid(n_incident: f64, n_substrate: f64, angle_incident_rad: f64, wavelength_nm: f64) -> bool
     ensures { λ r. ⌜ r ≡ valid «n_incident» «n_substrate» «angle_incident_rad» «wavelength_nm» ⌝ }
 {
-    if !positive(n_incident) {
+    if !ieee::finite_positive(n_incident) {
         return false;
     }
-    if !positive(n_substrate) {
+    if !ieee::finite_positive(n_substrate) {
         return false;
     }
-    ieee::is_finite(angle_incident_rad) && positive(wavelength_nm)
+    ieee::is_finite(angle_incident_rad) && ieee::finite_positive(wavelength_nm)
 }
 
 pub fn ideal_ar() -> CoatingResponse

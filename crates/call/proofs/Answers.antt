@@ -9,7 +9,7 @@ use lib.Ieee.{Float}
 use borrow.Author.Tests.{le-leb, lt-leb}
 use Rattle.surface.specs.declared.Answers.{Answers}
 use Rattle.call.specs.Call.{done, Reply, written}
-use Rattle.call.specs.Layout.{response, common, surface-answered}
+use Rattle.call.specs.Layout.{response-numbers, common, surface-answered}
 use Rattle.call.proofs.Front.{Front, more}
 
 too-short : (r : Reply) (list : List Float) (n : ℕ) → length (r .numbers) ≡ n → length list < n → done 0x8_0000_0000 list ≡ written r list
@@ -22,8 +22,8 @@ enough r list out n q e h is =
 
 module _ (a : Answers) where
   module _ (coated : a .coated ≡ true) where
-    with-response : surface-answered a .numbers ≡ common a ++ response (a .response)
-    with-response = ap (λ (b : Bool). common a ++ cond b (response (a .response)) []) coated
+    with-response : surface-answered a .numbers ≡ common a ++ response-numbers (a .response)
+    with-response = ap (λ (b : Bool). common a ++ cond b (response-numbers (a .response)) []) coated
 
     coated-length : length (surface-answered a .numbers) ≡ 67
     coated-length = ap length with-response
@@ -31,7 +31,7 @@ module _ (a : Answers) where
     pub coated-short : (list : List Float) → length list < 67 → done 0x8_0000_0000 list ≡ written (surface-answered a) list
     coated-short list h = too-short (surface-answered a) list 67 coated-length h
 
-    pub coated-whole : (list l₁ l₂ numbers : List Float) → 67 ≤ length list → l₁ ≡ common a ++ drop 53 list → numbers ≡ response (a .response)
+    pub coated-whole : (list l₁ l₂ numbers : List Float) → 67 ≤ length list → l₁ ≡ common a ++ drop 53 list → numbers ≡ response-numbers (a .response)
         → l₂ ≡ take 53 l₁ ++ numbers ++ drop (53 + length numbers) l₁ → done 67 l₂ ≡ written (surface-answered a) list
     coated-whole list l₁ l₂ numbers h e₁ en e₂ =
         let f : Front list l₁ (common a) 53 = record { count = refl; is = e₁ } in
@@ -41,7 +41,7 @@ module _ (a : Answers) where
 
   module _ (bare : a .coated ≡ false) where
     without : surface-answered a .numbers ≡ common a
-    without = ap (λ (b : Bool). common a ++ cond b (response (a .response)) []) bare ∙ append-nil (common a)
+    without = ap (λ (b : Bool). common a ++ cond b (response-numbers (a .response)) []) bare ∙ append-nil (common a)
 
     bare-length : length (surface-answered a .numbers) ≡ 53
     bare-length = ap length without

@@ -5,7 +5,7 @@ ghost use mathlib.Core.List.{_++_};
 ghost use Prim.Native.Nat.{_+_, _%_, _^_, _≤_};
 ghost use lib.ListN.{length, take, drop};
 ghost use Rattle.call.specs.Call.{done, packed, reply, written};
-ghost use Rattle.call.specs.Layout.{response, jones, mueller, head, common, both, evaluated, surface-answered};
+ghost use Rattle.call.specs.Layout.{response-numbers, jones-numbers, mueller-numbers, head, common, both, evaluated, surface-answered};
 use mueller::JonesMatrix;
 use mueller::MuellerMatrix;
 use refusal::Refusal;
@@ -53,7 +53,7 @@ pub fn put_powers(returned: u64, s: f64, p: f64, list: &mut [f64]) -> u64
 // ---- a response
 
 fn response(r: CoatingResponse) -> [f64; 14]
-    ensures { λ n. ⌜ n ≡ response r ⌝ }
+    ensures { λ n. ⌜ n ≡ response-numbers r ⌝ }
 {
     let rs = r.rs;
     let rp = r.rp;
@@ -88,7 +88,7 @@ pub fn put_response(r: CoatingResponse, list: &mut [f64]) -> u64
 // ---- a surface's answers
 
 fn jones(j: JonesMatrix) -> [f64; 8]
-    ensures { λ n. ⌜ n ≡ jones j ⌝ }
+    ensures { λ n. ⌜ n ≡ jones-numbers j ⌝ }
 {
     let m = j.m;
     let a = m[0];
@@ -99,7 +99,7 @@ fn jones(j: JonesMatrix) -> [f64; 8]
 }
 
 fn mueller(m: MuellerMatrix) -> [f64; 16]
-    ensures { λ n. ⌜ n ≡ mueller m ⌝ }
+    ensures { λ n. ⌜ n ≡ mueller-numbers m ⌝ }
 {
     let e = m.m;
     [

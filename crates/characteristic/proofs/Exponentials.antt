@@ -1,17 +1,17 @@
 -- e^(i delta) and e^(-i delta) from one sine and one cosine. sin(-x) is -sin x, or both are +0 (an x that folds onto π or -π);
 -- in either case the sum and the difference of the two exponentials have the bits that they have with sin(-x). Assumes nothing.
-use mathlib.Core.Path.{_≡_, refl, sym, ap, _∙_, subst}
+use mathlib.Core.Path.{_≡_, refl, sym, ap, _∙_}
 use mathlib.Core.Logic.{_⊎_, inl, inr}
-use mathlib.Core.Bool.{Bool, true, false, not, cond, true≢false}
+use mathlib.Core.Bool.{Bool, true, false, cond, true≢false}
 use Prim.Native.Nat.{ℕ, zero, suc, _*_, _<_}
-use native.Mathlib.Nat.{mul-zero, mul-pos, zero-mul, mul-one}
+use native.Mathlib.Nat.{mul-zero, mul-one}
 use lib.Dec.{T}
 use lib.IntN.{pos}
-use lib.Ieee.{Float, nan, inf, fin, binary64, unlike, up, down, round, neg, add, sub, mul, lt, eq, ofBits, isNan}
+use lib.Ieee.{Float, nan, inf, fin, binary64, unlike, up, down, round, neg, add, sub, mul, lt, isNan}
 use lib.Ieee.Fits.{down-pos}
 use Rattle.ieee.specs.Operators.{_⊕_, _⊖_, _⊗_, _⊘_}
 use Rattle.ieee.specs.Functions.{zero-f, one}
-use Rattle.ieee.specs.Range.{Mag, sgn, clear}
+use Rattle.ieee.specs.Range.{sgn, clear}
 use Rattle.ieee.proofs.Signs.{zero-is}
 use Rattle.ieee.proofs.Range.Round.{round-clear}
 use Rattle.trig.specs.Opposite.{Opposite}

@@ -9,7 +9,7 @@ use Rattle.ieee.specs.Operators.{_⊗_}
 use Rattle.square_root.specs.Root.{squareRoot}
 use Rattle.transfer_matrix.specs.declared.ThinFilmLayer.{ThinFilmLayer}
 use Rattle.transfer_matrix.specs.Solve.{dielectric}
-use Rattle.evaluation.specs.Walk.{blank}
+use Rattle.evaluation.specs.Walk.{no-layer}
 use Rattle.preset_layers.specs.Layers.{quarter-wave, bragg-layers}
 use Rattle.coating.specs.declared.Coating.{Coating}
 use Rattle.coating.specs.declared.Coating.the-variants as C
@@ -24,7 +24,7 @@ quarter-wave-layers n-ambient n-substrate design =
 
 -- the layers in the first of 64 places
 abbrev pub layers-in : List ThinFilmLayer → Layers
-layers-in layers = record { items = layers ++ replicate (64 - length layers) blank; count = length layers }
+layers-in layers = record { items = layers ++ replicate (64 - length layers) no-layer; count = length layers }
 
 -- a coating and its layers
 abbrev pub built : Coating → List ThinFilmLayer → Built

@@ -1,8 +1,8 @@
 -- `Complex` of thin_film.rs, method by method, in the Rust's order of operations. Definitions only.
 use mathlib.Core.Bool.{cond}
-use lib.Ieee.{Float, binary64, neg, lt, le, ofBits}
+use lib.Ieee.{Float, binary64, neg, lt, le}
 use Rattle.ieee.specs.Operators.{_⊕_, _⊖_, _⊗_, _⊘_}
-use Rattle.ieee.specs.Functions.{zero-f, two, max}
+use Rattle.ieee.specs.Functions.{zero-f, two, tiny, max}
 use Rattle.square_root.specs.Root.{squareRoot}
 use Rattle.trig.specs.Trig.{sin, cos}
 use Rattle.exponential.specs.Exp as Exp
@@ -54,10 +54,6 @@ sub z w = record { re = z .re ⊖ w .re; im = z .im ⊖ w .im }
 unfoldable pub mul : Complex → Complex → Complex
 mul z w = record { re = z .re ⊗ w .re ⊖ z .im ⊗ w .im; im = z .re ⊗ w .im ⊕ z .im ⊗ w .re }
 
--- 1e-28: a denominator below it makes the quotient zero. A NaN is not below it, and passes (01 section 4)
-abbrev pub least-denom : Float
-least-denom = ofBits binary64 0x3A1F_B0F6_BE50_6019
-
 -- the quotient of z by w, whose norm-sq is denom
 unfoldable pub quotient : Complex → Complex → Float → Complex
 quotient z w denom = record {
@@ -65,8 +61,9 @@ quotient z w denom = record {
   im = (z .im ⊗ w .re ⊖ z .re ⊗ w .im) ⊘ denom;
 }
 
+-- a denominator below 1e-28 makes the quotient zero. A NaN is not below it, and passes (01 section 4)
 unfoldable pub div : Complex → Complex → Complex
-div z w = cond (lt (norm-sq w) least-denom) zero (quotient z w (norm-sq w))
+div z w = cond (lt (norm-sq w) tiny) zero (quotient z w (norm-sq w))
 
 -- the four operations of two complex numbers, infix, so that a formula reads as a formula
 infixl 6 _⊞_

@@ -10,7 +10,7 @@ use Rattle.refusal.specs.Outcome.{Outcome, answer, refusal, refused, invalid-pa
 use Rattle.trig.specs.Trig.{sin, cos}
 use Rattle.transfer_matrix.specs.declared.ThinFilmLayer.{ThinFilmLayer}
 use Rattle.thin_film.specs.Evaluate.{evaluate-surface}
-use Rattle.polarization.specs.Surface.{invalid, bare, surface-fresnel-jones}
+use Rattle.polarization.specs.Surface.{indices-valid, bare, surface-fresnel-jones}
 use Rattle.limits.specs.declared.Surface as Value
 use Rattle.surface.specs.declared.Answers.{Answers}
 use Rattle.limits.specs.declared.Interface.{Interface}
@@ -34,7 +34,7 @@ module _ (wavelength : Float) (s : Value.Surface) (layers : List ThinFilmLayer) 
       let n₁ = s .«n_incident» in
       let n₂ = s .«n_substrate» in
       let θ = s .«angle_rad» in
-      either (invalid n₁ n₂ θ) invalid-parameter (answer (bare n₁ n₂ (sin θ) (cos θ))) (omega arith, refl) tt
+      either (indices-valid n₁ n₂ θ) (answer (bare n₁ n₂ (sin θ) (cos θ))) invalid-parameter tt (omega arith, refl)
 
   of-interface : (k : Interface) → Plain (answers-of k wavelength s layers)
   unfolding answers-of bare-answers

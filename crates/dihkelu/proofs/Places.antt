@@ -10,13 +10,13 @@ use lib.ListN.{length}
 use lib.Ieee.{Float}
 use lib.Ieee.Fits.{and-l, and-r}
 use Rattle.refusal.specs.Outcome.{Outcome}
-use Rattle.sheet.specs.Sheet.{Layer, Sheet, All, kind-word}
+use Rattle.sheet.specs.Sheet.{SheetLayer, Sheet, All, kind-word}
 use Rattle.sheet.specs.Words.{word, count, payload, float}
 use Rattle.sheet.specs.Read.{Result, read, fault, Follows, room-after, Rest, layer-at, with-layer, surface-at, with-surface, rest, with-beam, decode}
 use Rattle.sheet.specs.Claim.{length-fits}
 use Rattle.sheet.proofs.Scan.{left, never}
 use Rattle.sheet.proofs.Blocks.{Next, next-surface, next-layer, next-end, next, begins}
-use Rattle.sheet.proofs.Claim.Found.{Found, is-surface, is-layer, is-end, cut-surface, cut-layer, cut-end, after-end, no-block, found-cases}
+use Rattle.sheet.proofs.Standing.{Found, is-surface, is-layer, is-end, cut-surface, cut-layer, cut-end, after-end, no-block, found-cases}
 use Rattle.sheet_values.specs.Values.{value}
 use Rattle.limits.specs.Limits.{snell-size}
 use Rattle.gate.specs.Gate.{Test, layer-tests, surface-tests, tests, gated}
@@ -39,24 +39,24 @@ module _ (src : List ℕ) where
   of-surface at (read r) place e = never (cc)
   of-surface at (fault p) place e = cc
 
-  of-layer : (l : Layer) (q : Result Rest) (place : ℕ) → with-layer l q ≡ fault place → q ≡ fault place
+  of-layer : (l : SheetLayer) (q : Result Rest) (place : ℕ) → with-layer l q ≡ fault place → q ≡ fault place
   of-layer l (read r) place e = never (cc)
   of-layer l (fault p) place e = cc
 
-  in-rest : (fuel at done room : ℕ) {f : Follows} → at ≤ count src → done ≤ 64 → Found src at done room f → (place : ℕ) → rest src fuel f at done room ≡ fault place → place ≤ count src
+  in-rest : (fuel at done room : ℕ) {f : Follows} → at ≤ count src → Found src at done room f → (place : ℕ) → rest src fuel f at done room ≡ fault place → place ≤ count src
   unfolding rest
-  in-rest zero at done room h d f place e = omega (arith, same at place e)
-  in-rest (suc fuel) at done room h d (is-surface l s) place e =
+  in-rest zero at done room h f place e = omega (arith, same at place e)
+  in-rest (suc fuel) at done room h (is-surface l s) place e =
       let room′ = room-after (payload (word src at)) in
-      in-rest fuel (at + 7) (suc done) room′ l (s .few) (found-cases src (at + 7) (suc done) room′ (s .few) l) place (of-surface at _ place e)
-  in-rest (suc fuel) at done room h d (is-layer l s) place e =
-      in-rest fuel (at + 7) done (room - 1) l d (found-cases src (at + 7) done (room - 1) d l) place (of-layer (layer-at src at) _ place e)
-  in-rest (suc fuel) at done room h d (is-end l s) place e = never (cc)
-  in-rest (suc fuel) at done room h d (cut-surface l m s) place e = omega (arith, same at place e)
-  in-rest (suc fuel) at done room h d (cut-layer l m s) place e = omega (arith, same at place e)
-  in-rest (suc fuel) at done room h d (cut-end l) place e = omega (arith, same at place e)
-  in-rest (suc fuel) at done room h d (after-end l s) place e = omega (arith, same (at + 1) place e)
-  in-rest (suc fuel) at done room h d (no-block l a b c) place e = omega (arith, same at place e)
+      in-rest fuel (at + 7) (suc done) room′ l (found-cases src (at + 7) (suc done) room′) place (of-surface at _ place e)
+  in-rest (suc fuel) at done room h (is-layer l s) place e =
+      in-rest fuel (at + 7) done (room - 1) l (found-cases src (at + 7) done (room - 1)) place (of-layer (layer-at src at) _ place e)
+  in-rest (suc fuel) at done room h (is-end l s) place e = never (cc)
+  in-rest (suc fuel) at done room h (cut-surface l m s) place e = omega (arith, same at place e)
+  in-rest (suc fuel) at done room h (cut-layer l m s) place e = omega (arith, same at place e)
+  in-rest (suc fuel) at done room h (cut-end l) place e = omega (arith, same at place e)
+  in-rest (suc fuel) at done room h (after-end l s) place e = omega (arith, same (at + 1) place e)
+  in-rest (suc fuel) at done room h (no-block l a b c) place e = omega (arith, same at place e)
 
   module _ (h : 9 ≤ count src) where
     faulty : (place : ℕ) → decode src ≡ fault place → place ≤ count src
@@ -68,7 +68,7 @@ module _ (src : List ℕ) where
         unpack (fault p) k w = k (cc)
 
         second : (t : Bool) → cond t (with-beam src (left src 8 0 0)) (fault 1) ≡ fault place → place ≤ count src
-        second true w = unpack (left src 8 0 0) (in-rest (suc (count src)) 8 0 0 (omega arith) (omega arith) (found-cases src 8 0 0 (omega arith) (omega arith)) place) w
+        second true w = unpack (left src 8 0 0) (in-rest (suc (count src)) 8 0 0 (omega arith) (found-cases src 8 0 0) place) w
         second false w = omega (arith, same 1 place w)
 
         first : (t : Bool) → cond t (cond (eqb (word src 1) (kind-word 2 0)) (with-beam src (left src 8 0 0)) (fault 1)) (fault 0) ≡ fault place → place ≤ count src

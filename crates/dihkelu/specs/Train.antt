@@ -12,21 +12,21 @@ use Rattle.call.specs.Call.{Done, done, Reply, returned}
 use Rattle.call.specs.Layout.{both}
 
 -- s, p
-abbrev pub powers : ℕ → State → Reply
-powers returned st = both returned (st .s) (st .p)
+abbrev pub state-layout : ℕ → State → Reply
+state-layout returned st = both returned (st .s) (st .p)
 
 -- dihkelu_start: the count of surfaces, and the BEAM's powers
-abbrev pub begun : Sheet → Reply
-begun x = powers (surfaces-of x) (fresh x)
+abbrev pub start-layout : Sheet → Reply
+start-layout x = state-layout (surfaces-of x) (fresh x)
 
 -- dihkelu_step: the surfaces done, and the powers after them
-abbrev pub gone-on : State → Reply
-gone-on st = powers (st .done) st
+abbrev pub step-layout : State → Reply
+step-layout st = state-layout (st .done) st
 
 -- a step's state, or its refusal, whose number is not 0
-abbrev pub taken : Stepped → Outcome State
-taken r = cond (eqb (r .refusal .number) 0) (answer (r .state)) (refusal (r .refusal .number) (r .refusal .place))
+abbrev pub step-outcome : Stepped → Outcome State
+step-outcome r = cond (eqb (r .refusal .number) 0) (answer (r .state)) (refusal (r .refusal .number) (r .refusal .place))
 
 -- dihkelu_run: the count of surfaces, and the list as the run leaves it
-abbrev pub run-whole : Ran → Done
-run-whole r = done (returned (r .result)) (r .list)
+abbrev pub run-done : Ran → Done
+run-done r = done (returned (r .result)) (r .list)

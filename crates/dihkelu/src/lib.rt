@@ -9,7 +9,7 @@ ghost use Rattle.call.specs.Call.{done, Apart, returned, answered};
 ghost use Rattle.call.specs.Layout.{evaluated, surface-answered};
 ghost use Rattle.optical_train.specs.Train.{step, run};
 ghost use Rattle.sheet_surfaces.specs.Surfaces.{surface-answers};
-ghost use Rattle.dihkelu.specs.Train.{begun, gone-on, taken, run-whole};
+ghost use Rattle.dihkelu.specs.Train.{start-layout, step-layout, step-outcome, run-done};
 use evaluation::Evaluation;
 use gate::Gated;
 use optical_train::State;
@@ -72,7 +72,7 @@ pub extern "C" fn dihkelu_gate(sheet: &[u8]) -> u64
 // then 8.
 #[no_mangle]
 pub extern "C" fn dihkelu_start(sheet: &[u8], list: &mut [f64]) -> u64
-    ensures { λ r. ⌜ done r (now (list .exit)) ≡ answered begun (gated (now (sheet .entry))) (now (list .entry)) ⌝ }
+    ensures { λ r. ⌜ done r (now (list .exit)) ≡ answered start-layout (gated (now (sheet .entry))) (now (list .entry)) ⌝ }
 {
     match gate::gate(sheet) {
         Gated::Admitted(count) => call::put_powers(
@@ -95,7 +95,7 @@ pub extern "C" fn dihkelu_step(
     p: f64,
     list: &mut [f64],
 ) -> u64
-    ensures { λ r. ⌜ done r (now (list .exit)) ≡ answered gone-on (taken (step (now (sheet .entry)) (record { done = «surfaces_done»; s = s; p = p }))) (now (list .entry)) ⌝ }
+    ensures { λ r. ⌜ done r (now (list .exit)) ≡ answered step-layout (step-outcome (step (now (sheet .entry)) (record { done = «surfaces_done»; s = s; p = p }))) (now (list .entry)) ⌝ }
 {
     let stepped = optical_train::step(
         sheet,
@@ -117,7 +117,7 @@ pub extern "C" fn dihkelu_step(
 // 6, then 8 for a list shorter than 2 numbers for each surface.
 #[no_mangle]
 pub extern "C" fn dihkelu_run(sheet: &[u8], list: &mut [f64]) -> u64
-    ensures { λ r. ⌜ done r (now (list .exit)) ≡ run-whole (run (now (sheet .entry)) (now (list .entry))) ⌝ }
+    ensures { λ r. ⌜ done r (now (list .exit)) ≡ run-done (run (now (sheet .entry)) (now (list .entry))) ⌝ }
 {
     number_of(optical_train::run(sheet, list))
 }

@@ -1,4 +1,4 @@
--- Facts on lists of layers that the loops over layers cite: a stack takes one layer more, and the i-th layer that is read stands where `place` says.
+-- Facts on lists of layers that the loops over layers cite: a stack takes one layer more, and the i-th layer that is read stands where `nth-index` says.
 --     front, done, as-long, within, goes-on                 where every layer is read, from either end
 --     at-most, inside, starts, turns, ends, none-lent       where all or none of a lent list are
 -- Assumes nothing.
@@ -15,7 +15,7 @@ use lib.Seq.{drop-cons, drop-length, getD-at}
 use Rattle.transfer_matrix.specs.declared.ThinFilmLayer.{ThinFilmLayer}
 use Rattle.transfer_matrix.specs.declared.Stack.{Stack}
 use Rattle.transfer_matrix.specs.Stack.{step, steps}
-use Rattle.evaluation.specs.Walk.{ordered, count, place, reading, through}
+use Rattle.evaluation.specs.Walk.{ordered, count, nth-index, reading, through}
 use Rattle.evaluation.specs.declared.Pending.{Pending}
 use Rattle.evaluation.specs.Walk as Walk
 
@@ -38,7 +38,7 @@ unfolding ordered
 as-long false ls = refl
 as-long true ls = length-reverse ls
 
-pub within : (far : Bool) (n i : ℕ) → i < n → place far n i < n
+pub within : (far : Bool) (n i : ℕ) → i < n → nth-index far n i < n
 within false n i h = h
 within true n i h = omega arith
 
@@ -56,14 +56,14 @@ getD-reverse (x ∷ xs) i d h = ap (λ (l : List ThinFilmLayer). getD l i d) (re
     one-in : i < length xs → suc (length xs - 1 - i) ≡ suc (length xs) - 1 - i
     one-in l = omega arith
 
-found : (far : Bool) (ls : List ThinFilmLayer) (i : ℕ) (d : ThinFilmLayer) → i < length ls → getD ls (place far (length ls) i) d ≡ getD (ordered far ls) i d
+found : (far : Bool) (ls : List ThinFilmLayer) (i : ℕ) (d : ThinFilmLayer) → i < length ls → getD ls (nth-index far (length ls) i) d ≡ getD (ordered far ls) i d
 unfolding ordered
 found false ls i d h = refl
 found true ls i d h = sym (getD-reverse ls i d h)
 
--- one turn of a loop that reads the i-th layer at its place
+-- one turn of a loop that reads the i-th layer where it stands
 pub goes-on : (far : Bool) (ls : List ThinFilmLayer) (k : Stack) (i : ℕ) (d : ThinFilmLayer) → i < length ls
-    → steps (step k (getD ls (place far (length ls) i) d)) (drop (i + 1) (ordered far ls)) ≡ steps k (drop i (ordered far ls))
+    → steps (step k (getD ls (nth-index far (length ls) i) d)) (drop (i + 1) (ordered far ls)) ≡ steps k (drop i (ordered far ls))
 goes-on far ls k i d h = ap (λ (z : ThinFilmLayer). steps (step k z) (drop (i + 1) (ordered far ls))) (found far ls i d h) ∙ sym (next k (ordered far ls) i d (rw as-long h))
 
 -- ---- all or none of a lent list
@@ -72,12 +72,12 @@ module _ (far : Bool) (ys : List ThinFilmLayer) where
   listed true = as-long far ys
   listed false = as-long far []
 
-  placed : (read : Bool) (i : ℕ) → i < cond read (length ys) 0 → place far (cond read (length ys) 0) i < length ys
+  placed : (read : Bool) (i : ℕ) → i < cond read (length ys) 0 → nth-index far (cond read (length ys) 0) i < length ys
   placed true i h = within far (length ys) i h
   placed false i h = absurd (not-suc-le-zero h)
 
   turned : (read : Bool) (k : Stack) (i : ℕ) (d : ThinFilmLayer) → i < cond read (length ys) 0
-      → steps (step k (getD ys (place far (cond read (length ys) 0) i) d)) (drop (i + 1) (ordered far (cond read ys []))) ≡ steps k (drop i (ordered far (cond read ys [])))
+      → steps (step k (getD ys (nth-index far (cond read (length ys) 0) i) d)) (drop (i + 1) (ordered far (cond read ys []))) ≡ steps k (drop i (ordered far (cond read ys [])))
   turned true k i d h = goes-on far ys k i d h
   turned false k i d h = absurd (not-suc-le-zero h)
 
@@ -89,7 +89,7 @@ module _ (p : Pending) (ys : List ThinFilmLayer) where
   pub at-most : count p (length ys) ≤ length ys
   at-most = bounded (p .read) (length ys)
 
-  pub inside : (i : ℕ) → i < count p (length ys) → place (p .far) (count p (length ys)) i < length ys
+  pub inside : (i : ℕ) → i < count p (length ys) → nth-index (p .far) (count p (length ys)) i < length ys
   inside i h = placed (p .far) ys (p .read) i h
 
   -- before the first, a turn, and past the last
@@ -98,7 +98,7 @@ module _ (p : Pending) (ys : List ThinFilmLayer) where
   starts = refl
 
   pub turns : (a : Pending) (i : ℕ) (d : ThinFilmLayer) → i < count p (length ys)
-      → Walk.steps (Walk.step a (getD ys (place (p .far) (count p (length ys)) i) d)) (drop (i + 1) (reading p ys)) ≡ Walk.steps a (drop i (reading p ys))
+      → Walk.steps (Walk.step a (getD ys (nth-index (p .far) (count p (length ys)) i) d)) (drop (i + 1) (reading p ys)) ≡ Walk.steps a (drop i (reading p ys))
   unfolding Walk.steps Walk.step reading
   turns a i d h = ap (λ (k : Stack). record { read = a .read; far = a .far; stack = k; settled = a .settled }) (turned (p .far) ys (p .read) (a .stack) i d h)
 

@@ -26,8 +26,8 @@ ordered false layers = layers
 ordered true layers = reverse layers
 
 -- a place that holds no layer
-abbrev pub blank : ThinFilmLayer
-blank = record { n = zero-f; k = zero-f; «thickness_nm» = zero-f }
+abbrev pub no-layer : ThinFilmLayer
+no-layer = record { n = zero-f; k = zero-f; «thickness_nm» = zero-f }
 
 -- a stack that nothing reads
 abbrev pub no-product : Product
@@ -45,8 +45,8 @@ abbrev pub count : Pending → ℕ → ℕ
 count p n = cond (p .read) n 0
 
 -- where the i-th that is read stands, of n
-abbrev pub place : Bool → ℕ → ℕ → ℕ
-place far n i = cond far (n - 1 - i) i
+abbrev pub nth-index : Bool → ℕ → ℕ → ℕ
+nth-index far n i = cond far (n - 1 - i) i
 
 -- the layers that are read, in the order in which they are
 unfoldable pub reading : Pending → List ThinFilmLayer → List ThinFilmLayer

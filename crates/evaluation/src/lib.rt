@@ -54,8 +54,8 @@ pub fn settled(answer: Evaluation) -> Pending
 }
 
 // Where the i-th layer that is read stands, of n.
-pub fn place(far: bool, n: usize, i: usize) -> usize
-    ensures { λ r. ⌜ r ≡ Walk.place far n i ⌝ }
+pub fn nth_index(far: bool, n: usize, i: usize) -> usize
+    ensures { λ r. ⌜ r ≡ Walk.nth-index far n i ⌝ }
 {
     if far {
         if i < n { n - 1 - i } else { 0 }
@@ -73,9 +73,9 @@ fn count(pending: Pending, n: usize) -> usize
 
 // Where the i-th that is read stands, of n.
 fn at(pending: Pending, n: usize, i: usize) -> usize
-    ensures { λ r. ⌜ r ≡ Walk.place (pending .far) n i ⌝ }
+    ensures { λ r. ⌜ r ≡ Walk.nth-index (pending .far) n i ⌝ }
 {
-    place(pending.far, n, i)
+    nth_index(pending.far, n, i)
 }
 
 // One layer more.

@@ -18,9 +18,10 @@ use Rattle.evaluation.specs.Walk.{ordered}
 use Rattle.before_layers.specs.Valid.{valid}
 use Rattle.coating.specs.Evaluate.{respond, evaluate-coating}
 use Rattle.thin_film.specs.Evaluate.{evaluate-surface}
-use Rattle.flat_layers.specs.declared.Coded.{Coded}
-use Rattle.flat_layers.specs.declared.Coded.the-variants as K
-use Rattle.flat_layers.specs.Evaluate.{coded, layers, evaluate-coded, evaluate}
+use Rattle.limits.specs.declared.Interface.{Interface}
+use Rattle.limits.specs.declared.Interface.the-variants.{Bare, Coated}
+use Rattle.limits.specs.Coating.{coded}
+use Rattle.flat_layers.specs.Evaluate.{layers, evaluate-coded, evaluate}
 
 abbrev pub Plain : {A : Type 0} → Outcome A → Type 0
 Plain (answer a) = Unit {0}
@@ -51,10 +52,10 @@ module _ (n-incident n-substrate angle wavelength : Float) where
   unfolding evaluate-surface
   of-surface s ls = of-coating (coating-of s) (ordered (lt n-substrate n-incident) (layers-of s ls))
 
-  of-coded : (k : Coded) (flat : List Float) → Plain (evaluate-coded k flat n-incident n-substrate angle wavelength)
+  of-coded : (k : Interface) (flat : List Float) → Plain (evaluate-coded k flat n-incident n-substrate angle wavelength)
   unfolding evaluate-coded
-  of-coded (K.Known s) flat = of-surface s (layers flat)
-  of-coded K.Unknown flat = (omega arith, refl)
+  of-coded (Coated s) flat = of-surface s (layers flat)
+  of-coded Bare flat = (omega arith, refl)
 
   pub of-code : (code : ℕ) (design : Float) (flat : List Float) → Plain (evaluate code design n-incident n-substrate angle wavelength flat)
   unfolding evaluate

@@ -6,7 +6,7 @@ use mathlib.Core.List.{List, [], _∷_}
 use lib.ListN.{length, getD}
 use lib.Ieee.{Float, nan}
 use Rattle.transfer_matrix.specs.declared.ThinFilmLayer.{ThinFilmLayer}
-use Rattle.evaluation.specs.Walk.{blank}
+use Rattle.evaluation.specs.Walk.{no-layer}
 use Rattle.flat_layers.specs.Evaluate.{layers}
 
 pub count : (flat : List Float) → length (layers flat) ≡ length flat / 3
@@ -32,7 +32,7 @@ later n k thickness flat m =
     let e₂ : 3 + m + 2 ≡ suc (suc (suc (m + 2))) = omega arith in
     ap (λ (a : ℕ). from l a (3 + m + 1) (3 + m + 2)) e₀ ∙ ap (λ (a : ℕ). from l (suc (suc (suc m))) a (3 + m + 2)) e₁ ∙ ap (λ (a : ℕ). from l (suc (suc (suc m))) (suc (suc (suc (m + 1)))) a) e₂
 
-pub at : (flat : List Float) (j : ℕ) → 3 * j + 2 < length flat → three flat (3 * j) ≡ getD (layers flat) j blank
+pub at : (flat : List Float) (j : ℕ) → 3 * j + 2 < length flat → three flat (3 * j) ≡ getD (layers flat) j no-layer
 unfolding layers
 at [] j h = absurd (omega arith)
 at (n ∷ []) j h = absurd (omega arith)

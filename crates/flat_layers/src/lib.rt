@@ -7,53 +7,22 @@ ghost use lib.Dec.{eqb};
 ghost use lib.ListN.{length, getD};
 ghost use Rattle.refusal.specs.Outcome.{invalid-parameter};
 ghost use Rattle.transfer_matrix.specs.Stack.{steps};
-ghost use Rattle.evaluation.specs.Walk.{ordered, blank, outcome};
+ghost use Rattle.evaluation.specs.Walk.{ordered, no-layer, outcome};
 ghost use Rattle.thin_film.specs.Evaluate.{evaluate-surface};
 ghost use Rattle.coating.specs.declared.Coating.the-variants as C;
 ghost use Rattle.thin_film.specs.declared.SurfaceCoating.the-variants as S;
-ghost use Rattle.flat_layers.specs.Evaluate.{coded, layers, evaluate-coded, evaluate};
+ghost use Rattle.flat_layers.specs.Evaluate.{layers, evaluate-coded, evaluate};
 use coating::Coating;
 use evaluation::Evaluation;
+use limits::Interface;
 use thin_film::SurfaceCoating;
 use transfer_matrix::Stack;
 use transfer_matrix::ThinFilmLayer;
 
-// A coating that a code stands for.
-pub enum Coded {
-    Known(SurfaceCoating),
-    Unknown,
-}
-
-fn coating_of(code: u32, design_wavelength_nm: f64) -> Coded
-    ensures { λ r. ⌜ r ≡ coded code «design_wavelength_nm» ⌝ }
-{
-    if code == 1 {
-        Coded::Known(SurfaceCoating::IdealAr)
-    } else if code == 2 {
-        Coded::Known(SurfaceCoating::MgF2 {
-            design_wavelength_nm,
-        })
-    } else if code == 3 {
-        Coded::Known(SurfaceCoating::BroadbandAr)
-    } else if code == 4 {
-        Coded::Known(SurfaceCoating::HighReflectanceMirror)
-    } else if code == 5 {
-        Coded::Known(SurfaceCoating::Custom(Coating::Multilayer))
-    } else if code == 6 {
-        Coded::Known(SurfaceCoating::Custom(Coating::IdealBeamsplitter))
-    } else if code == 7 {
-        Coded::Known(SurfaceCoating::Custom(Coating::IdealMirror))
-    } else if code == 8 {
-        Coded::Known(SurfaceCoating::Custom(Coating::IdealAr))
-    } else {
-        Coded::Unknown
-    }
-}
-
 // The j-th layer.
 fn layer_at(flat: &[f64], j: usize) -> ThinFilmLayer
     requires { ⌜ 3 * j + 2 < length (now flat) ⌝ }
-    ensures { λ r. ⌜ r ≡ getD (layers (now (flat .entry))) j blank ⌝ }
+    ensures { λ r. ⌜ r ≡ getD (layers (now (flat .entry))) j no-layer ⌝ }
 {
     ThinFilmLayer {
         n: flat[3 * j],
@@ -70,7 +39,7 @@ fn through(flat: &[f64], far: bool, start: Stack) -> Stack
     let mut stack = start;
     let mut i = 0;
     while i < n {
-        let j = evaluation::place(far, n, i);
+        let j = evaluation::nth_index(far, n, i);
         stack = transfer_matrix::step(stack, layer_at(flat, j));
         i += 1;
     }
@@ -157,7 +126,7 @@ fn surface(
 
 // The same for a coating that is known; 1 for one that is not, and for a list that is no multiple of 3.
 fn evaluate_coded(
-    coating: Coded,
+    coating: Interface,
     flat: &[f64],
     n_incident: f64,
     n_substrate: f64,
@@ -170,7 +139,7 @@ fn evaluate_coded(
         return Evaluation::Refused(refusal::INVALID_PARAMETER);
     }
     match coating {
-        Coded::Known(c) => surface(
+        Interface::Coated(c) => surface(
             c,
             flat,
             n_incident,
@@ -178,7 +147,7 @@ fn evaluate_coded(
             angle_incident_rad,
             wavelength_nm,
         ),
-        Coded::Unknown => Evaluation::Refused(refusal::INVALID_PARAMETER),
+        Interface::Bare => Evaluation::Refused(refusal::INVALID_PARAMETER),
     }
 }
 
@@ -195,7 +164,7 @@ pub fn evaluate(
     ensures { λ r. ⌜ outcome r ≡ evaluate code «design_wavelength_nm» «n_incident» «n_substrate» «angle_incident_rad» «wavelength_nm» (now (flat .entry)) ⌝ }
 {
     evaluate_coded(
-        coating_of(code, design_wavelength_nm),
+        limits::coded(code, design_wavelength_nm),
         flat,
         n_incident,
         n_substrate,

@@ -1,6 +1,6 @@
 -- Known answers of document 01, computed by the checker. Assumes nothing.
 use mathlib.Core.Path.{_≡_, refl}
-use lib.Ieee.{Float, binary64, add, sub, mul, div, lt, le, ofBits}
+use lib.Ieee.{add, sub, mul, div, lt, le, ofBits}
 use Rattle.ieee.specs.Functions.{zero-f, one, abs, max, clamp, three, quarter}
 use Rattle.square_root.specs.Root.{squareRoot}
 use Rattle.fresnel.specs.Fresnel.{sin2-t, cos-t, power, refracted, fresnel-dielectric, r-zero, schlick, schlick-approx}

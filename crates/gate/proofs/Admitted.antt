@@ -7,7 +7,7 @@ use Rattle.sheet.specs.Sheet.{Sheet}
 use Rattle.sheet.specs.Read.{read, decode}
 use Rattle.sheet.proofs.Scan.{never}
 use Rattle.gate.specs.Gate.{surfaces-of, gated, gate}
-use Rattle.gate.specs.Claim.{Within}
+use Rattle.gate.specs.Claim.{WithinLimits}
 use Rattle.gate.proofs.Judged.{passed-within}
 use Rattle.gate.proofs.Claim.{Case, short, broken, outside, inside, cases}
 
@@ -15,7 +15,7 @@ pub record Admitted (src : List ℕ) (n : ℕ) : Type 0 where
   pub sheet : Sheet
   pub is : gated src ≡ answer sheet
   pub reads : decode src ≡ read sheet
-  pub within : Within sheet
+  pub within : WithinLimits sheet
   pub counts : surfaces-of sheet ≡ n
 
 pub admitted : (src : List ℕ) (n : ℕ) → answer n ≡ gate src → Admitted src n

@@ -14,7 +14,7 @@ use Rattle.limits.specs.declared.Surface as Value
 use Rattle.sheet.specs.Sheet.{Sheet}
 use Rattle.sheet.specs.Words.{word, count, kind, float}
 use Rattle.sheet.specs.Read.{Result, read, fault, Rest, layer-at, surface-at, decode}
-use Rattle.sheet.specs.Scan.{counted}
+use Rattle.sheet.specs.Scan.{surface-count}
 use Rattle.sheet.proofs.Scan.{left, never}
 use Rattle.sheet.proofs.Blocks.{Next, next-surface, next-layer, next-end, next, begins}
 use Rattle.sheet_values.specs.Values.{value, film, surface-value}
@@ -99,10 +99,10 @@ pub record Whole (src : List ℕ) (n : ℕ) : Type 0 where
   pub reads : decode src ≡ read sheet
   pub counts : surfaces-of sheet ≡ n
 
-pub whole : (src : List ℕ) (n : ℕ) → counted (decode src) ≡ read n → Whole src n
+pub whole : (src : List ℕ) (n : ℕ) → surface-count (decode src) ≡ read n → Whole src n
 whole src n e = go (decode src) refl e
   where
-    go : (q : Result Sheet) → decode src ≡ q → counted q ≡ read n → Whole src n
+    go : (q : Result Sheet) → decode src ≡ q → surface-count q ≡ read n → Whole src n
     go (read x) p e = record { sheet = x; reads = p; counts = inside e }
       where
         inside : read (surfaces-of x) ≡ read n → surfaces-of x ≡ n
@@ -115,7 +115,7 @@ pub record Start (src : List ℕ) (n : ℕ) (b : Float) : Type 0 where
   pub reads : left src 8 0 0 ≡ read rest
   pub judges : map surfaces-of (within-limits (decode src)) ≡ cond (beam-passes (value (float src 2)) (value (float src 4)) (value (float src 6))) (judged n (from b 8 rest)) (refusal 6 1)
 
-pub start : (src : List ℕ) (n : ℕ) (b : Float) → counted (decode src) ≡ read n → Start src n b
+pub start : (src : List ℕ) (n : ℕ) (b : Float) → surface-count (decode src) ≡ read n → Start src n b
 unfolding tests judged layer-tests
 start src n b e =
     let w = whole src n e in
@@ -144,7 +144,7 @@ taken x y z t p e q h = sym (e ∙ simp (sym q ∙ h))
 turned : {A : Type 0} (x y z : A) (t p : Bool) → z ≡ cond p x y → t ≡ p → t ≡ false → y ≡ z
 turned x y z t p e q h = sym (e ∙ simp (sym q ∙ h))
 
-module _ (src : List ℕ) (n : ℕ) (h : counted (decode src) ≡ read n) (w s p : Float) (ew : w ≡ value (float src 2)) (es : s ≡ value (float src 4)) (ep : p ≡ value (float src 6)) (t : Bool) (et : t ≡ beam-passes w s p) where
+module _ (src : List ℕ) (n : ℕ) (h : surface-count (decode src) ≡ read n) (w s p : Float) (ew : w ≡ value (float src 2)) (es : s ≡ value (float src 4)) (ep : p ≡ value (float src 6)) (t : Bool) (et : t ≡ beam-passes w s p) where
   test : t ≡ beam-passes (value (float src 2)) (value (float src 4)) (value (float src 6))
   test = et ∙ rw (ew, es, ep)
 

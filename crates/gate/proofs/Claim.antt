@@ -14,7 +14,7 @@ use Rattle.sheet.specs.Read.{Result, read, fault, decode}
 use Rattle.sheet.specs.Claim.{Bytes, length-fits, Fault}
 use Rattle.sheet.proofs.Claim.{grammar-claim}
 use Rattle.gate.specs.Gate.{tests, judged, within-limits, gated}
-use Rattle.gate.specs.Claim.{Within, FirstOutside, GateClaim}
+use Rattle.gate.specs.Claim.{WithinLimits, FirstOutside, GateClaim}
 use Rattle.gate.proofs.Placed as Placed
 use Rattle.gate.proofs.Judged.{Passed, Judged, all-pass, one-fails, judging, passed-judged, first-judged, within-passed, passed-within}
 
@@ -97,13 +97,13 @@ module _ (src : List ℕ) (bs : Bytes src) where
   fits : (x : Sheet) → WellFormed x → encode x ≡ src → T (length-fits src)
   fits x h e = subst (λ (l : List ℕ). T (length-fits l)) e (grammar-claim .fits x h .0)
 
-  admitted : (x : Sheet) → gated src ≡ answer x → (WellFormed x × Within x) × (encode x ≡ src)
+  admitted : (x : Sheet) → gated src ≡ answer x → (WellFormed x × WithinLimits x) × (encode x ≡ src)
   admitted x e =
       let a = is-admitted src (cases src) x e in
       let g = grammar-claim .reads src bs (a .0) x .0 (a .1 .0) in
       ((g .0, passed-within x (a .1 .1)), g .1)
 
-  admits : (x : Sheet) → (WellFormed x × Within x) × (encode x ≡ src) → gated src ≡ answer x
+  admits : (x : Sheet) → (WellFormed x × WithinLimits x) × (encode x ≡ src) → gated src ≡ answer x
   admits x h =
       let t = fits x (h .0 .0) (h .1) in
       by-grammar src t (read x) (grammar-claim .reads src bs t x .1 (h .0 .0, h .1)) ∙ passed-judged x (tests x) (within-passed x (h .0 .1))

@@ -11,10 +11,10 @@ use lib.Ieee.Fits.{and-l, and-r, and-i}
 use Rattle.ieee.proofs.Signs.{of-true}
 use Rattle.refusal.specs.Outcome.{Outcome, answer, refusal}
 use Rattle.limits.specs.Limits.{snell-size, layer-within, layers-within, surface-passes, passes}
-use Rattle.sheet.specs.Sheet.{Layer, Surface, Sheet, All}
+use Rattle.sheet.specs.Sheet.{SheetLayer, SheetSurface, Sheet, All}
 use Rattle.sheet_values.specs.Values.{value, film, films, surface-value}
 use Rattle.gate.specs.Gate.{Test, layer-tests, surface-tests, tests, judged}
-use Rattle.gate.specs.Claim.{Within}
+use Rattle.gate.specs.Claim.{WithinLimits}
 
 abbrev pub Passed : List Test → Type 0
 Passed ts = All (λ (t : Test). t .passes ≡ true) ts
@@ -63,21 +63,21 @@ part : (xs ys : List Test) → Passed (xs ++ ys) → Passed xs × Passed ys
 part [] ys h = (tt, h)
 part (x ∷ xs) ys h = let p = part xs ys (h .1) in ((h .0, p .0), p .1)
 
-layers-passed : (b : Float) (at : ℕ) (ls : List Layer) → T (layers-within b (films ls)) → Passed (layer-tests b at ls)
+layers-passed : (b : Float) (at : ℕ) (ls : List SheetLayer) → T (layers-within b (films ls)) → Passed (layer-tests b at ls)
 unfolding layer-tests layers-within films
 layers-passed b at [] t = tt
 layers-passed b at (l ∷ ls) t = (is-true _ (and-l (layer-within b (film l)) _ t), layers-passed b (at + 7) ls (and-r (layer-within b (film l)) _ t))
 
-passed-layers : (b : Float) (at : ℕ) (ls : List Layer) → Passed (layer-tests b at ls) → T (layers-within b (films ls))
+passed-layers : (b : Float) (at : ℕ) (ls : List SheetLayer) → Passed (layer-tests b at ls) → T (layers-within b (films ls))
 unfolding layer-tests layers-within films
 passed-layers b at [] h = tt
 passed-layers b at (l ∷ ls) h = and-i (layer-within b (film l)) _ (of-true _ (h .0)) (passed-layers b (at + 7) ls (h .1))
 
 module _ (w : Float) where
-  abbrev Good : Surface → Type 0
+  abbrev Good : SheetSurface → Type 0
   Good y = T (passes w (surface-value y) (films (y .layers)))
 
-  surfaces-passed : (at : ℕ) (xs : List Surface) → All Good xs → Passed (surface-tests at xs)
+  surfaces-passed : (at : ℕ) (xs : List SheetSurface) → All Good xs → Passed (surface-tests at xs)
   unfolding surface-tests passes
   surfaces-passed at [] h = tt
   surfaces-passed at (x ∷ xs) h =
@@ -86,7 +86,7 @@ module _ (w : Float) where
       let next = at + 7 + 7 * length (x .layers) in
       (is-true s (and-l s _ (h .0)), both (layer-tests b (at + 7) (x .layers)) (surface-tests next xs) (layers-passed b (at + 7) (x .layers) (and-r s _ (h .0))) (surfaces-passed next xs (h .1)))
 
-  passed-surfaces : (at : ℕ) (xs : List Surface) → Passed (surface-tests at xs) → All Good xs
+  passed-surfaces : (at : ℕ) (xs : List SheetSurface) → Passed (surface-tests at xs) → All Good xs
   unfolding surface-tests passes
   passed-surfaces at [] h = tt
   passed-surfaces at (x ∷ xs) h =
@@ -95,10 +95,10 @@ module _ (w : Float) where
       let p = part (layer-tests b (at + 7) (x .layers)) (surface-tests next xs) (h .1) in
       (and-i (surface-passes (surface-value x)) _ (of-true _ (h .0)) (passed-layers b (at + 7) (x .layers) (p .0)), passed-surfaces next xs (p .1))
 
-pub within-passed : (x : Sheet) → Within x → Passed (tests x)
+pub within-passed : (x : Sheet) → WithinLimits x → Passed (tests x)
 unfolding tests
 within-passed x h = (is-true _ (h .beam), surfaces-passed (value (x .wavelength)) 8 (x .surfaces) (h .surfaces))
 
-pub passed-within : (x : Sheet) → Passed (tests x) → Within x
+pub passed-within : (x : Sheet) → Passed (tests x) → WithinLimits x
 unfolding tests
 passed-within x h = record { beam = of-true _ (h .0); surfaces = passed-surfaces (value (x .wavelength)) 8 (x .surfaces) (h .1) }

@@ -8,15 +8,15 @@ use Prim.Native.Nat.{ℕ}
 use lib.Dec.{T}
 use Rattle.refusal.specs.Outcome.{answer, refusal}
 use Rattle.limits.specs.Limits.{beam-passes, passes}
-use Rattle.sheet.specs.Sheet.{Surface, Sheet, All, WellFormed, encode, places}
+use Rattle.sheet.specs.Sheet.{SheetSurface, Sheet, All, WellFormed, encode, places}
 use Rattle.sheet.specs.Claim.{_⇔_, Bytes, length-fits, Fault}
 use Rattle.sheet_values.specs.Values.{value, films, surface-value}
 use Rattle.gate.specs.Gate.{Test, tests, gated}
 
 -- ---- section 3: the BEAM, and each surface with its layers at the BEAM's wavelength
-pub record Within (x : Sheet) : Type 0 where
+pub record WithinLimits (x : Sheet) : Type 0 where
   pub beam : T (beam-passes (value (x .wavelength)) (value (x .s)) (value (x .p)))
-  pub surfaces : All (λ (y : Surface). T (passes (value (x .wavelength)) (surface-value y) (films (y .layers)))) (x .surfaces)
+  pub surfaces : All (λ (y : SheetSurface). T (passes (value (x .wavelength)) (surface-value y) (films (y .layers)))) (x .surfaces)
 
 -- the first BEAM, SURFACE or LAYER outside stands at a place
 pub record FirstOutside (x : Sheet) (place : ℕ) : Type 0 where
@@ -31,7 +31,7 @@ tested ts = map (λ (t : Test). t .at) ts
 
 pub record GateClaim : Type 0 where
   -- admitted exactly when the bytes are those of a well-formed sheet within the limits; that sheet is then the answer, so it is the only one
-  pub admits : (src : List ℕ) → Bytes src → (x : Sheet) → (gated src ≡ answer x) ⇔ ((WellFormed x × Within x) × (encode x ≡ src))
+  pub admits : (src : List ℕ) → Bytes src → (x : Sheet) → (gated src ≡ answer x) ⇔ ((WellFormed x × WithinLimits x) × (encode x ≡ src))
   -- 4 exactly when the length is no multiple of 4, under 36 or over 30,500; its place is 0
   pub four : (src : List ℕ) → Bytes src → (place : ℕ) → (gated src ≡ refusal 4 place) ⇔ ((length-fits src ≡ false) × (place ≡ 0))
   -- 5 exactly when the length fits and no well-formed sheet encodes to the bytes

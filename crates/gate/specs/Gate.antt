@@ -1,5 +1,5 @@
 -- 01 section 3 and the table 'Turned back': the gate over a whole sheet. Definitions only.
--- `Claim` says what it has to do with `encode`, `WellFormed` and `Within`.
+-- `Claim` says what it has to do with `encode`, `WellFormed` and `WithinLimits`.
 use mathlib.Core.Bool.{Bool, cond}
 use mathlib.Core.List.{List, [], _∷_, _++_}
 use Prim.Native.Nat.{ℕ, _+_, _*_}
@@ -7,7 +7,7 @@ use lib.ListN.{length}
 use lib.Ieee.{Float}
 use Rattle.refusal.specs.Outcome.{Outcome, answer, refusal, refused, map}
 use Rattle.limits.specs.Limits.{beam-passes, snell-size, layer-within, surface-passes}
-use Rattle.sheet.specs.Sheet.{Layer, Surface, Sheet}
+use Rattle.sheet.specs.Sheet.{SheetLayer, SheetSurface, Sheet}
 use Rattle.sheet.specs.Read.{Result, read, fault, decode}
 use Rattle.sheet.specs.Claim.{length-fits}
 use Rattle.sheet_values.specs.Values.{value, film, surface-value}
@@ -21,12 +21,12 @@ pub record Test : Type 0 where
   pub passes : Bool
 
 -- the LAYERs from a place on, for an n_incident·abs(sin) of b
-unfoldable pub layer-tests : Float → ℕ → List Layer → List Test
+unfoldable pub layer-tests : Float → ℕ → List SheetLayer → List Test
 layer-tests b at [] = []
 layer-tests b at (l ∷ ls) = record { at = at; passes = layer-within b (film l) } ∷ layer-tests b (at + 7) ls
 
 -- the SURFACEs from a place on, each before its LAYERs; a preset's layers count as the SURFACE
-unfoldable pub surface-tests : ℕ → List Surface → List Test
+unfoldable pub surface-tests : ℕ → List SheetSurface → List Test
 surface-tests at [] = []
 surface-tests at (x ∷ xs) =
     record { at = at; passes = surface-passes (surface-value x) }

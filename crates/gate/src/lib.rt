@@ -3,7 +3,7 @@
 ghost use mathlib.Core.Path.{_≡_};
 ghost use Rattle.sheet.specs.Claim.{length-fits};
 ghost use Rattle.sheet.specs.Read.{read, decode};
-ghost use Rattle.sheet.specs.Scan.{counted};
+ghost use Rattle.sheet.specs.Scan.{surface-count};
 ghost use Rattle.refusal.specs.Outcome.{refusal, map};
 ghost use Rattle.gate.specs.Gate.{outcome, within-limits, surfaces-of, gate};
 use refusal::Refusal;
@@ -32,7 +32,7 @@ fn outside(place: usize) -> Gated
 
 // The limits of a sheet that is in grammar, block after block.
 fn limits(src: &[u8], count: u32) -> Gated
-    requires { ⌜ counted (decode (now src)) ≡ read count ⌝ }
+    requires { ⌜ surface-count (decode (now src)) ≡ read count ⌝ }
     ensures { λ r. ⌜ outcome r ≡ map surfaces-of (within-limits (decode (now (src .entry)))) ⌝ }
 {
     if !limits::beam_passes(

@@ -1,9 +1,10 @@
 -- The small borrowed functions of 01 section 2, and the constants that several crates share.
 -- A constant is its bit pattern, as the compiler has it.
 use Prim.Native.Nat.{ℕ, _+_, _*_, _^_}
-use mathlib.Core.Bool.{Bool, true, false, cond}
+use mathlib.Core.Bool.{Bool, true, false, not, _&&_, cond}
 use lib.Dec.{eqb}
-use lib.Ieee.{Float, nan, inf, fin, binary64, lt, ofBits}
+use lib.Ieee.{Float, nan, inf, fin, binary64, lt, le, ofBits}
+use lib.Ieee.Scale.{finite}
 use Rattle.ieee.specs.Operators.{_⊗_}
 
 -- +0
@@ -38,6 +39,10 @@ seven-eighths = ofBits binary64 0x3FEC_0000_0000_0000
 abbrev pub half : Float
 half = ofBits binary64 0x3FE0_0000_0000_0000
 
+-- 1e-28: below it complex.rs divides by nothing, up to it polarization.rs normalizes nothing
+abbrev pub tiny : Float
+tiny = ofBits binary64 0x3A1F_B0F6_BE50_6019
+
 -- -1
 abbrev pub minus-one : Float
 minus-one = ofBits binary64 0xBFF0_0000_0000_0000
@@ -53,6 +58,10 @@ abbrev pub is-zero : Float → Bool
 is-zero nan = false
 is-zero (inf s) = false
 is-zero (fin s m e) = eqb m 0
+
+-- what an index and a wavelength have to be: the Rust turns back !x.is_finite() || x <= 0.0
+unfoldable pub finite-positive : Float → Bool
+finite-positive x = finite x && not (le x zero-f)
 
 -- 01 section 2: abs clears the sign bit
 unfoldable pub abs : Float → Float
@@ -77,5 +86,8 @@ abbrev pub powi5 : Float → Float
 powi5 x = x ⊗ ((x ⊗ x) ⊗ (x ⊗ x))
 
 -- 01 section 1: raw words, two to an f64 (bits, high word first)
+abbrev pub joined : ℕ → ℕ → ℕ
+joined high low = high * 2 ^ 32 + low
+
 abbrev pub ofWords : ℕ → ℕ → Float
-ofWords high low = ofBits binary64 (high * 2 ^ 32 + low)
+ofWords high low = ofBits binary64 (joined high low)

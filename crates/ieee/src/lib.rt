@@ -2,7 +2,7 @@
 ghost use mathlib.Core.Path.{_≡_};
 ghost use lib.Ieee.{binary64, rem};
 ghost use lib.Ieee.Scale.{finite};
-ghost use Rattle.ieee.specs.Functions.{abs, max, clamp, powi2, powi5, ofWords};
+ghost use Rattle.ieee.specs.Functions.{abs, max, clamp, powi2, powi5, finite-positive, ofWords};
 
 // The absolute value: the sign bit cleared.
 pub fn abs(x: f64) -> f64
@@ -41,6 +41,13 @@ pub fn is_finite(x: f64) -> bool
 {
     let infinity = 1.0 / 0.0;
     if x < infinity { -infinity < x } else { false }
+}
+
+// Finite and above zero.
+pub fn finite_positive(x: f64) -> bool
+    ensures { λ r. ⌜ r ≡ finite-positive x ⌝ }
+{
+    is_finite(x) && !(x <= 0.0)
 }
 
 pub fn powi2(x: f64) -> f64

@@ -4,7 +4,7 @@ use mathlib.Core.Bool.{true}
 use mathlib.Core.List.{[], _∷_}
 use mathlib.Core.Option.{none, some}
 use lib.Ieee.{Float, binary64, ofBits}
-use Rattle.ieee.specs.Functions.{zero-f, one, two, three, quarter, half}
+use Rattle.ieee.specs.Functions.{zero-f, one, two, three, quarter, half, finite-positive}
 use Rattle.square_root.specs.Root.{sqrt}
 use Rattle.trig.specs.Angles.{pi}
 use Rattle.complex.specs.Complex.{real, zero, div}
@@ -12,7 +12,6 @@ use Rattle.refusal.specs.Outcome.{answer}
 use Rattle.coating.specs.declared.Coating.the-variants as C
 use Rattle.thin_film.specs.declared.SurfaceCoating.the-variants as S
 use Rattle.thin_film.specs.Coating.{mgf2-default}
-use Rattle.before_layers.specs.Valid.{positive}
 use Rattle.thin_film.specs.Evaluate.{evaluate-surface}
 use Rattle.fresnel.specs.Fresnel.{fresnel-dielectric, schlick-approx}
 use Rattle.stokes.specs.Stokes.{degree-of-polarization, degree-of-linear-polarization, degree-of-circular-polarization}
@@ -41,7 +40,7 @@ pub record KnownAnswers : Type 0 where
   -- 1 / 2^-47 = 0
   pub guarded-quotient : div (real one) (real (ofBits binary64 0x3D00_0000_0000_0000)) ≡ zero
   -- Custom, no layers, 1 to 3, angle 0, at every wavelength that is admitted: rs = rp = -0.5, ts = tp = 0.5, R = 0.25, T = 0.75, phases π
-  pub no-layers : (wavelength : Float) → positive wavelength ≡ true → evaluate-surface (S.Custom C.Multilayer) [] one three zero-f wavelength ≡ answer (record {
+  pub no-layers : (wavelength : Float) → finite-positive wavelength ≡ true → evaluate-surface (S.Custom C.Multilayer) [] one three zero-f wavelength ≡ answer (record {
     rs = real minus-half;
     rp = real minus-half;
     ts = real half;

@@ -15,7 +15,7 @@ use base.Logic.{ent, sep}
 use base.Fml.{Fml, fsep, fat, froom, ftrue}
 use prog.Wp.{Heap}
 use ghost.Atoms.{Atoms, sem}
-use types.Kit.{Given, ‵, _⊛_, _$_, _∵_, !, qed, by, move, keep, drop as let-go, use1, use2, split, rewrite, fsplit, fjoin, fpick, fpack, feqL, feqI, done}
+use types.Kit.{Given, ‵, _⊛_, _$_, _∵_, !, qed, move, keep, drop as let-go, use1, use2, split, rewrite, fsplit, fjoin, fpick, fpack, feqL, feqI, done}
 use types.Run.{forget}
 use types.Share.{arr-parts}
 use denote.RattleType.{RattleType}

@@ -17,7 +17,7 @@ use Rattle.thin_film.specs.declared.SurfaceCoating.the-variants as S
 use Rattle.thin_film.specs.Coating.{standard-wavelength, n-mgf2, mgf2-layers, mirror-layers, layers-of}
 use Rattle.preset_layers.specs.Layers.{n-sio2, n-tio2, quarter-wave, broadband-layers, bragg-layers}
 use Rattle.limits.specs.declared.Interface.the-variants.{Bare, Coated}
-use Rattle.limits.specs.Coating.{interface, preset-layers}
+use Rattle.limits.specs.Coating.{coded, interface, preset-layers}
 use Rattle.limits.specs.Limits.{hundred-thousand, within, refracts, layer-within, layers-within}
 
 -- ---- one layer
@@ -121,25 +121,26 @@ module _ (b : Float) (code : ℕ) where
   presets k = layers-within b (preset-layers (interface k))
 
   pub at-mgf2 : code ≡ 2 → refracts b n-mgf2 ≡ layers-within b (preset-layers (interface code))
-  unfolding interface layers-of
+  unfolding coded interface layers-of
   at-mgf2 e = sym (ap presets e ∙ mgf2-is b)
 
   pub at-broadband : code ≡ 3 → refracts b n-sio2 ≡ layers-within b (preset-layers (interface code))
-  unfolding interface layers-of
+  unfolding coded interface layers-of
   at-broadband e = sym (ap presets e ∙ broadband-is b)
 
   pub at-mirror : code ≡ 4 → refracts b n-sio2 ≡ layers-within b (preset-layers (interface code))
-  unfolding interface layers-of mirror-layers
+  unfolding coded interface layers-of mirror-layers
   at-mirror e = sym (ap presets e ∙ pairs-is 6 b)
 
-  none : (p q r t : Bool) → true ≡ layers-within b (preset-layers (cond p Bare (cond q (Coated S.IdealAr) (cond r (Coated (S.Custom C.Multilayer)) (cond t (Coated (S.Custom C.IdealBeamsplitter)) (Coated (S.Custom C.IdealMirror)))))))
+  none : (p q r t u : Bool) → true ≡ layers-within b (preset-layers (cond p (Coated S.IdealAr) (cond q (Coated (S.Custom C.Multilayer)) (cond r (Coated (S.Custom C.IdealBeamsplitter)) (cond t (Coated (S.Custom C.IdealMirror)) (cond u (Coated (S.Custom C.IdealAr)) Bare))))))
   unfolding layers-of layers-within
-  none true q r t = refl
-  none false true r t = refl
-  none false false true t = refl
-  none false false false true = refl
-  none false false false false = refl
+  none true q r t u = refl
+  none false true r t u = refl
+  none false false true t u = refl
+  none false false false true u = refl
+  none false false false false true = refl
+  none false false false false false = refl
 
   pub at-others : (code ≡ 2 → ⊥) → (code ≡ 3 → ⊥) → (code ≡ 4 → ⊥) → true ≡ layers-within b (preset-layers (interface code))
-  unfolding interface
-  at-others f g h = simp (ne-eqb code 2 f, ne-eqb code 3 g, ne-eqb code 4 h) (none (eqb code 0) (eqb code 1) (eqb code 5) (eqb code 6))
+  unfolding coded interface
+  at-others f g h = simp (ne-eqb code 2 f, ne-eqb code 3 g, ne-eqb code 4 h) (none (eqb code 1) (eqb code 5) (eqb code 6) (eqb code 7) (eqb code 8))

@@ -1,6 +1,6 @@
 // One surface of a train: its coating by code, and the limits of document 01's section 3.
 ghost use mathlib.Core.Path.{_≡_};
-ghost use Rattle.limits.specs.Coating.{interface, preset-layers};
+ghost use Rattle.limits.specs.Coating.{coded, interface, preset-layers};
 ghost use Rattle.limits.specs.Limits.{within, beam-passes, layer-within, layers-within, angle-within, surface-within, judgement};
 use coating::Coating;
 use thin_film::SurfaceCoating;
@@ -22,16 +22,16 @@ pub enum Interface {
     Coated(SurfaceCoating),
 }
 
-// From a code to a coating. Code 5 is made of the LAYERs that follow the SURFACE.
-pub fn interface_of(code: u32) -> Interface
-    ensures { λ r. ⌜ r ≡ interface code ⌝ }
+// From a code to a coating. Code 5 is made of layers of its own; 8, Custom(IdealAr), is in no sheet.
+pub fn coded(code: u32, design_wavelength_nm: f64) -> Interface
+    ensures { λ r. ⌜ r ≡ coded code «design_wavelength_nm» ⌝ }
 {
-    if code == 0 {
-        Interface::Bare
-    } else if code == 1 {
+    if code == 1 {
         Interface::Coated(SurfaceCoating::IdealAr)
     } else if code == 2 {
-        Interface::Coated(SurfaceCoating::mgf2_default())
+        Interface::Coated(SurfaceCoating::MgF2 {
+            design_wavelength_nm,
+        })
     } else if code == 3 {
         Interface::Coated(SurfaceCoating::BroadbandAr)
     } else if code == 4 {
@@ -40,9 +40,20 @@ pub fn interface_of(code: u32) -> Interface
         Interface::Coated(SurfaceCoating::Custom(Coating::Multilayer))
     } else if code == 6 {
         Interface::Coated(SurfaceCoating::Custom(Coating::IdealBeamsplitter))
-    } else {
+    } else if code == 7 {
         Interface::Coated(SurfaceCoating::Custom(Coating::IdealMirror))
+    } else if code == 8 {
+        Interface::Coated(SurfaceCoating::Custom(Coating::IdealAr))
+    } else {
+        Interface::Bare
     }
+}
+
+// Of a sheet, whose MgF2 is at 550 nm.
+pub fn interface_of(code: u32) -> Interface
+    ensures { λ r. ⌜ r ≡ interface code ⌝ }
+{
+    coded(code, 550.0)
 }
 
 // ---- limits, all ends included

@@ -8,20 +8,20 @@ use lib.ListN.{length, set, take, drop, length-set, take-append-drop}
 use lib.Seq.{drop-cons, drop-length, take-suc-set, drop-set-lt}
 use lib.Ieee.{Float}
 use Rattle.ieee.specs.Operators.{_⊗_}
-use Rattle.sheet.specs.Sheet.{Surface}
+use Rattle.sheet.specs.Sheet.{SheetSurface}
 use Rattle.sheet_values.specs.Nth.{no-surface, nth}
 use Rattle.optical_train.specs.declared.State.{State}
-use Rattle.optical_train.specs.Train.{chosen-powers, past, after-each}
+use Rattle.optical_train.specs.Train.{chosen-powers, after-one, after-each}
 
 abbrev state : ℕ → Float → Float → State
 state i s p = record { done = i; s = s; p = p }
 
 -- the first i pairs are written; with those of the surfaces after them and the rest of the list they are all that is to be written, and what comes after is as it was
-pub record Half (w : Float) (xs : List Surface) (before now : List Float) (i : ℕ) (s p : Float) (all : List Float) : Type 0 where
+pub record Half (w : Float) (xs : List SheetSurface) (before now : List Float) (i : ℕ) (s p : Float) (all : List Float) : Type 0 where
   pub rest : drop (2 * length xs) now ≡ drop (2 * length xs) before
   pub front : take (2 * i) now ++ (after-each w (state i s p) (drop i xs) ++ drop (2 * length xs) before) ≡ all
 
-module _ (w : Float) (xs : List Surface) (before : List Float) where
+module _ (w : Float) (xs : List SheetSurface) (before : List Float) where
   -- nothing is written yet
   pub nothing : (s p : Float) → Half w xs before before 0 s p (after-each w (state 0 s p) xs ++ drop (2 * length xs) before)
   nothing s p = record { rest = refl; front = refl }
@@ -44,7 +44,7 @@ module _ (w : Float) (xs : List Surface) (before : List Float) where
         two i = omega arith
 
     after : after-each w (state i s p) (drop i xs) ≡ s′ ∷ p′ ∷ after-each w (state (i + 1) s′ p′) (drop (i + 1) xs)
-    unfolding after-each past
+    unfolding after-each after-one
     after = ap (after-each w (state i s p)) (drop-cons xs i no-surface h) ∙ rw (es, ep, add-one i)
 
     regroup : (a z : List Float) → (a ++ (s′ ∷ []) ++ (p′ ∷ [])) ++ z ≡ a ++ (s′ ∷ p′ ∷ z)
@@ -66,5 +66,5 @@ module _ (w : Float) (xs : List Surface) (before : List Float) where
       ∙ ap (λ (l : List Float). take (2 * length xs) now ++ l) (half .rest)
       ∙ sym
       (ap (λ (k : ℕ). take (2 * k) now ++ (after-each w (state i s p) (drop k xs) ++ drop (2 * length xs) before)) e
-      ∙ ap (λ (l : List Surface). take (2 * length xs) now ++ (after-each w (state i s p) l ++ drop (2 * length xs) before)) (drop-length xs))
+      ∙ ap (λ (l : List SheetSurface). take (2 * length xs) now ++ (after-each w (state i s p) l ++ drop (2 * length xs) before)) (drop-length xs))
       ∙ half .front

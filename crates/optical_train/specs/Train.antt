@@ -9,7 +9,7 @@ use Rattle.ieee.specs.Operators.{_⊗_, _⊕_}
 use Rattle.refusal.specs.Outcome.{Outcome, answer, refusal, refused, map}
 use Rattle.surface.specs.declared.Powers.{Powers}
 use Rattle.surface.specs.Answers.{powers}
-use Rattle.sheet.specs.Sheet.{Surface, Sheet}
+use Rattle.sheet.specs.Sheet.{SheetSurface, Sheet}
 use Rattle.sheet_values.specs.Nth.{nth}
 use Rattle.sheet_values.specs.Values.{value, films, surface-value}
 use Rattle.gate.specs.Gate.{gated}
@@ -29,7 +29,7 @@ abbrev pub chosen-of : Bool → Outcome Powers → Chosen
 chosen-of reflected (answer r) = chosen reflected r
 chosen-of reflected (refusal number place) = record { s = nan; p = nan }
 
-unfoldable pub chosen-powers : Float → Surface → Chosen
+unfoldable pub chosen-powers : Float → SheetSurface → Chosen
 chosen-powers wavelength y = chosen-of (surface-value y .reflected) (powers wavelength (surface-value y) (films (y .layers)))
 
 -- ---- Start: 0 and the BEAM's powers; a train in that state is fresh
@@ -49,14 +49,14 @@ abbrev pub sum : Float → Float → Float
 sum s p = s ⊕ p
 
 -- ---- a step takes the surface after those done: it multiplies s and p by its chosen powers and adds one to the surfaces done
-unfoldable pub past : Float → State → Surface → State
-past wavelength st y = let c = chosen-powers wavelength y in record { done = st .done + 1; s = st .s ⊗ c .s; p = st .p ⊗ c .p }
+unfoldable pub after-one : Float → State → SheetSurface → State
+after-one wavelength st y = let c = chosen-powers wavelength y in record { done = st .done + 1; s = st .s ⊗ c .s; p = st .p ⊗ c .p }
 
 -- a refusal's number is 0 where there is none; 7 when surfaces done is the sheet's count or more; the state is as before where the step is refused
 abbrev pub stepped : State → Outcome Sheet → Stepped
 stepped st (answer x) =
     cond (ltb (st .done) (length (x .surfaces)))
-    (record { refusal = record { number = 0; place = 0 }; state = past (value (x .wavelength)) st (nth (x .surfaces) (st .done)) })
+    (record { refusal = record { number = 0; place = 0 }; state = after-one (value (x .wavelength)) st (nth (x .surfaces) (st .done)) })
     (record { refusal = record { number = 7; place = 0 }; state = st })
 stepped st (refusal number place) = record { refusal = record { number = number; place = place }; state = st }
 
@@ -65,9 +65,9 @@ unfoldable pub step : List ℕ → State → Stepped
 step src st = stepped st (gated src)
 
 -- ---- a whole run: s, p after each surface, as one step after another gives them
-unfoldable pub after-each : Float → State → List Surface → List Float
+unfoldable pub after-each : Float → State → List SheetSurface → List Float
 after-each wavelength st [] = []
-after-each wavelength st (y ∷ ys) = let next = past wavelength st y in next .s ∷ next .p ∷ after-each wavelength next ys
+after-each wavelength st (y ∷ ys) = let next = after-one wavelength st y in next .s ∷ next .p ∷ after-each wavelength next ys
 
 -- the count of surfaces or a refusal, and the lent list
 pub record Ran : Type 0 where

@@ -9,7 +9,7 @@ ghost use Rattle.sheet.specs.Read.{read, decode, surface-at};
 ghost use Rattle.sheet.specs.Scan.{layer-run};
 ghost use Rattle.sheet_values.specs.Values.{layers-at};
 ghost use Rattle.gate.specs.Gate as Gate;
-ghost use Rattle.optical_train.specs.Train.{chosen, chosen-powers, fresh, start, outcome, past, step, after-each, run, sum};
+ghost use Rattle.optical_train.specs.Train.{chosen, chosen-powers, fresh, start, outcome, after-one, step, after-each, run, sum};
 use gate::Gated;
 use refusal::Refusal;
 use sheet_answers::PowersReply;
@@ -94,10 +94,10 @@ pub struct Stepped {
     pub state: State,
 }
 
-// Past the surface whose SURFACE word is at a place.
-fn past(src: &[u8], at: usize, wavelength_nm: f64, state: State) -> State
+// The state after the surface whose SURFACE word is at a place.
+fn after_one(src: &[u8], at: usize, wavelength_nm: f64, state: State) -> State
     requires { ⌜ state .done < 0xFFFF_FFFF ⌝ }
-    ensures { λ r. ⌜ r ≡ past «wavelength_nm» state (surface-at (now (src .entry)) at (layers-at (now (src .entry)) (at + 7) (layer-run 16 (now (src .entry)) at))) ⌝ }
+    ensures { λ r. ⌜ r ≡ after-one «wavelength_nm» state (surface-at (now (src .entry)) at (layers-at (now (src .entry)) (at + 7) (layer-run 16 (now (src .entry)) at))) ⌝ }
 {
     let c = chosen_at(src, at, sheet::layer_run(src, at), wavelength_nm);
     State {
@@ -123,7 +123,7 @@ pub fn step(src: &[u8], state: State) -> Stepped
                 };
             }
             let at = sheet_values::place_of(src, state.done);
-            let next = past(src, at, sheet::float_from(src, 2), state);
+            let next = after_one(src, at, sheet::float_from(src, 2), state);
             Stepped {
                 refusal: Refusal {
                     number: 0,

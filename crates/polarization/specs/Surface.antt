@@ -1,10 +1,10 @@
 -- surface_coating_jones and surface_fresnel_jones of polarization.rs, in the Rust's order of operations. Definitions only.
-use mathlib.Core.Bool.{Bool, not, _||_, cond}
+use mathlib.Core.Bool.{Bool, _&&_, cond}
 use lib.Dec.{eqb}
-use lib.Ieee.{Float, neg, lt, le}
+use lib.Ieee.{Float, neg, lt}
 use lib.Ieee.Scale.{finite}
 use Rattle.ieee.specs.Operators.{_⊕_, _⊖_, _⊗_, _⊘_}
-use Rattle.ieee.specs.Functions.{zero-f, one, two, abs, max, powi2}
+use Rattle.ieee.specs.Functions.{zero-f, one, two, finite-positive, abs, max, powi2}
 use Rattle.square_root.specs.Root.{sqrt}
 use Rattle.trig.specs.Trig.{sin, cos}
 use Rattle.arctangent.specs.Atan.{atan}
@@ -21,13 +21,9 @@ unfoldable pub surface-coating-jones : CoatingResponse → SurfaceJones
 surface-coating-jones c = record { reflection = diattenuator (c .rs) (c .rp); transmission = diattenuator (c .ts) (c .tp) }
 
 -- ---- surface_fresnel_jones
--- !n.is_finite() || n <= 0.0
-unfoldable pub no-index : Float → Bool
-no-index n = not (finite n) || le n zero-f
-
--- the Rust's InvalidParameter
-unfoldable pub invalid : Float → Float → Float → Bool
-invalid n1 n2 angle = no-index n1 || no-index n2 || not (finite angle)
+-- what fails one of its five tests is InvalidParameter
+unfoldable pub indices-valid : Float → Float → Float → Bool
+indices-valid n1 n2 angle = finite-positive n1 && finite-positive n2 && finite angle
 
 -- sqrt(sin_i^2 - (n2 / n1)^2)
 unfoldable pub excess : Float → Float → Float → Float
@@ -40,13 +36,13 @@ unfoldable pub rp-phase : Float → Float → Float → Float → Float
 rp-phase n1 n2 sin-i cos-i = neg two ⊗ atan (powi2 (n1 ⊘ n2) ⊗ excess n1 n2 sin-i ⊘ cos-i)
 
 -- cos + i sin of a phase
-unfoldable pub turned : Float → Complex
-turned phase = record { re = cos phase; im = sin phase }
+unfoldable pub phase-factor : Float → Complex
+phase-factor phase = record { re = cos phase; im = sin phase }
 
 -- total internal reflection: rs and rp have magnitude 1 and a phase, nothing is transmitted
 unfoldable pub totally-reflected : Float → Float → Float → Float → SurfaceJones
 totally-reflected n1 n2 sin-i cos-i = record {
-  reflection = diattenuator (turned (rs-phase n1 n2 sin-i cos-i)) (turned (rp-phase n1 n2 sin-i cos-i));
+  reflection = diattenuator (phase-factor (rs-phase n1 n2 sin-i cos-i)) (phase-factor (rp-phase n1 n2 sin-i cos-i));
   transmission = diattenuator zero zero;
 }
 
@@ -67,7 +63,7 @@ bare n1 n2 sin-i cos-i =
     cond (lt one (abs sin-t)) (totally-reflected n1 n2 sin-i cos-i) (refracted n1 n2 cos-i (cos-t sin-t))
 
 unfoldable pub surface-fresnel-jones : Float → Float → Float → Outcome SurfaceJones
-surface-fresnel-jones n1 n2 angle = cond (invalid n1 n2 angle) invalid-parameter (answer (bare n1 n2 (sin angle) (cos angle)))
+surface-fresnel-jones n1 n2 angle = cond (indices-valid n1 n2 angle) (answer (bare n1 n2 (sin angle) (cos angle))) invalid-parameter
 
 -- ---- its answer, a struct: the matrices beside a refusal's number, which is 0 where there is none; zero matrices where refused
 unfoldable pub returned : Outcome SurfaceJones → FresnelJones

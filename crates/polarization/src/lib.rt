@@ -2,7 +2,7 @@
 ghost use mathlib.Core.Path.{_≡_};
 ghost use Rattle.complex.specs.Complex.{real};
 ghost use Rattle.mueller.specs.Jones.{diattenuator};
-ghost use Rattle.polarization.specs.Surface.{surface-coating-jones, no-index, invalid, excess, turned, totally-reflected, cos-t, refracted, bare, surface-fresnel-jones, returned};
+ghost use Rattle.polarization.specs.Surface.{surface-coating-jones, indices-valid, excess, phase-factor, totally-reflected, cos-t, refracted, bare, surface-fresnel-jones, returned};
 use complex::Complex;
 use mueller::JonesMatrix;
 use transfer_matrix::CoatingResponse;
@@ -35,20 +35,14 @@ pub fn surface_coating_jones(coating: CoatingResponse) -> SurfaceJones
     }
 }
 
-// Not a refractive index.
-fn no_index(n: f64) -> bool
-    ensures { λ r. ⌜ r ≡ no-index n ⌝ }
+// The five tests of surface_fresnel_jones: what fails one is InvalidParameter.
+fn indices_valid(n1: f64, n2: f64, angle_i_rad: f64) -> bool
+    ensures { λ r. ⌜ r ≡ indices-valid n1 n2 «angle_i_rad» ⌝ }
 {
-    !ieee::is_finite(n) || n <= 0.0
-}
-
-fn invalid(n1: f64, n2: f64, angle_i_rad: f64) -> bool
-    ensures { λ r. ⌜ r ≡ invalid n1 n2 «angle_i_rad» ⌝ }
-{
-    if no_index(n1) {
-        return true;
+    if !ieee::finite_positive(n1) {
+        return false;
     }
-    no_index(n2) || !ieee::is_finite(angle_i_rad)
+    ieee::finite_positive(n2) && ieee::is_finite(angle_i_rad)
 }
 
 // sqrt(sin_i^2 - (n2 / n1)^2)
@@ -59,8 +53,8 @@ fn excess(n1: f64, n2: f64, sin_i: f64) -> f64
 }
 
 // cos + i sin of a phase.
-fn turned(phase: f64) -> Complex
-    ensures { λ r. ⌜ r ≡ turned phase ⌝ }
+fn phase_factor(phase: f64) -> Complex
+    ensures { λ r. ⌜ r ≡ phase-factor phase ⌝ }
 {
     let p = trig::sin_cos(phase);
     Complex::new(p.cos, p.sin)
@@ -73,7 +67,7 @@ fn totally_reflected(n1: f64, n2: f64, sin_i: f64, cos_i: f64) -> SurfaceJones
     let excess = excess(n1, n2, sin_i);
     let rs_phase = -2.0 * arctangent::atan(excess / cos_i);
     let rp_phase = -2.0 * arctangent::atan(ieee::powi2(n1 / n2) * excess / cos_i);
-    let reflection = JonesMatrix::diattenuator(turned(rs_phase), turned(rp_phase));
+    let reflection = JonesMatrix::diattenuator(phase_factor(rs_phase), phase_factor(rp_phase));
     let transmission = JonesMatrix::diattenuator(Complex::zero(), Complex::zero());
     SurfaceJones {
         reflection,
@@ -126,7 +120,7 @@ fn bare(n1: f64, n2: f64, sin_i: f64, cos_i: f64) -> SurfaceJones
 pub fn surface_fresnel_jones(n1: f64, n2: f64, angle_i_rad: f64) -> FresnelJones
     ensures { λ r. ⌜ r ≡ returned (surface-fresnel-jones n1 n2 «angle_i_rad») ⌝ }
 {
-    if invalid(n1, n2, angle_i_rad) {
+    if !indices_valid(n1, n2, angle_i_rad) {
         let dark = JonesMatrix::diattenuator(Complex::zero(), Complex::zero());
         return FresnelJones {
             refusal: 1,

@@ -2,13 +2,13 @@
 ghost use mathlib.Core.Path.{_≡_};
 ghost use lib.ListN.{getD, replicate};
 ghost use Rattle.transfer_matrix.specs.Solve as Solve;
-ghost use Rattle.evaluation.specs.Walk.{blank};
+ghost use Rattle.evaluation.specs.Walk.{no-layer};
 ghost use Rattle.preset_layers.specs.Layers.{quarter-wave, bragg-layers, broadband-layers, broadband-last};
 use transfer_matrix::ThinFilmLayer;
 
 // No layer in any place.
 pub fn no_layers() -> [ThinFilmLayer; 64]
-    ensures { λ r. ⌜ r ≡ replicate 64 blank ⌝ }
+    ensures { λ r. ⌜ r ≡ replicate 64 no-layer ⌝ }
 {
     [ThinFilmLayer {
         n: 0.0,
@@ -42,7 +42,7 @@ pub fn broadband(i: usize) -> ThinFilmLayer
 
 // The i-th layer of (H L)^N H, the same for each N that has one: N = i has.
 pub fn bragg(n_high: f64, n_low: f64, design_wavelength_nm: f64, i: usize) -> ThinFilmLayer
-    ensures { λ r. ⌜ r ≡ getD (bragg-layers «n_high» «n_low» i «design_wavelength_nm») i blank ⌝ }
+    ensures { λ r. ⌜ r ≡ getD (bragg-layers «n_high» «n_low» i «design_wavelength_nm») i no-layer ⌝ }
 {
     if i % 2 == 0 {
         quarter_wave(n_high, design_wavelength_nm)

@@ -11,7 +11,8 @@ use Rattle.sheet.specs.Sheet.{Sheet, kind-word}
 use Rattle.sheet.specs.Words.{word, count, kind, payload, float}
 use Rattle.sheet.specs.Read.{Result, read, fault, Follows, surface, layer, end, wrong, room-after, found, Rest, layer-at, with-layer, surface-at, with-surface, with-beam, decode}
 use Rattle.sheet.specs.Scan.{layer-follows, or-none, layer-run}
-use Rattle.sheet.proofs.Scan.{left, never, and-second, surface-room, layer-room, surface-kind, layer-kind, end-kind, left-surface, left-layer, left-end, left-wrong}
+use Rattle.sheet.proofs.Scan.{left, never, a-surface, a-layer, an-end, left-surface, left-layer, left-end, left-wrong}
+use Rattle.sheet.proofs.Standing.{both}
 
 abbrev no-more : Rest
 no-more = record { layers = []; surfaces = [] }
@@ -51,12 +52,12 @@ module _ (src : List ℕ) (at done room : ℕ) where
     where
       go : (f : Follows) → found src at done room ≡ f → Next src at done room r
       go surface p =
-          let h = surface-room src at done room p in
-          read-surface (surface-kind src at done room p) (h .1) (h .0) _ refl r (sym (left-surface src at done room p) ∙ e)
+          let h = a-surface src at done room p in
+          read-surface (h .1 .three) (h .0) (h .1 .few) _ refl r (sym (left-surface src at done room p) ∙ e)
       go layer p =
-          let h = layer-room src at done room p in
-          read-layer (layer-kind src at done room p) (h .1) (h .0) _ refl r (sym (left-layer src at done room p) ∙ e)
-      go end p = subst (Next src at done room) (inside (sym (left-end src at done room p) ∙ e)) (next-end (end-kind src at done room p))
+          let h = a-layer src at done room p in
+          read-layer (omega (arith, h .1 .four)) (h .0) (h .1 .fit) _ refl r (sym (left-layer src at done room p) ∙ e)
+      go end p = subst (Next src at done room) (inside (sym (left-end src at done room p) ∙ e)) (next-end (an-end src at done room p .1 .five))
         where
           inside : read no-more ≡ read r → no-more ≡ r
           inside w = cc
@@ -119,9 +120,9 @@ counts src (suc most) at done room r h e = go (λ q w. counts src most (at + 7) 
     no-layer k l = rw (lt-ltb (at + 7) (count src) (omega arith), eq-eqb (kind (word src (at + 7))) 4 k)
 
     go : ((q : Rest) → left src (at + 7 + 7) done (room - 1) ≡ read q → layer-run most src (at + 7) ≡ length (q .layers)) → (b : Bool) → layer-follows src at ≡ b → {q : Rest} → Next src (at + 7) done room q → or-none b (suc (layer-run most src (at + 7))) ≡ length (q .layers)
-    go again true f (next-surface k l d q w) = absurd (omega (arith, k, eqb-true (kind (word src (at + 7))) 4 (and-second (ltb (at + 7) (count src)) _ f)))
+    go again true f (next-surface k l d q w) = absurd (omega (arith, k, eqb-true (kind (word src (at + 7))) 4 (both (ltb (at + 7) (count src)) _ f .1)))
     go again true f (next-layer k l d q w) = ap suc (again q w)
-    go again true f (next-end k) = absurd (omega (arith, k, eqb-true (kind (word src (at + 7))) 4 (and-second (ltb (at + 7) (count src)) _ f)))
+    go again true f (next-end k) = absurd (omega (arith, k, eqb-true (kind (word src (at + 7))) 4 (both (ltb (at + 7) (count src)) _ f .1)))
     go again false f (next-surface k l d q w) = refl
     go again false f (next-layer k l d q w) = absurd (true≢false (sym (no-layer k l) ∙ f))
     go again false f (next-end k) = refl

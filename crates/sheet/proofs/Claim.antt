@@ -1,7 +1,6 @@
 -- The claim of the grammar: what is read is the one well-formed sheet that encodes to the bytes, and a fault is where the table puts it.
 pub mod WordBytes
 pub mod Tail
-pub mod Found
 pub mod Agree
 pub mod Walk
 pub mod Complete

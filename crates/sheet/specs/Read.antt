@@ -4,7 +4,7 @@ use mathlib.Core.Bool.{Bool, _&&_, cond}
 use mathlib.Core.List.{List, [], _∷_}
 use Prim.Native.Nat.{ℕ, zero, suc, _+_, _-_, _/_}
 use lib.Dec.{eqb, leb, ltb}
-use Rattle.sheet.specs.Sheet.{Layer, Surface, Sheet, kind-word}
+use Rattle.sheet.specs.Sheet.{SheetLayer, SheetSurface, Sheet, kind-word}
 use Rattle.sheet.specs.Words.{word, count, kind, payload, float}
 
 -- what is read, or the place of the word at fault
@@ -50,19 +50,19 @@ found src at done room = cond (ltb at (count src)) (follows (count src) at (word
 -- ---- the blocks after the BEAM
 -- the LAYERs of the SURFACE before, and the SURFACEs after them
 pub record Rest : Type 0 where
-  pub layers : List Layer
-  pub surfaces : List Surface
+  pub layers : List SheetLayer
+  pub surfaces : List SheetSurface
 
 -- LAYER: n, k, thickness
-abbrev pub layer-at : List ℕ → ℕ → Layer
+abbrev pub layer-at : List ℕ → ℕ → SheetLayer
 layer-at src at = record { n = float src (at + 1); k = float src (at + 3); thickness = float src (at + 5) }
 
-abbrev pub with-layer : Layer → Result Rest → Result Rest
+abbrev pub with-layer : SheetLayer → Result Rest → Result Rest
 with-layer l (read r) = read (record { layers = l ∷ r .layers; surfaces = r .surfaces })
 with-layer l (fault place) = fault place
 
 -- SURFACE: n_incident, n_substrate, angle, and its LAYERs
-abbrev pub surface-at : List ℕ → ℕ → List Layer → Surface
+abbrev pub surface-at : List ℕ → ℕ → List SheetLayer → SheetSurface
 surface-at src at layers = record { payload = payload (word src at); n-incident = float src (at + 1); n-substrate = float src (at + 3); angle = float src (at + 5); layers = layers }
 
 abbrev pub with-surface : List ℕ → ℕ → Result Rest → Result Rest

@@ -19,9 +19,9 @@ block-of B.End = end
 block-of (B.Wrong place) = wrong place
 
 -- a sheet's count of SURFACEs, or the place of the fault
-abbrev pub counted : Result Sheet → Result ℕ
-counted (read x) = read (length (x .surfaces))
-counted (fault place) = fault place
+abbrev pub surface-count : Result Sheet → Result ℕ
+surface-count (read x) = read (length (x .surfaces))
+surface-count (fault place) = fault place
 
 abbrev pub verdict-of : Verdict → Result ℕ
 verdict-of (K.Whole n) = read n

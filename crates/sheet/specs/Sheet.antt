@@ -8,31 +8,31 @@ use lib.ListN.{length}
 
 -- ---- the data
 -- LAYER: n, k, thickness nm
-pub record Layer : Type 0 where
+pub record SheetLayer : Type 0 where
   pub n : ℕ
   pub k : ℕ
   pub thickness : ℕ
 
 -- SURFACE: its payload, n_incident, n_substrate, angle rad; and the LAYERs after it
-pub record Surface : Type 0 where
+pub record SheetSurface : Type 0 where
   pub payload : ℕ
   pub n-incident : ℕ
   pub n-substrate : ℕ
   pub angle : ℕ
-  pub layers : List Layer
+  pub layers : List SheetLayer
 
 -- 01's sheet. BEAM: wavelength nm, s power, p power; and the SURFACEs
 pub record Sheet : Type 0 where
   pub wavelength : ℕ
   pub s : ℕ
   pub p : ℕ
-  pub surfaces : List Surface
+  pub surfaces : List SheetSurface
 
 -- ---- which data a sheet can hold
 abbrev pub Pattern : ℕ → Type 0
 Pattern x = x < 2 ^ 64
 
-pub record GoodLayer (l : Layer) : Type 0 where
+pub record GoodLayer (l : SheetLayer) : Type 0 where
   pub n : Pattern (l .n)
   pub k : Pattern (l .k)
   pub thickness : Pattern (l .thickness)
@@ -42,7 +42,7 @@ All P [] = Unit
 All P (x ∷ xs) = P x × All P xs
 
 -- payload 0 to 15; 0 to 16 LAYERs, and only after a coating 5
-pub record GoodSurface (x : Surface) : Type 0 where
+pub record GoodSurface (x : SheetSurface) : Type 0 where
   pub payload : x .payload ≤ 15
   pub n-incident : Pattern (x .n-incident)
   pub n-substrate : Pattern (x .n-substrate)
@@ -69,18 +69,18 @@ abbrev pub float-words : ℕ → List ℕ
 float-words x = x / 2 ^ 32 ∷ x % 2 ^ 32 ∷ []
 
 -- kind 4
-unfoldable pub layer-words : Layer → List ℕ
+unfoldable pub layer-words : SheetLayer → List ℕ
 layer-words l = kind-word 4 0 ∷ float-words (l .n) ++ float-words (l .k) ++ float-words (l .thickness)
 
-unfoldable pub layers-words : List Layer → List ℕ
+unfoldable pub layers-words : List SheetLayer → List ℕ
 layers-words [] = []
 layers-words (l ∷ ls) = layer-words l ++ layers-words ls
 
 -- kind 3, then its LAYERs
-unfoldable pub surface-words : Surface → List ℕ
+unfoldable pub surface-words : SheetSurface → List ℕ
 surface-words x = (kind-word 3 (x .payload) ∷ float-words (x .n-incident) ++ float-words (x .n-substrate) ++ float-words (x .angle)) ++ layers-words (x .layers)
 
-unfoldable pub surfaces-words : List Surface → List ℕ
+unfoldable pub surfaces-words : List SheetSurface → List ℕ
 surfaces-words [] = []
 surfaces-words (x ∷ xs) = surface-words x ++ surfaces-words xs
 
@@ -101,11 +101,11 @@ unfoldable pub encode : Sheet → List ℕ
 encode x = bytes (words x)
 
 -- the places of its kind words, counted in words from 0
-unfoldable pub layer-places : ℕ → List Layer → List ℕ
+unfoldable pub layer-places : ℕ → List SheetLayer → List ℕ
 layer-places at [] = []
 layer-places at (l ∷ ls) = at ∷ layer-places (at + 7) ls
 
-unfoldable pub surface-places : ℕ → List Surface → List ℕ
+unfoldable pub surface-places : ℕ → List SheetSurface → List ℕ
 surface-places at [] = at ∷ []
 surface-places at (x ∷ xs) = at ∷ layer-places (at + 7) (x .layers) ++ surface-places (at + 7 + 7 * length (x .layers)) xs
 

@@ -4,6 +4,7 @@ use mathlib.Core.List.{List}
 use Prim.Native.Nat.{ℕ, _+_, _*_, _/_, _%_, _^_}
 use lib.Dec.{ltb}
 use lib.ListN.{length, getD}
+use Rattle.ieee.specs.Functions.{joined}
 
 -- how many words there are
 abbrev pub count : List ℕ → ℕ
@@ -26,4 +27,4 @@ payload w = w % 2 ^ 28
 
 -- the pattern of the float in the words i and i + 1, high word first
 unfoldable pub float : List ℕ → ℕ → ℕ
-float src i = word src i * 2 ^ 32 + word src (i + 1)
+float src i = joined (word src i) (word src (i + 1))

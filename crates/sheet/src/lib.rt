@@ -4,7 +4,7 @@ ghost use Prim.Native.Nat.{_<_};
 ghost use lib.Ieee.{binary64, ofBits};
 ghost use Rattle.sheet.specs.Words.{big-endian, word as wordOf, float};
 ghost use Rattle.sheet.specs.Read as Read;
-ghost use Rattle.sheet.specs.Scan.{block-of, verdict-of, counted, layer-follows, layer-run};
+ghost use Rattle.sheet.specs.Scan.{block-of, verdict-of, surface-count, layer-follows, layer-run};
 
 // ---- words
 
@@ -171,7 +171,7 @@ pub enum Verdict {
 
 // The grammar over the whole sheet.
 pub fn grammar(src: &[u8]) -> Verdict
-    ensures { λ r. ⌜ verdict-of r ≡ counted (Read.decode (now (src .entry))) ⌝ }
+    ensures { λ r. ⌜ verdict-of r ≡ surface-count (Read.decode (now (src .entry))) ⌝ }
 {
     if word_from(src, 0) != 0x1000_0001 {
         return Verdict::Fault(0);

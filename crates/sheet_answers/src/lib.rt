@@ -51,7 +51,7 @@ fn through(src: &[u8], at: usize, n: usize, far: bool, start: Stack) -> Stack
     let mut stack = start;
     let mut i = 0;
     while i < n {
-        let j = evaluation::place(far, n, i);
+        let j = evaluation::nth_index(far, n, i);
         stack = transfer_matrix::step(stack, layer_behind(src, at, j));
         i += 1;
     }

@@ -10,17 +10,17 @@ use lib.Ieee.Fits.{and-l}
 use Rattle.limits.specs.Limits.{wavelength-passes, beam-passes, passes}
 use Rattle.surface.specs.Finite.{Answered}
 use Rattle.surface.proofs.Finite.{every-surface-answered}
-use Rattle.sheet.specs.Sheet.{Layer, Surface, Sheet, All}
+use Rattle.sheet.specs.Sheet.{SheetLayer, SheetSurface, Sheet, All}
 use Rattle.sheet_values.specs.Nth.{nth}
 use Rattle.sheet_values.specs.Values.{value, films, surface-value, layers-at}
-use Rattle.gate.specs.Claim.{Within}
+use Rattle.gate.specs.Claim.{WithinLimits}
 
-pub all-nth : (P : Surface → Type 0) (ys : List Surface) (i : ℕ) → All P ys → i < length ys → P (nth ys i)
+pub all-nth : (P : SheetSurface → Type 0) (ys : List SheetSurface) (i : ℕ) → All P ys → i < length ys → P (nth ys i)
 all-nth P [] i a h = absurd (omega arith)
 all-nth P (y ∷ ys) zero a h = a .0
 all-nth P (y ∷ ys) (suc i) a h = all-nth P ys i (a .1) (omega arith)
 
-films-length : (ls : List Layer) → length (films ls) ≡ length ls
+films-length : (ls : List SheetLayer) → length (films ls) ≡ length ls
 unfolding films
 films-length [] = λ i. 0
 films-length (l ∷ ls) = ap suc (films-length ls)
@@ -30,14 +30,14 @@ unfolding layers-at
 layers-length src at zero = λ i. 0
 layers-length src at (suc n) = ap suc (layers-length src (at + 7) n)
 
-pub wavelength-within : (x : Sheet) → Within x → T (wavelength-passes (value (x .wavelength)))
+pub wavelength-within : (x : Sheet) → WithinLimits x → T (wavelength-passes (value (x .wavelength)))
 unfolding beam-passes
 wavelength-within x h = and-l (wavelength-passes (value (x .wavelength))) _ (h .beam)
 
 -- within the limits at a wavelength
-abbrev pub Good : Float → Surface → Type 0
+abbrev pub Good : Float → SheetSurface → Type 0
 Good w y = T (passes w (surface-value y) (films (y .layers)))
 
 -- a surface within the limits, with 16 LAYERs at the most
-pub answered : (w : Float) → T (wavelength-passes w) → (y : Surface) → Good w y → length (y .layers) ≤ 16 → Answered w (surface-value y) (films (y .layers))
+pub answered : (w : Float) → T (wavelength-passes w) → (y : SheetSurface) → Good w y → length (y .layers) ≤ 16 → Answered w (surface-value y) (films (y .layers))
 answered w t y p h = every-surface-answered w (surface-value y) (films (y .layers)) t p (omega (arith, films-length (y .layers)))

@@ -9,7 +9,7 @@ use Rattle.refusal.specs.declared.Refusal.{Refusal}
 use Rattle.refusal.specs.Outcome.{Outcome, answer, refusal, refused, map}
 use Rattle.transfer_matrix.specs.declared.ThinFilmLayer.{ThinFilmLayer}
 use Rattle.limits.specs.declared.Surface as Value
-use Rattle.sheet.specs.Sheet.{Surface, Sheet}
+use Rattle.sheet.specs.Sheet.{SheetSurface, Sheet}
 use Rattle.sheet.specs.Read.{layer-at, surface-at}
 use Rattle.sheet.specs.Scan.{layer-run}
 use Rattle.sheet_values.specs.Nth.{place}
@@ -22,11 +22,11 @@ use Rattle.sheet_surfaces.specs.Surfaces.{of-surface, numbered, nth-surf
 use Rattle.sheet_surfaces.proofs.Answers.{layers-length}
 
 -- the surface whose SURFACE word is at a place, with the LAYERs behind it
-abbrev pub standing : List ℕ → ℕ → Surface
+abbrev pub standing : List ℕ → ℕ → SheetSurface
 standing src at = surface-at src at (layers-at src (at + 7) (layer-run 16 src at))
 
 -- ---- what is said of the i-th surface
-module _ {A : Type 0} (f : Sheet → Surface → Outcome A) (src : List ℕ) (i : ℕ) where
+module _ {A : Type 0} (f : Sheet → SheetSurface → Outcome A) (src : List ℕ) (i : ℕ) where
   module _ (n : ℕ) (e : answer n ≡ gate src) where
     pub none : n ≤ i → refusal 7 0 ≡ of-surface f i (gated src)
     none h =
@@ -43,7 +43,7 @@ module _ {A : Type 0} (f : Sheet → Surface → Outcome A) (src : List ℕ) (i 
   not-admitted r e = sym (ap (of-surface f i) (turned-back src (r .number) (r .place) e))
 
 module _ (src : List ℕ) (i : ℕ) where
-  abbrev itself : Sheet → Surface → Outcome Surface
+  abbrev itself : Sheet → SheetSurface → Outcome SheetSurface
   itself x y = answer y
 
   module _ (n : ℕ) (e : answer n ≡ gate src) where

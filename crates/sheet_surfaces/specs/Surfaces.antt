@@ -9,7 +9,7 @@ use Rattle.refusal.specs.Outcome.{Outcome, answer, refusal, refused, map}
 use Rattle.transfer_matrix.specs.declared.ThinFilmLayer.{ThinFilmLayer}
 use Rattle.surface.specs.declared.Answers.{Answers}
 use Rattle.surface.specs.Answers.{answers, no-answers}
-use Rattle.sheet.specs.Sheet.{Surface, Sheet}
+use Rattle.sheet.specs.Sheet.{SheetSurface, Sheet}
 use Rattle.sheet_values.specs.Nth.{nth}
 use Rattle.sheet_values.specs.Values.{value, films, surface-value}
 use Rattle.gate.specs.Gate.{gated}
@@ -21,16 +21,16 @@ use Rattle.sheet_surfaces.specs.declared.NthLayer.{NthLayer}
 use Rattle.sheet_surfaces.specs.declared.NthLayer.the-variants as L
 
 -- what is said of the i-th surface of a sheet, counted from 0; 7 where there is no such surface
-abbrev pub of-surface : {A : Type 0} → (Sheet → Surface → Outcome A) → ℕ → Outcome Sheet → Outcome A
+abbrev pub of-surface : {A : Type 0} → (Sheet → SheetSurface → Outcome A) → ℕ → Outcome Sheet → Outcome A
 of-surface f i (answer x) = cond (ltb i (length (x .surfaces))) (f x (nth (x .surfaces) i)) (refusal 7 0)
 of-surface f i (refusal number place) = refusal number place
 
 -- ---- the surface itself
-abbrev pub surface-of : ℕ → Outcome Sheet → Outcome Surface
+abbrev pub surface-of : ℕ → Outcome Sheet → Outcome SheetSurface
 surface-of = of-surface (λ x y. answer y)
 
 -- its words, and how many LAYERs it has
-abbrev pub numbered : Surface → NumberedSurface
+abbrev pub numbered : SheetSurface → NumberedSurface
 numbered y = record { surface = surface-value y; layers = length (y .layers) }
 
 unfoldable pub nth-surface : List ℕ → ℕ → Outcome NumberedSurface
@@ -40,7 +40,7 @@ nth-surface src i = map numbered (surface-of i (gated src))
 abbrev pub no-film : ThinFilmLayer
 no-film = record { n = nan; k = nan; «thickness_nm» = nan }
 
-abbrev pub layer-of : ℕ → Outcome Surface → Outcome ThinFilmLayer
+abbrev pub layer-of : ℕ → Outcome SheetSurface → Outcome ThinFilmLayer
 layer-of j (answer y) = cond (ltb j (length (y .layers))) (answer (getD (films (y .layers)) j no-film)) (refusal 7 0)
 layer-of j (refusal number place) = refusal number place
 

@@ -6,7 +6,7 @@ use native.Mathlib.Numerals.{add-one}
 use native.Mathlib.Omega.{arith}
 use lib.ListN.{length, drop}
 use lib.Seq.{drop-cons}
-use Rattle.sheet.specs.Sheet.{Surface, Sheet}
+use Rattle.sheet.specs.Sheet.{SheetSurface, Sheet}
 use Rattle.sheet.specs.Read.{read, decode, surface-at}
 use Rattle.sheet.specs.Scan.{or-none, layer-follows, layer-run}
 use Rattle.sheet.proofs.Scan.{left}
@@ -28,7 +28,7 @@ module _ (src : List ℕ) (at i : ℕ) (a : At src at i) where
     pub here : Stands src at i (nth (x .surfaces) i) (drop (suc i) (x .surfaces))
     here =
         let l = a x e (omega arith) in
-        stands src at i (l .0) _ _ (l .1 ∙ ap (λ (ys : List Surface). read (blocks [] ys)) (drop-cons (x .surfaces) i no-surface h))
+        stands src at i (l .0) _ _ (l .1 ∙ ap (λ (ys : List SheetSurface). read (blocks [] ys)) (drop-cons (x .surfaces) i no-surface h))
 
     pub surface-here : surface-at src at (layers-at src (at + 7) (layer-run 16 src at)) ≡ nth (x .surfaces) i
     surface-here =

@@ -7,7 +7,7 @@ use native.Mathlib.Omega.{arith}
 use mathlib.Core.Bool.{Bool, true, false, cond}
 use lib.Dec.{eqb}
 use lib.ListN.{length}
-use Rattle.sheet.specs.Sheet.{Layer, Surface}
+use Rattle.sheet.specs.Sheet.{SheetLayer, SheetSurface}
 use Rattle.sheet.specs.Words.{word, count, payload}
 use Rattle.sheet.specs.Read.{read, Rest, layer-at, surface-at}
 use Rattle.sheet.specs.Scan.{layer-run}
@@ -16,17 +16,17 @@ use Rattle.sheet.proofs.Blocks.{Next, next-surface, next-layer, next-end, next,
 use Rattle.sheet_values.specs.Values.{layers-at}
 
 -- LAYERs and then SURFACEs
-abbrev pub blocks : List Layer → List Surface → Rest
+abbrev pub blocks : List SheetLayer → List SheetSurface → Rest
 blocks ls ys = record { layers = ls; surfaces = ys }
 
 -- ---- the LAYERs that stand from a place on, and what is left after them
-pub record Layers (src : List ℕ) (at done : ℕ) (ls : List Layer) (ys : List Surface) : Type 0 where
+pub record Layers (src : List ℕ) (at done : ℕ) (ls : List SheetLayer) (ys : List SheetSurface) : Type 0 where
   pub are : ls ≡ layers-at src at (length ls)
   pub room : ℕ
   pub after : left src (at + 7 * length ls) done room ≡ read (blocks [] ys)
   pub inside : at + 7 * length ls ≤ count src + 7
 
-pub layers-walk : (src : List ℕ) (at done room : ℕ) (ls : List Layer) (ys : List Surface) → at ≤ count src + 7 → left src at done room ≡ read (blocks ls ys) → Layers src at done ls ys
+pub layers-walk : (src : List ℕ) (at done room : ℕ) (ls : List SheetLayer) (ys : List SheetSurface) → at ≤ count src + 7 → left src at done room ≡ read (blocks ls ys) → Layers src at done ls ys
 unfolding layers-at
 layers-walk src at done room [] ys h e = record { are = refl; room = room; after = ap (λ (a : ℕ). left src a done room) (add-zero at) ∙ e; inside = omega arith }
 layers-walk src at done room (l ∷ ls) ys h e = go (λ q. layers-walk src (at + 7) done (room - 1) ls ys (omega arith)) (next src at done room _ e) refl
@@ -62,7 +62,7 @@ layers-walk src at done room (l ∷ ls) ys h e = go (λ q. layers-walk src (at +
     go again (next-end k) q = absurd (omega (arith, ap (λ (z : Rest). length (z .layers)) q))
 
 -- ---- the SURFACE that stands at a place
-pub record Stands (src : List ℕ) (at done : ℕ) (y : Surface) (ys : List Surface) : Type 0 where
+pub record Stands (src : List ℕ) (at done : ℕ) (y : SheetSurface) (ys : List SheetSurface) : Type 0 where
   -- its words are there
   pub inside : at + 7 ≤ count src
   pub few : done < 64
@@ -79,7 +79,7 @@ room-16 : (b : Bool) → cond b 16 0 ≤ 16
 room-16 true = omega arith
 room-16 false = omega arith
 
-pub stands : (src : List ℕ) (at done room : ℕ) (y : Surface) (ys : List Surface) → left src at done room ≡ read (blocks [] (y ∷ ys)) → Stands src at done y ys
+pub stands : (src : List ℕ) (at done room : ℕ) (y : SheetSurface) (ys : List SheetSurface) → left src at done room ≡ read (blocks [] (y ∷ ys)) → Stands src at done y ys
 stands src at done room y ys e = go (next src at done room _ e) refl
   where
     go : {r : Rest} → Next src at done room r → blocks [] (y ∷ ys) ≡ r → Stands src at done y ys
@@ -87,7 +87,7 @@ stands src at done room y ys e = go (next src at done room _ e) refl
         let a : y ∷ ys ≡ surface-at src at (r .layers) ∷ r .surfaces = ap (λ (z : Rest). z .surfaces) q in
         let b : y ≡ surface-at src at (r .layers) = cc in
         let d : ys ≡ r .surfaces = cc in
-        let l : y .layers ≡ r .layers = ap (λ (z : Surface). z .layers) b in
+        let l : y .layers ≡ r .layers = ap (λ (z : SheetSurface). z .layers) b in
         let v = w ∙ ap read (λ i. record { layers = sym l i; surfaces = sym d i }) in
         let m = layers-walk src (at + 7) (suc done) _ (y .layers) ys (omega arith) v in
         record {

@@ -2,14 +2,14 @@
 use mathlib.Core.List.{List, []}
 use Prim.Native.Nat.{ℕ, zero, suc, _+_, _*_}
 use lib.ListN.{getD}
-use Rattle.sheet.specs.Sheet.{Surface}
+use Rattle.sheet.specs.Sheet.{SheetSurface}
 use Rattle.sheet.specs.Scan.{layer-run}
 
 -- the i-th of some surfaces
-abbrev pub no-surface : Surface
+abbrev pub no-surface : SheetSurface
 no-surface = record { payload = 0; n-incident = 0; n-substrate = 0; angle = 0; layers = [] }
 
-abbrev pub nth : List Surface → ℕ → Surface
+abbrev pub nth : List SheetSurface → ℕ → SheetSurface
 nth ys i = getD ys i no-surface
 
 -- the place of the i-th SURFACE: the first stands behind the BEAM, and each behind the LAYERs, 16 at the most, of the one before it

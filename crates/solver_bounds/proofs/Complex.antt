@@ -8,7 +8,7 @@ use lib.Ieee.Bits.{cond-no}
 use lib.Ieee.Fits.{mul-fits, and-r}
 use lib.Ieee.Scale.{finite}
 use Rattle.ieee.specs.Operators.{_⊕_, _⊗_, _⊘_}
-use Rattle.ieee.specs.Functions.{zero-f, two, max}
+use Rattle.ieee.specs.Functions.{zero-f, two, tiny, max}
 use Rattle.ieee.specs.Range.{Mag, In, holds, wider, tops, foot}
 use Rattle.ieee.proofs.Range.Laws.{in-mag, in-lit, in-up, neg-mag, mul-mag, mul-in, sq-in}
 use Rattle.ieee.proofs.Range.Sums.{add-mag, add-in}
@@ -20,7 +20,7 @@ use Rattle.square_root.proofs.Range.{sqrt-in}
 use Rattle.exponential.specs.Exp as Exp
 use Rattle.trig.proofs.TrigBounds.{sin-mag, cos-mag}
 use Rattle.complex.specs.declared.Complex.{Complex}
-use Rattle.complex.specs.Complex.{real, zero, norm-sq, exp, half-root, sqrt, mul, quotient, div, least-denom}
+use Rattle.complex.specs.Complex.{real, zero, norm-sq, exp, half-root, sqrt, mul, quotient, div}
 use Rattle.complex.proofs.RealRoot.{root-at}
 use Rattle.solver_bounds.specs.Range.{CMag, Real}
 
@@ -43,13 +43,13 @@ norm-in {a} {i} {p} {j} {b} {k} {q} {l} {z} h t =
     subst (λ (x : Float). In b k q l x) (sym (norm-same q l h (and-r (foot (a * a) (2 ^ i * 2 ^ i) b k) (tops (p * p) (2 ^ j * 2 ^ j) q l) t))) (mul-in (h .re) (h .re) t)
 
 -- ---- division: 1e-28 is from 2 ^ -94 to 2 ^ -93, and a denominator above that is not replaced
-pub least-denom-in : In 1 94 1 93 least-denom
+pub tiny-in : In 1 94 1 93 tiny
 unfolding ofBits
-least-denom-in = in-lit least-denom tt
+tiny-in = in-lit tiny tt
 
 pub div-is : {b k q l : ℕ} (z w : Complex) → In b k q l (norm-sq w) → T (wider 1 93 b k) → div z w ≡ quotient z w (norm-sq w)
 unfolding div
-div-is z w h t = cond-no (lt (norm-sq w) least-denom) zero (quotient z w (norm-sq w)) (never-under h least-denom-in t)
+div-is z w h t = cond-no (lt (norm-sq w) tiny) zero (quotient z w (norm-sq w)) (never-under h tiny-in t)
 
 -- ---- products of real ones
 pub mul-real : {a i p j b k q l c m r n : ℕ} {z w : Complex} → Real a i p j z → Real b k q l w → T (foot (a * b) (2 ^ i * 2 ^ k) c m && tops (p * q) (2 ^ j * 2 ^ l) r n) → T (holds c m && holds r n) → Real c m r n (mul z w)

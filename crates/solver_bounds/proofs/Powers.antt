@@ -3,6 +3,7 @@ use Prim.Native.Nat.{ℕ, suc, _+_, _*_, _^_, _≤_, zero-le}
 use native.Mathlib.Omega.{arith}
 use lib.Dec.{T, leb}
 use lib.Ieee.{Float, lt}
+use Rattle.ieee.specs.Functions.{tiny}
 use Rattle.ieee.specs.Operators.{_⊗_}
 use Rattle.ieee.specs.Range.{plus, In, Pow}
 use Rattle.ieee.proofs.Range.Laws.{in-mag}
@@ -11,10 +12,10 @@ use Rattle.ieee.proofs.Range.Plus.{sq-plus, add-plus, plus-in}
 use Rattle.ieee.proofs.Range.Tests.{choose, nlt-in}
 use Rattle.ieee.proofs.Range.Constants.{zero-mag, one-mag}
 use Rattle.complex.specs.declared.Complex.{Complex}
-use Rattle.complex.specs.Complex.{real, zero, norm-sq, add, sub, mul, quotient, div, least-denom}
+use Rattle.complex.specs.Complex.{real, zero, norm-sq, add, sub, mul, quotient, div}
 use Rattle.characteristic.specs.Matrix.{Matrix, dot, mat-mul, identity}
 use Rattle.solver_bounds.specs.Range.{CMag, CPow, Real, MPow}
-use Rattle.solver_bounds.proofs.Complex.{least-denom-in}
+use Rattle.solver_bounds.proofs.Complex.{tiny-in}
 
 -- ---- complex numbers
 pub cpow-up : {i k : ℕ} {z : Complex} → CPow i z → i ≤ k → CPow k z
@@ -71,8 +72,8 @@ quotient-pow {i} {j} z w d h g D b =
 pub cdiv-pow : {i j : ℕ} (z w : Complex) → CPow i z → CPow j w → suc (i + j) + 94 ≤ 1023 → suc (j + j) ≤ 1023 → CPow (suc (i + j) + 94) (div z w)
 unfolding div
 cdiv-pow {i} {j} z w h g b c =
-    choose (λ v. CPow (suc (i + j) + 94) v) (lt (norm-sq w) least-denom) zero (quotient z w (norm-sq w)) (λ t. zero-pow (suc (i + j) + 94))
-    (λ t. quotient-pow z w (norm-sq w) h g (nlt-in least-denom-in (plus-in (norm-plus g c) (norm-pow g c)) t) b)
+    choose (λ v. CPow (suc (i + j) + 94) v) (lt (norm-sq w) tiny) zero (quotient z w (norm-sq w)) (λ t. zero-pow (suc (i + j) + 94))
+    (λ t. quotient-pow z w (norm-sq w) h g (nlt-in tiny-in (plus-in (norm-plus g c) (norm-pow g c)) t) b)
 
 -- ---- matrices
 pub mpow-up : {i k : ℕ} {m : Matrix} → MPow i m → i ≤ k → MPow k m

@@ -30,7 +30,7 @@ use Rattle.transfer_matrix.specs.declared.ThinFilmLayer.{ThinFilmLayer}
 use Rattle.characteristic.specs.Matrix.{Matrix, identity}
 use Rattle.transfer_matrix.specs.Solve.{eta0-s, eta0-p, least-cos, cos-theta-sub, eta-sub-s, eta-sub-p, through-s, through-p, b-of, c-of, reflection, transmission, reflectance, transmittance, solve, respond, evaluate}
 use Rattle.solver_bounds.specs.Range.{CPow, Real, MPow}
-use Rattle.solver_bounds.specs.Solver.{Admitted, Bounded, EveryResponseBounded}
+use Rattle.solver_bounds.specs.Solver.{AdmittedArguments, Bounded, EveryResponseBounded}
 use Rattle.solver_bounds.proofs.Complex.{real-in, real-up, mul-real}
 use Rattle.solver_bounds.proofs.Powers.{cpow-up, real-pow, cadd-pow, csub-pow, cmul-pow, norm-pow, norm-plus, cdiv-pow, mpow-up, identity-pow}
 use Rattle.solver_bounds.proofs.Layer.{eta-div, through-s-pow, through-p-pow}
@@ -135,7 +135,7 @@ cos-sub-real q h = rw (is-true (le (abs q) one) (below-one q h)) (real-in (cosin
 pub snell-mag : {n0 : Float} (angle : Float) → In 1 0 4 0 n0 → T (finite angle) → Mag 4 0 (n0 ⊗ sin angle)
 snell-mag angle h f = mul-mag (in-mag h) (sin-mag angle f) tt
 
-module _ (n0 ns angle w : Float) (layers : List ThinFilmLayer) (g : Admitted n0 ns angle w layers) where
+module _ (n0 ns angle w : Float) (layers : List ThinFilmLayer) (g : AdmittedArguments n0 ns angle w layers) where
   snell : Mag 4 0 (n0 ⊗ sin angle)
   snell = snell-mag angle (g .incident) (g .finite-angle)
 

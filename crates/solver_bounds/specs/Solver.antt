@@ -29,7 +29,7 @@ abbrev pub AdmittedLayers : Float → List ThinFilmLayer → Type 0
 AdmittedLayers snell [] = Unit {0}
 AdmittedLayers snell (layer ∷ layers) = AdmittedLayer snell layer × AdmittedLayers snell layers
 
-pub record Admitted (n-incident n-substrate angle wavelength : Float) (layers : List ThinFilmLayer) : Type 0 where
+pub record AdmittedArguments (n-incident n-substrate angle wavelength : Float) (layers : List ThinFilmLayer) : Type 0 where
   pub incident : In 1 0 4 0 n-incident
   pub substrate : In 1 0 4 0 n-substrate
   pub finite-angle : T (finite angle)
@@ -53,4 +53,4 @@ pub record Bounded (r : CoatingResponse) : Type 0 where
   pub phase-rp : Mag 8 0 (r .«phase_rp_rad»)
 
 abbrev pub EveryResponseBounded : Type 0
-EveryResponseBounded = (n-incident n-substrate angle wavelength : Float) (layers : List ThinFilmLayer) → Admitted n-incident n-substrate angle wavelength layers → Bounded (evaluate n-incident n-substrate angle wavelength layers)
+EveryResponseBounded = (n-incident n-substrate angle wavelength : Float) (layers : List ThinFilmLayer) → AdmittedArguments n-incident n-substrate angle wavelength layers → Bounded (evaluate n-incident n-substrate angle wavelength layers)

@@ -17,7 +17,7 @@ use Rattle.ieee.specs.Rounding.{OnePart}
 use Rattle.ieee.proofs.Rounding.{rounding}
 use Rattle.ieee.proofs.Range.Round.{round-clear}
 use Rattle.square_root.specs.Root.{closestRoot}
-use Rattle.sqrt.specs.Steps.{radicand, Nearest}
+use Rattle.sqrt.specs.Steps.{radicand, NearestBits}
 use Rattle.sqrt.proofs.Patterns.{normal}
 use Rattle.square_root.proofs.Closest.{closestRoot-at}
 use Rattle.sqrt.proofs.Cases.{clear-no-nan}
@@ -165,7 +165,7 @@ tested-at g r o y f u s e l j z U t h k a b c =
 
 -- at either field
 pub tested : (g r o y : ℕ) → 0x3fe0_0000_0000_0000 ≤ g → g < 0x4000_0000_0000_0000 → r / 2 ^ 52 ≡ g / 2 ^ 52 → squared r / 1024 ≡ g / 1024
-    → (o + digits r * (digits r - 1) % 2 ^ 64) % 2 ^ 64 ≡ radicand g % 2 ^ 64 → (y + 1) % 2 ^ 64 ≡ o → y < 2 * digits r → Nearest g r
+    → (o + digits r * (digits r - 1) % 2 ^ 64) % 2 ^ 64 ≡ radicand g % 2 ^ 64 → (y + 1) % 2 ^ 64 ≡ o → y < 2 * digits r → NearestBits g r
 tested g r o y lo hi h k a b c = record { field = h; root = go (g / 2 ^ 52 - 1022) (is g lo) (small g hi) }
   where
     is : (g : ℕ) → 0x3fe0_0000_0000_0000 ≤ g → g / 2 ^ 52 ≡ suc (1021 + (g / 2 ^ 52 - 1022))

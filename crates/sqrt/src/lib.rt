@@ -11,7 +11,7 @@ ghost use Prim.Native.Nat.{_+_, _*_, _/_, _%_, _^_, _≤_, _<_};
 ghost use lib.Dec.{T};
 ghost use lib.Ieee.{binary64, ofBits};
 ghost use Rattle.square_root.specs.Root.{squareRoot, closestRoot};
-ghost use Rattle.sqrt.specs.Steps.{radicand, rootBits, Rooted, Nearest};
+ghost use Rattle.sqrt.specs.Steps.{radicand, rootBits, Rooted, NearestBits};
 
 // A root cut to a whole number, and what its square leaves of the number.
 struct Cut {
@@ -126,7 +126,7 @@ fn low_product(x: u64, y: u64) -> u64
 // R - q * (q - 1) is known once it is known modulo 2 ^ 64.
 fn is_root(bits: u64, root: u64) -> bool
     requires { ⌜ (0x3fe0_0000_0000_0000 ≤ bits) × (bits < 0x4000_0000_0000_0000) × (root / 2 ^ 52 ≡ bits / 2 ^ 52) ⌝ }
-    ensures { λ r. ⌜ (T r → Nearest bits root) ⌝ }
+    ensures { λ r. ⌜ (T r → NearestBits bits root) ⌝ }
 {
     let n = f64::from_bits(root);
     if f64::to_bits(n * n) / 1024 == bits / 1024 {

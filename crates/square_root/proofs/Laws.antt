@@ -3,10 +3,10 @@
 -- `squareRoot-positive`: the root of a number that is finite and above zero is finite and above zero. `squareRoot-fits`: the format holds every root. Assumes nothing.
 use mathlib.Core.Path.{_≡_, refl, sym, ap, _∙_, subst}
 use Prim.Native.Nat.{ℕ, zero, suc, _+_, _*_, _^_, _≤_, _<_}
-use native.Mathlib.Nat.{le-refl, le-trans, le-of-eq, le-of-lt, lt-of-lt-of-le, lt-of-le-of-lt, zero-lt-suc, mul-one, one-mul, mul-assoc, mul-comm, mul-left-comm, mul-right-comm, mul-le-mul-left, mul-le-mul-right, mul-pos, mul-lt-mul-of-pos-right, lt-of-mul-lt-mul-right, mul-mul-mul-comm}
+use native.Mathlib.Nat.{le-refl, le-trans, le-of-eq, le-of-lt, lt-of-lt-of-le, lt-of-le-of-lt, mul-one, one-mul, mul-assoc, mul-comm, mul-left-comm, mul-right-comm, mul-le-mul-left, mul-le-mul-right, mul-pos, mul-lt-mul-of-pos-right, lt-of-mul-lt-mul-right, mul-mul-mul-comm}
 use mathlib.Core.Bool.{Bool, true, false, cond, true≢false}
 use lib.IntN.{pos, negsuc}
-use lib.Dec.{T, lt→ltb, ltb, ltb→lt, lit≤}
+use lib.Dec.{T, ltb, ltb→lt, lit≤}
 use lib.Pow.{pow-add, pow-pos, pow-mono, pow-lt}
 use lib.Ieee.{Float, nan, inf, fin, Format, binary32, binary64, prec, emax, low, up, down, odd, units, le, fits}
 use lib.Ieee.Fits.{two, two-le-pos, down-pos, odd-fits}

@@ -2,7 +2,7 @@
 use mathlib.Core.Bool.{cond}
 use lib.Ieee.{Float, binary64, neg, le, ofBits}
 use Rattle.ieee.specs.Operators.{_⊕_, _⊘_}
-use Rattle.ieee.specs.Functions.{zero-f, one}
+use Rattle.ieee.specs.Functions.{zero-f, one, tiny}
 use Rattle.square_root.specs.Root.{sqrt}
 use Rattle.complex.specs.declared.Complex.{Complex}
 use Rattle.complex.specs.Complex.{real, zero, scale, norm-sq}
@@ -35,15 +35,11 @@ circular-left = record { ex = real inv-sqrt2; ey = record { re = zero-f; im = in
 unfoldable pub intensity : JonesVector → Float
 intensity v = norm-sq (v .ex) ⊕ norm-sq (v .ey)
 
--- 1e-28
-abbrev pub least-intensity : Float
-least-intensity = ofBits binary64 0x3A1F_B0F6_BE50_6019
-
 -- as it is where the intensity is at most 1e-28
 unfoldable pub normalize : JonesVector → JonesVector
 normalize v =
     let inv = one ⊘ sqrt (intensity v) in
-    cond (le (intensity v) least-intensity) v (record { ex = scale (v .ex) inv; ey = scale (v .ey) inv })
+    cond (le (intensity v) tiny) v (record { ex = scale (v .ex) inv; ey = scale (v .ey) inv })
 
 -- a component by its parts
 abbrev pub number : Complex → Number Float

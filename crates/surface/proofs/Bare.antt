@@ -1,6 +1,6 @@
 -- A bare surface within the limits: its powers are from 0 to 1, nothing refuses, and its Jones matrices have entries up to 16. Assumes nothing.
 use mathlib.Core.Path.{_≡_}
-use mathlib.Core.Bool.{false}
+use mathlib.Core.Bool.{true}
 use lib.Dec.{T}
 use lib.Ieee.{Float, lt, le}
 use lib.Ieee.Bits.{is-true, is-false}
@@ -8,11 +8,11 @@ use lib.Ieee.Scale.{finite}
 use Rattle.ieee.specs.Operators.{_⊕_, _⊖_, _⊗_, _⊘_}
 use Rattle.ieee.specs.Functions.{zero-f, one, two, abs, clamp}
 use Rattle.ieee.specs.Range.{Mag, In}
-use Rattle.ieee.proofs.Range.Laws.{in-mag, in-up, plus-finite, abs-in, mul-mag, mul-in, sq-in}
+use Rattle.ieee.proofs.Range.Laws.{in-mag, in-up, abs-in, mul-mag, mul-in, sq-in}
 use Rattle.ieee.proofs.Range.Sums.{sub-mag, add-in, sub-in}
 use Rattle.ieee.proofs.Range.Quotients.{div-mag, div-in}
 use Rattle.ieee.proofs.Range.Tests.{choose, cond-in, max-in, never-above, never-under, clamp-in, clamp-same}
-use Rattle.ieee.proofs.Range.FromZero.{above-zero}
+use Rattle.ieee.proofs.Range.FromZero.{in-positive}
 use Rattle.ieee.proofs.Range.Ratio.{slope, ratio-mag}
 use Rattle.ieee.proofs.Range.Falls.{in-zero-to-one, to-tests}
 use Rattle.ieee.proofs.Range.Constants.{zero-in, zero-foot, one-in, two-in}
@@ -23,7 +23,7 @@ use Rattle.fresnel.specs.declared.Reflectances.{Reflectances}
 use Rattle.fresnel.specs.Fresnel as Fresnel
 use Rattle.fresnel.specs.Fresnel.{sin2-t, power, least-den, fresnel-dielectric}
 use Rattle.polarization.specs.declared.SurfaceJones.{SurfaceJones}
-use Rattle.polarization.specs.Surface.{no-index, invalid, cos-t, refracted, bare, surface-fresnel-jones}
+use Rattle.polarization.specs.Surface.{indices-valid, cos-t, refracted, bare, surface-fresnel-jones}
 use Rattle.solver_bounds.proofs.Solve.{cosine-in, snell-mag}
 use Rattle.limits.specs.declared.Surface.{Surface}
 use Rattle.limits.specs.Limits.{within}
@@ -89,13 +89,9 @@ bare-unit s h =
     }
 
 -- ---- section 6: surface_fresnel_jones refuses nothing here
-index-stands : (n : Float) → In 1 0 4 0 n → no-index n ≡ false
-unfolding no-index
-index-stands n h = rw (is-true (finite n) (plus-finite n (h .sign))) (is-false (le n zero-f) (above-zero h tt))
-
-stands : (n1 n2 angle : Float) → In 1 0 4 0 n1 → In 1 0 4 0 n2 → T (finite angle) → invalid n1 n2 angle ≡ false
-unfolding invalid
-stands n1 n2 angle N M f = simp (index-stands n1 N, index-stands n2 M, is-true (finite angle) f)
+stands : (n1 n2 angle : Float) → In 1 0 4 0 n1 → In 1 0 4 0 n2 → T (finite angle) → indices-valid n1 n2 angle ≡ true
+unfolding indices-valid
+stands n1 n2 angle N M f = simp (in-positive N tt, in-positive M tt, is-true (finite angle) f)
 
 -- both divisors are 1/2 at least, so the amplitudes are up to 16
 refracted-jones : (n1 n2 cos-i cos-t : Float) → In 1 0 4 0 n1 → In 1 0 4 0 n2 → In 1 2 1 0 cos-i → In 7 4 1 0 cos-t → PowerJones (refracted n1 n2 cos-i cos-t)

@@ -1,20 +1,19 @@
 -- A coated surface within the limits, with at most 16 layers: evaluate refuses nothing, and every number of its response is bounded. Assumes nothing.
 use mathlib.Core.Path.{_≡_}
-use Prim.Native.Nat.{ℕ, _≤_}
+use Prim.Native.Nat.{_≤_}
 use native.Mathlib.Nat.{le-trans}
-use mathlib.Core.Bool.{Bool, true, false, not}
+use mathlib.Core.Bool.{Bool, true, false}
 use mathlib.Core.List.{List, [], _∷_, reverseAux}
-use lib.Dec.{T, leb, le→leb, ltb, lit≤}
+use lib.Dec.{T, leb, le→leb, lit≤}
 use lib.ListN.{length, length-reverse}
 use lib.Ieee.{Float, lt, le}
 use lib.Ieee.Bits.{is-true}
-use lib.Ieee.Fits.{and-i}
 use lib.Ieee.Scale.{finite}
 use Rattle.ieee.specs.Operators.{_⊗_}
-use Rattle.ieee.specs.Functions.{zero-f, half}
+use Rattle.ieee.specs.Functions.{half}
 use Rattle.ieee.specs.Range.{In}
-use Rattle.ieee.proofs.Range.Laws.{in-mag, in-up, mag-up, neg-mag, plus-finite}
-use Rattle.ieee.proofs.Range.FromZero.{above-zero}
+use Rattle.ieee.proofs.Range.Laws.{in-mag, in-up, mag-up, neg-mag}
+use Rattle.ieee.proofs.Range.FromZero.{in-positive}
 use Rattle.ieee.proofs.Range.Falls.{in-zero-to-one, to-tests}
 use Rattle.ieee.proofs.Range.Constants.{zero-mag, zero-foot, half-in, one-in, one-mag}
 use Rattle.square_root.specs.Root.{sqrt}
@@ -32,7 +31,7 @@ use Rattle.thin_film.specs.declared.SurfaceCoating.the-variants as S
 use Rattle.thin_film.specs.Coating.{coating-of, layers-of, mgf2-layers, mirror-layers}
 use Rattle.evaluation.specs.Walk.{ordered}
 use Rattle.preset_layers.specs.Layers.{broadband-layers, bragg-layers}
-use Rattle.before_layers.specs.Valid.{positive, valid}
+use Rattle.before_layers.specs.Valid.{valid}
 use Rattle.before_layers.specs.Ideal.{ideal-ar, ideal-mirror, ideal-beamsplitter}
 use Rattle.coating.specs.Evaluate.{respond, evaluate-coating}
 use Rattle.thin_film.specs.Evaluate.{evaluate-surface}
@@ -136,14 +135,10 @@ pub record Responds (o : Outcome CoatingResponse) : Type 0 where
   pub is : o ≡ answer value
   pub bounded : Bounded value
 
-index-positive : {a i p j : ℕ} {x : Float} → In a i p j x → T (ltb 0 a) → positive x ≡ true
-unfolding positive
-index-positive {x = x} h t = is-true _ (and-i (finite x) (not (le x zero-f)) (plus-finite x (h .sign)) (above-zero h t))
-
 module _ (n0 ns angle w : Float) (N : In 1 0 4 0 n0) (M : In 1 0 4 0 ns) (f : T (finite angle)) (W : In 100 0 10000 0 w) where
   valid-here : valid n0 ns angle w ≡ true
   unfolding valid
-  valid-here = simp (index-positive N tt, index-positive M tt, is-true (finite angle) f, index-positive W tt)
+  valid-here = simp (in-positive N tt, in-positive M tt, is-true (finite angle) f, in-positive W tt)
 
   coating-responds : (coating : Coating) (layers : List ThinFilmLayer) → length layers ≤ 16 → Bounded (Solve.evaluate n0 ns angle w layers) → Responds (evaluate-coating coating layers n0 ns angle w)
   unfolding evaluate-coating respond

@@ -8,7 +8,7 @@ use Rattle.refusal.specs.Outcome.{answer, refusal, map, invalid-parameter}
 use Rattle.polarization.specs.declared.SurfaceJones.{SurfaceJones}
 use Rattle.polarization.specs.declared.FresnelJones.{FresnelJones}
 use Rattle.polarization.specs.Surface as Jones
-use Rattle.polarization.specs.Surface.{invalid, bare, surface-fresnel-jones}
+use Rattle.polarization.specs.Surface.{indices-valid, bare, surface-fresnel-jones}
 use Rattle.limits.specs.declared.Surface.{Surface}
 use Rattle.surface.specs.declared.Answers.{Answers}
 use Rattle.surface.specs.declared.AnswersReply.{AnswersReply}
@@ -16,20 +16,20 @@ use Rattle.surface.specs.Answers.{assembled, bare-powers, no-response, b
 
 -- by the test of surface_fresnel_jones
 module _ (f : SurfaceJones → Answers) (m : SurfaceJones) where
-  stood : (b : Bool) (j : FresnelJones) → j ≡ Jones.returned (cond b invalid-parameter (answer m)) → j .refusal ≡ 0 → _≡_ {A = AnswersReply} (record { refusal = 0; answers = f (j .matrices) }) (returned (map f (cond b invalid-parameter (answer m))))
+  stood : (b : Bool) (j : FresnelJones) → j ≡ Jones.returned (cond b (answer m) invalid-parameter) → j .refusal ≡ 0 → _≡_ {A = AnswersReply} (record { refusal = 0; answers = f (j .matrices) }) (returned (map f (cond b (answer m) invalid-parameter)))
   unfolding Jones.returned returned
-  stood true j e z = let n : _≡_ {A = ℕ} 0 1 = cc in absurd (clash n)
+  stood false j e z = let n : _≡_ {A = ℕ} 0 1 = cc in absurd (clash n)
     where
       clash : _≡_ {A = ℕ} 0 1 → ⊥
       clash n = omega arith
-  stood false j e z = ap (λ (k : FresnelJones). record { refusal = 0; answers = f (k .matrices) }) e
+  stood true j e z = ap (λ (k : FresnelJones). record { refusal = 0; answers = f (k .matrices) }) e
 
-  fell : (b : Bool) (j : FresnelJones) → j ≡ Jones.returned (cond b invalid-parameter (answer m)) → (j .refusal ≡ 0 → ⊥) → returned (refusal (j .refusal) 0) ≡ returned (map f (cond b invalid-parameter (answer m)))
+  fell : (b : Bool) (j : FresnelJones) → j ≡ Jones.returned (cond b (answer m) invalid-parameter) → (j .refusal ≡ 0 → ⊥) → returned (refusal (j .refusal) 0) ≡ returned (map f (cond b (answer m) invalid-parameter))
   unfolding Jones.returned returned
-  fell true j e z = ap (λ (k : FresnelJones). returned (refusal (k .refusal) 0)) e
-  fell false j e z = absurd (z (ap (λ (k : FresnelJones). k .refusal) e))
+  fell false j e z = ap (λ (k : FresnelJones). returned (refusal (k .refusal) 0)) e
+  fell true j e z = absurd (z (ap (λ (k : FresnelJones). k .refusal) e))
 
-  kept : (b : Bool) → outcome (returned (map f (cond b invalid-parameter (answer m)))) ≡ map f (cond b invalid-parameter (answer m))
+  kept : (b : Bool) → outcome (returned (map f (cond b (answer m) invalid-parameter))) ≡ map f (cond b (answer m) invalid-parameter)
   unfolding returned
   kept true = refl
   kept false = refl
@@ -42,7 +42,7 @@ module _ (s : Surface) where
   m = bare (s .«n_incident») (s .«n_substrate») (sin (s .«angle_rad»)) (cos (s .«angle_rad»))
 
   b : Bool
-  b = invalid (s .«n_incident») (s .«n_substrate») (s .«angle_rad»)
+  b = indices-valid (s .«n_incident») (s .«n_substrate») (s .«angle_rad»)
 
   pub answered : (j : FresnelJones) → j ≡ Jones.returned (surface-fresnel-jones (s .«n_incident») (s .«n_substrate») (s .«angle_rad»)) → j .refusal ≡ 0 → _≡_ {A = AnswersReply} (record { refusal = 0; answers = assembled false (bare-powers s) no-response (j .matrices) }) (returned (bare-answers s))
   unfolding surface-fresnel-jones bare-answers f m b

@@ -6,34 +6,34 @@ use lib.Dec.{lit≤}
 use lib.Ieee as Ieee
 use lib.Ieee.{Float, ofBits}
 use lib.Ieee.Scale.{finite}
-use Rattle.ieee.specs.Functions.{zero-f, one, three}
+use Rattle.ieee.specs.Functions.{zero-f, one, three, finite-positive}
 use Rattle.refusal.specs.Outcome.{answer}
 use Rattle.transfer_matrix.proofs.Known as Solved
 use Rattle.coating.specs.declared.Coating.the-variants as C
 use Rattle.thin_film.specs.declared.SurfaceCoating.the-variants as S
 use Rattle.evaluation.specs.Walk.{ordered}
 use Rattle.thin_film.specs.Coating.{layers-of}
-use Rattle.before_layers.specs.Valid.{positive, valid}
+use Rattle.before_layers.specs.Valid.{valid}
 use Rattle.thin_film.specs.Evaluate.{evaluate-surface}
 use Rattle.coating.proofs.Answers.{solved}
 
-one-passes : positive one ≡ true
-unfolding positive Ieee.le ofBits
+one-passes : finite-positive one ≡ true
+unfolding finite-positive Ieee.le ofBits
 one-passes = refl
 
-three-passes : positive three ≡ true
-unfolding positive Ieee.le ofBits
+three-passes : finite-positive three ≡ true
+unfolding finite-positive Ieee.le ofBits
 three-passes = refl
 
 zero-passes : finite zero-f ≡ true
 unfolding ofBits
 zero-passes = refl
 
-admitted : (wavelength : Float) → positive wavelength ≡ true → valid one three zero-f wavelength ≡ true
+admitted : (wavelength : Float) → finite-positive wavelength ≡ true → valid one three zero-f wavelength ≡ true
 unfolding valid
 admitted wavelength e = simp (one-passes, three-passes, zero-passes, e)
 
 -- Custom, no layers, 1 to 3, angle 0, at any wavelength that is admitted: rs = rp = -0.5, ts = tp = 0.5, R = 0.25, T = 0.75, phases π
-pub no-layers : (wavelength : Float) → positive wavelength ≡ true → evaluate-surface (S.Custom C.Multilayer) [] one three zero-f wavelength ≡ answer Solved.bare
+pub no-layers : (wavelength : Float) → finite-positive wavelength ≡ true → evaluate-surface (S.Custom C.Multilayer) [] one three zero-f wavelength ≡ answer Solved.bare
 unfolding evaluate-surface layers-of ordered Ieee.lt ofBits
 no-layers wavelength e = solved one three zero-f wavelength [] C.Multilayer refl (admitted wavelength e) (lit≤ tt) ∙ ap answer (Solved.no-layers wavelength)

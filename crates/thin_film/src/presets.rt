@@ -4,7 +4,7 @@ ghost use mathlib.Core.List.{[]};
 ghost use Prim.Native.Nat.{_<_};
 ghost use lib.ListN.{length, getD};
 ghost use Rattle.transfer_matrix.specs.Stack.{steps};
-ghost use Rattle.evaluation.specs.Walk.{ordered, blank};
+ghost use Rattle.evaluation.specs.Walk.{ordered, no-layer};
 ghost use Rattle.preset_layers.specs.Layers.{broadband-layers};
 ghost use Rattle.coating.specs.Coating.{built};
 ghost use Rattle.coating.specs.declared.Coating.the-variants as C;
@@ -72,7 +72,7 @@ fn preset_count(coating: SurfaceCoating) -> usize
 
 // The i-th layer of a preset coating.
 fn preset_layer(coating: SurfaceCoating, i: usize) -> ThinFilmLayer
-    ensures { λ r. ⌜ (i < length (layers-of coating []) → r ≡ getD (layers-of coating []) i blank) ⌝ }
+    ensures { λ r. ⌜ (i < length (layers-of coating []) → r ≡ getD (layers-of coating []) i no-layer) ⌝ }
 {
     match coating {
         SurfaceCoating::MgF2 {
@@ -91,7 +91,7 @@ pub fn through_preset(coating: SurfaceCoating, far: bool, start: Stack) -> Stack
     let mut stack = start;
     let mut i = 0;
     while i < n {
-        let j = evaluation::place(far, n, i);
+        let j = evaluation::nth_index(far, n, i);
         stack = transfer_matrix::step(stack, preset_layer(coating, j));
         i += 1;
     }

@@ -18,24 +18,24 @@ use Rattle.limits.specs.Limits.{wavelength-passes, power-passes, beam-passes}
 use Rattle.surface.specs.Answers.{powers}
 use Rattle.surface.specs.Finite.{UnitPowers}
 use Rattle.surface.proofs.Alone.{powers-answered}
-use Rattle.sheet.specs.Sheet.{Surface, Sheet, All, GoodSurface, WellFormed, encode}
+use Rattle.sheet.specs.Sheet.{SheetSurface, Sheet, All, GoodSurface, WellFormed, encode}
 use Rattle.sheet.proofs.Claim.{grammar-claim}
 use Rattle.sheet_values.specs.Values.{value, films, surface-value}
 use Rattle.gate.specs.Gate.{gated}
-use Rattle.gate.specs.Claim.{Within}
+use Rattle.gate.specs.Claim.{WithinLimits}
 use Rattle.gate.proofs.Claim.{gate-claim}
 use Rattle.optical_train.specs.declared.State.{State}
 use Rattle.optical_train.specs.declared.Stepped.{Stepped}
-use Rattle.optical_train.specs.Train.{chosen, chosen-powers, fresh, start, past, stepped, step, after-each, Ran, ran, run}
+use Rattle.optical_train.specs.Train.{chosen, chosen-powers, fresh, start, after-one, stepped, step, after-each, Ran, ran, run}
 use Rattle.sheet_surfaces.proofs.Answers.{all-nth, Good, wavelength-within, answered}
-use Rattle.train_claim.specs.Claim.{worked-out, Action, a-step, act, acts, steps, Falls, AllFall, AnsweredWhole, Admitted, TurnedBack, TrainClaim}
+use Rattle.train_claim.specs.Claim.{worked-out, Action, a-step, act, acts, count-steps, Falls, AllFall, AnsweredWhole, AdmittedSheet, TurnedBack, TrainClaim}
 use Rattle.train_claim.proofs.One.{one}
 use Rattle.train_claim.proofs.Falls.{Unit-powers, stays, taken, unit, begun, power-finite, sum-finite}
 use Rattle.train_claim.proofs.Values.{first, done-is, taken-on, all-done, coasts}
 use Rattle.train_claim.proofs.Writes.{each-s, each-p, left-alone}
 
 -- ---- the chosen powers of a surface that is answered are from 0 to 1
-module _ (w : Float) (y : Surface) where
+module _ (w : Float) (y : SheetSurface) where
   chosen-unit : (b : Bool) (r : Powers) → UnitPowers r → T (power-passes (chosen b r .s)) × T (power-passes (chosen b r .p))
   chosen-unit true r u = (u .reflectance-s, u .reflectance-p)
   chosen-unit false r u = (u .transmittance-s, u .transmittance-p)
@@ -44,21 +44,21 @@ module _ (w : Float) (y : Surface) where
   unfolding chosen-powers
   factor-unit a = rw (a .powers) (chosen-unit (surface-value y .reflected) (a .answered .value .powers) (a .answered .powers))
 
-answered-all : (w : Float) → T (wavelength-passes w) → (ys : List Surface) → All GoodSurface ys → All (Good w) ys → All (AnsweredWhole w) ys
+answered-all : (w : Float) → T (wavelength-passes w) → (ys : List SheetSurface) → All GoodSurface ys → All (Good w) ys → All (AnsweredWhole w) ys
 answered-all w t [] g h = tt
 answered-all w t (y ∷ ys) g h =
     let a = answered w t y (h .0) (g .0 .few) in
     (record { answered = a; powers = powers-answered w (surface-value y) (films (y .layers)) (a .value) (a .is) }, answered-all w t ys (g .1) (h .1))
 
 -- ---- one admitted sheet
-module _ (x : Sheet) (formed : WellFormed x) (inside : Within x) where
+module _ (x : Sheet) (formed : WellFormed x) (inside : WithinLimits x) where
   src : List ℕ
   src = encode x
 
   abbrev w : Float
   w = value (x .wavelength)
 
-  abbrev xs : List Surface
+  abbrev xs : List SheetSurface
   xs = x .surfaces
 
   is-admitted : gated src ≡ answer x
@@ -81,25 +81,25 @@ module _ (x : Sheet) (formed : WellFormed x) (inside : Within x) where
     powers : Unit-powers (act src a-step st)
 
   moves : (n : ℕ) (st : State) → st ≡ worked-out x n → Unit-powers st → n < length xs → Step n st
-  unfolding step past
+  unfolding step after-one
   moves n st e u h =
       let d : st .done ≡ n = ap (λ (z : State). z .done) e ∙ done-is x n h in
       let l : st .done < length xs = omega arith in
-      let a : act src a-step st ≡ past w st (nth xs (st .done)) = steps-on l in
+      let a : act src a-step st ≡ after-one w st (nth xs (st .done)) = steps-on l in
       let f = factor-unit w (nth xs (st .done)) (all-nth (AnsweredWhole w) xs (st .done) all-answered l) in
       record {
-        is = a ∙ ap (λ (k : ℕ). past w st (nth xs k)) d ∙ ap (λ (z : State). past w z (nth xs n)) e ∙ taken-on x n h;
+        is = a ∙ ap (λ (k : ℕ). after-one w st (nth xs k)) d ∙ ap (λ (z : State). after-one w z (nth xs n)) e ∙ taken-on x n h;
         falls = subst (Falls st) (sym a) (falling l f);
         powers = subst Unit-powers (sym a) (still l f);
       }
     where
-      steps-on : st .done < length xs → act src a-step st ≡ past w st (nth xs (st .done))
+      steps-on : st .done < length xs → act src a-step st ≡ after-one w st (nth xs (st .done))
       steps-on l = ap (λ (o : Outcome Sheet). stepped st o .state) is-admitted ∙ rw (lt-ltb (st .done) (length xs) l)
 
-      falling : st .done < length xs → T (power-passes (chosen-powers w (nth xs (st .done)) .s)) × T (power-passes (chosen-powers w (nth xs (st .done)) .p)) → Falls st (past w st (nth xs (st .done)))
+      falling : st .done < length xs → T (power-passes (chosen-powers w (nth xs (st .done)) .s)) × T (power-passes (chosen-powers w (nth xs (st .done)) .p)) → Falls st (after-one w st (nth xs (st .done)))
       falling l f = taken st u (st .done + 1) (chosen-powers w (nth xs (st .done))) (f .0) (f .1)
 
-      still : st .done < length xs → T (power-passes (chosen-powers w (nth xs (st .done)) .s)) × T (power-passes (chosen-powers w (nth xs (st .done)) .p)) → Unit-powers (past w st (nth xs (st .done)))
+      still : st .done < length xs → T (power-passes (chosen-powers w (nth xs (st .done)) .s)) × T (power-passes (chosen-powers w (nth xs (st .done)) .p)) → Unit-powers (after-one w st (nth xs (st .done)))
       still l f = unit st u (st .done + 1) (chosen-powers w (nth xs (st .done))) (f .0) (f .1)
 
   rests : (n : ℕ) (st : State) → st ≡ worked-out x n → Unit-powers st → length xs ≤ n → Step n st
@@ -120,20 +120,20 @@ module _ (x : Sheet) (formed : WellFormed x) (inside : Within x) where
       go false t = rests n st e u (ltb-false n (length xs) t)
 
   -- ---- every list
-  from : (actions : List Action) (n : ℕ) (st : State) → st ≡ worked-out x n → Unit-powers st → (acts src actions st ≡ worked-out x (n + steps actions)) × AllFall src actions st
+  from : (actions : List Action) (n : ℕ) (st : State) → st ≡ worked-out x n → Unit-powers st → (acts src actions st ≡ worked-out x (n + count-steps actions)) × AllFall src actions st
   from [] n st e u = (e ∙ ap (worked-out x) (sym (add-zero n)), tt)
   from (a-step ∷ more) n st e u =
       let s = one-step n st e u in
       let r = from more (suc n) (act src a-step st) (s .is) (s .powers) in
-      (r .0 ∙ ap (worked-out x) (on n (steps more)), (s .falls, r .1))
+      (r .0 ∙ ap (worked-out x) (on n (count-steps more)), (s .falls, r .1))
     where
       on : (n m : ℕ) → suc n + m ≡ n + suc m
       on n m = omega arith
 
-  lists : (actions : List Action) → (acts src actions (fresh x) ≡ worked-out x (steps actions)) × AllFall src actions (fresh x)
+  lists : (actions : List Action) → (acts src actions (fresh x) ≡ worked-out x (count-steps actions)) × AllFall src actions (fresh x)
   lists actions =
       let r = from actions 0 (fresh x) (sym (first x)) fresh-unit in
-      (r .0 ∙ ap (worked-out x) (zero-on (steps actions)), r .1)
+      (r .0 ∙ ap (worked-out x) (zero-on (count-steps actions)), r .1)
     where
       zero-on : (n : ℕ) → 0 + n ≡ n
       zero-on n = omega arith
@@ -155,10 +155,10 @@ module _ (x : Sheet) (formed : WellFormed x) (inside : Within x) where
   unfolding step
   on-step st = ap (stepped st) is-admitted
 
-  on-taken : (st : State) → st .done < length xs → step src st ≡ record { refusal = record { number = 0; place = 0 }; state = past w st (nth xs (st .done)) }
+  on-taken : (st : State) → st .done < length xs → step src st ≡ record { refusal = record { number = 0; place = 0 }; state = after-one w st (nth xs (st .done)) }
   on-taken st l = on-step st ∙ rw (lt-ltb (st .done) (length xs) l)
 
-  pub admitted : Admitted (encode x) x
+  pub admitted : AdmittedSheet (encode x) x
   unfolding src start run surface-answers worked-out
   admitted = record {
     starts = ap (map fresh) is-admitted;
@@ -167,7 +167,7 @@ module _ (x : Sheet) (formed : WellFormed x) (inside : Within x) where
     writes-s = λ list room d i h. entry list room d (2 * i) ∙ each-s w d (drop (2 * length xs) list) (fresh x) xs i h;
     writes-p = λ list room d i h. entry list room d (2 * i + 1) ∙ each-p w d (drop (2 * length xs) list) (fresh x) xs i h;
     leaves = λ list room d i h. entry list room d i ∙ left-alone w d (fresh x) xs list i h;
-    taken = λ st l. ap (λ (r : Stepped). r .refusal) (on-taken st l);
+    accepted = λ st l. ap (λ (r : Stepped). r .refusal) (on-taken st l);
     seven = λ st l. on-step st ∙ rw (le-ltb (st .done) (length xs) l);
     eight = λ list l. ap (ran list) is-admitted ∙ rw (lt-leb (2 * length xs) (length list) l);
     asked = λ i l. ap (answers-to i) is-admitted ∙ rw (lt-ltb i (length xs) l);

@@ -1,7 +1,7 @@
 -- A sheet within the grammar and the limits: a bare surface-value, met head on. Assumes nothing.
 use mathlib.Core.Path.{refl}
 use mathlib.Core.Logic.{inl}
-use mathlib.Core.List.{List, [], _∷_}
+use mathlib.Core.List.{[], _∷_}
 use native.Mathlib.Omega.{arith}
 use lib.Ieee as Ieee
 use lib.Ieee.{ofBits}
@@ -9,14 +9,14 @@ use lib.Ieee.Scale.{finite}
 use Rattle.ieee.specs.Functions.{abs, clamp}
 use Rattle.ieee.proofs.Signs.{of-true}
 use Rattle.trig.specs.Trig.{wrap, fold, second-fold, series, sin-at, sin, cos-at, cos-of, cos}
-use Rattle.limits.specs.Coating.{interface}
+use Rattle.limits.specs.Coating.{coded, interface}
 use Rattle.limits.specs.Limits.{within, beam-passes, layers-within, angle-passes, surface-passes, passes}
-use Rattle.sheet.specs.Sheet.{Surface, Sheet, GoodSurface, WellFormed}
+use Rattle.sheet.specs.Sheet.{SheetSurface, Sheet, WellFormed}
 use Rattle.sheet_values.specs.Values.{films}
-use Rattle.gate.specs.Claim.{Within}
+use Rattle.gate.specs.Claim.{WithinLimits}
 
 -- bare, transmitted, 1 to 1.5, angle 0
-abbrev pane : Surface
+abbrev pane : SheetSurface
 pane = record { payload = 0; n-incident = 0x3FF0_0000_0000_0000; n-substrate = 0x3FF8_0000_0000_0000; angle = 0; layers = [] }
 
 -- 512 nm, s = p = 1
@@ -32,9 +32,9 @@ formed = record {
   few = omega arith;
 }
 
-inside : Within sheet
-unfolding within beam-passes layers-within angle-passes surface-passes passes interface films wrap fold second-fold series sin-at sin cos-at cos-of cos abs clamp finite Ieee.rem Ieee.lt Ieee.le Ieee.eq Ieee.add Ieee.sub Ieee.mul Ieee.div Ieee.neg Ieee.ofInt Ieee.isNan ofBits
+inside : WithinLimits sheet
+unfolding within beam-passes layers-within angle-passes surface-passes passes coded interface films wrap fold second-fold series sin-at sin cos-at cos-of cos abs clamp finite Ieee.rem Ieee.lt Ieee.le Ieee.eq Ieee.add Ieee.sub Ieee.mul Ieee.div Ieee.neg Ieee.ofInt Ieee.isNan ofBits
 inside = record { beam = of-true _ refl; surfaces = (of-true _ refl, tt) }
 
-pub one : (x : Sheet) × (WellFormed x × Within x)
+pub one : (x : Sheet) × (WellFormed x × WithinLimits x)
 one = (sheet, (formed, inside))

@@ -9,26 +9,26 @@ use lib.ListN.{length, take}
 use lib.Seq.{take-all}
 use lib.Ieee.{Float}
 use Rattle.ieee.specs.Operators.{_⊗_}
-use Rattle.sheet.specs.Sheet.{Surface, Sheet}
+use Rattle.sheet.specs.Sheet.{SheetSurface, Sheet}
 use Rattle.sheet_values.specs.Nth.{nth}
 use Rattle.sheet_values.specs.Values.{value}
-use Rattle.optical_train.specs.Train.{chosen-powers, fresh, past}
+use Rattle.optical_train.specs.Train.{chosen-powers, fresh, after-one}
 use Rattle.train_claim.specs.Claim.{product, chosen-s, chosen-p, worked-out}
 
-one-more-s : (w x : Float) (ys : List Surface) (n : ℕ) → n < length ys → product x (chosen-s w (take n ys)) ⊗ chosen-powers w (nth ys n) .s ≡ product x (chosen-s w (take (suc n) ys))
+one-more-s : (w x : Float) (ys : List SheetSurface) (n : ℕ) → n < length ys → product x (chosen-s w (take n ys)) ⊗ chosen-powers w (nth ys n) .s ≡ product x (chosen-s w (take (suc n) ys))
 unfolding product chosen-s
 one-more-s w x [] n h = absurd (omega arith)
 one-more-s w x (y ∷ ys) zero h = refl
 one-more-s w x (y ∷ ys) (suc n) h = one-more-s w (x ⊗ chosen-powers w y .s) ys n (omega arith)
 
-one-more-p : (w x : Float) (ys : List Surface) (n : ℕ) → n < length ys → product x (chosen-p w (take n ys)) ⊗ chosen-powers w (nth ys n) .p ≡ product x (chosen-p w (take (suc n) ys))
+one-more-p : (w x : Float) (ys : List SheetSurface) (n : ℕ) → n < length ys → product x (chosen-p w (take n ys)) ⊗ chosen-powers w (nth ys n) .p ≡ product x (chosen-p w (take (suc n) ys))
 unfolding product chosen-p
 one-more-p w x [] n h = absurd (omega arith)
 one-more-p w x (y ∷ ys) zero h = refl
 one-more-p w x (y ∷ ys) (suc n) h = one-more-p w (x ⊗ chosen-powers w y .p) ys n (omega arith)
 
 module _ (x : Sheet) where
-  abbrev xs : List Surface
+  abbrev xs : List SheetSurface
   xs = x .surfaces
 
   pub first : worked-out x 0 ≡ fresh x
@@ -44,8 +44,8 @@ module _ (x : Sheet) where
     unfolding worked-out
     done-is h = min-eq-left (omega arith)
 
-    pub taken-on : n < length xs → past (value (x .wavelength)) (worked-out x n) (nth xs n) ≡ worked-out x (suc n)
-    unfolding worked-out past
+    pub taken-on : n < length xs → after-one (value (x .wavelength)) (worked-out x n) (nth xs n) ≡ worked-out x (suc n)
+    unfolding worked-out after-one
     taken-on h =
         let w = value (x .wavelength) in
         λ i. record { done = count i; s = one-more-s w (value (x .s)) xs n h i; p = one-more-p w (value (x .p)) xs n h i }

@@ -6,9 +6,9 @@ use native.Mathlib.Omega.{arith}
 use lib.ListN.{length, getD, take, drop}
 use lib.Seq.{getD-append-add, getD-drop}
 use lib.Ieee.{Float}
-use Rattle.sheet.specs.Sheet.{Surface}
+use Rattle.sheet.specs.Sheet.{SheetSurface}
 use Rattle.optical_train.specs.declared.State.{State}
-use Rattle.optical_train.specs.Train.{past, after-each}
+use Rattle.optical_train.specs.Train.{after-one, after-each}
 use Rattle.train_claim.specs.Claim.{product, chosen-s, chosen-p}
 
 module _ (w d : Float) (rest : List Float) where
@@ -18,27 +18,27 @@ module _ (w d : Float) (rest : List Float) where
   three : (i : ℕ) → 2 * suc i + 1 ≡ suc (suc (2 * i + 1))
   three i = omega arith
 
-  pub each-s : (st : State) (ys : List Surface) (i : ℕ) → i < length ys → getD (after-each w st ys ++ rest) (2 * i) d ≡ product (st .s) (chosen-s w (take (suc i) ys))
-  unfolding after-each product chosen-s past
+  pub each-s : (st : State) (ys : List SheetSurface) (i : ℕ) → i < length ys → getD (after-each w st ys ++ rest) (2 * i) d ≡ product (st .s) (chosen-s w (take (suc i) ys))
+  unfolding after-each product chosen-s after-one
   each-s st [] i h = absurd (omega arith)
   each-s st (y ∷ ys) zero h = refl
-  each-s st (y ∷ ys) (suc i) h = ap (λ (k : ℕ). getD (after-each w st (y ∷ ys) ++ rest) k d) (two i) ∙ each-s (past w st y) ys i (omega arith)
+  each-s st (y ∷ ys) (suc i) h = ap (λ (k : ℕ). getD (after-each w st (y ∷ ys) ++ rest) k d) (two i) ∙ each-s (after-one w st y) ys i (omega arith)
 
-  pub each-p : (st : State) (ys : List Surface) (i : ℕ) → i < length ys → getD (after-each w st ys ++ rest) (2 * i + 1) d ≡ product (st .p) (chosen-p w (take (suc i) ys))
-  unfolding after-each product chosen-p past
+  pub each-p : (st : State) (ys : List SheetSurface) (i : ℕ) → i < length ys → getD (after-each w st ys ++ rest) (2 * i + 1) d ≡ product (st .p) (chosen-p w (take (suc i) ys))
+  unfolding after-each product chosen-p after-one
   each-p st [] i h = absurd (omega arith)
   each-p st (y ∷ ys) zero h = refl
-  each-p st (y ∷ ys) (suc i) h = ap (λ (k : ℕ). getD (after-each w st (y ∷ ys) ++ rest) k d) (three i) ∙ each-p (past w st y) ys i (omega arith)
+  each-p st (y ∷ ys) (suc i) h = ap (λ (k : ℕ). getD (after-each w st (y ∷ ys) ++ rest) k d) (three i) ∙ each-p (after-one w st y) ys i (omega arith)
 
-each-length : (w : Float) (st : State) (ys : List Surface) → length (after-each w st ys) ≡ 2 * length ys
+each-length : (w : Float) (st : State) (ys : List SheetSurface) → length (after-each w st ys) ≡ 2 * length ys
 unfolding after-each
 each-length w st [] = refl
-each-length w st (y ∷ ys) = ap (λ (k : ℕ). suc (suc k)) (each-length w (past w st y) ys) ∙ two (length ys)
+each-length w st (y ∷ ys) = ap (λ (k : ℕ). suc (suc k)) (each-length w (after-one w st y) ys) ∙ two (length ys)
   where
     two : (n : ℕ) → suc (suc (2 * n)) ≡ 2 * suc n
     two n = omega arith
 
-pub left-alone : (w d : Float) (st : State) (ys : List Surface) (list : List Float) (i : ℕ) → 2 * length ys ≤ i → getD (after-each w st ys ++ drop (2 * length ys) list) i d ≡ getD list i d
+pub left-alone : (w d : Float) (st : State) (ys : List SheetSurface) (list : List Float) (i : ℕ) → 2 * length ys ≤ i → getD (after-each w st ys ++ drop (2 * length ys) list) i d ≡ getD list i d
 left-alone w d st ys list i h =
     let a = after-each w st ys in
     let n = 2 * length ys in

@@ -14,10 +14,10 @@ use Rattle.refusal.specs.Outcome.{answer, refusal}
 use Rattle.surface.specs.Answers.{answers, powers}
 use Rattle.surface.specs.Finite as Finite
 use Rattle.surface.specs.Finite.{Finite}
-use Rattle.sheet.specs.Sheet.{Surface, Sheet, All, WellFormed, encode}
+use Rattle.sheet.specs.Sheet.{SheetSurface, Sheet, All, WellFormed, encode}
 use Rattle.sheet_values.specs.Values.{value, films, surface-value}
 use Rattle.gate.specs.Gate.{gated}
-use Rattle.gate.specs.Claim.{Within, GateClaim}
+use Rattle.gate.specs.Claim.{WithinLimits, GateClaim}
 use Rattle.optical_train.specs.declared.State.{State}
 use Rattle.optical_train.specs.Train.{chosen-powers, fresh, start, step, run, sum}
 
@@ -26,11 +26,11 @@ unfoldable pub product : Float → List Float → Float
 product x [] = x
 product x (y ∷ ys) = product (x ⊗ y) ys
 
-unfoldable pub chosen-s : Float → List Surface → List Float
+unfoldable pub chosen-s : Float → List SheetSurface → List Float
 chosen-s wavelength [] = []
 chosen-s wavelength (y ∷ ys) = chosen-powers wavelength y .s ∷ chosen-s wavelength ys
 
-unfoldable pub chosen-p : Float → List Surface → List Float
+unfoldable pub chosen-p : Float → List SheetSurface → List Float
 chosen-p wavelength [] = []
 chosen-p wavelength (y ∷ ys) = chosen-powers wavelength y .p ∷ chosen-p wavelength ys
 
@@ -53,9 +53,9 @@ acts src [] st = st
 acts src (a ∷ more) st = acts src more (act src a st)
 
 -- how many of them are steps
-abbrev pub steps : List Action → ℕ
-steps [] = 0
-steps (a-step ∷ more) = suc (steps more)
+abbrev pub count-steps : List Action → ℕ
+count-steps [] = 0
+count-steps (a-step ∷ more) = suc (count-steps more)
 
 -- s and p are at least zero and no larger than they were, and so is their sum; by value, zeros of both signs being equal
 pub record Falls (old new : State) : Type 0 where
@@ -69,23 +69,23 @@ AllFall src [] st = Unit
 AllFall src (a ∷ more) st = Falls st (act src a st) × AllFall src more (act src a st)
 
 -- ---- every power, amplitude, phase, Jones and Mueller entry of a surface's answers is finite, and its powers alone are those of its answers
-pub record AnsweredWhole (wavelength : Float) (y : Surface) : Type 0 where
+pub record AnsweredWhole (wavelength : Float) (y : SheetSurface) : Type 0 where
   pub answered : Finite.Answered wavelength (surface-value y) (films (y .layers))
   pub powers : powers wavelength (surface-value y) (films (y .layers)) ≡ answer (answered .value .powers)
 
 -- ---- the claim for one admitted sheet
-pub record Admitted (src : List ℕ) (x : Sheet) : Type 0 where
+pub record AdmittedSheet (src : List ℕ) (x : Sheet) : Type 0 where
   -- the first step has Start
   pub starts : start src ≡ answer (fresh x)
   -- over every list of actions, the refused ones included: the values at its end, and the bounds at each of its actions
-  pub lists : (actions : List Action) → (acts src actions (fresh x) ≡ worked-out x (steps actions)) × AllFall src actions (fresh x)
+  pub lists : (actions : List Action) → (acts src actions (fresh x) ≡ worked-out x (count-steps actions)) × AllFall src actions (fresh x)
   -- a whole run that is not refused writes the same, surface by surface; the rest of the list is untouched
   pub runs : (list : List Float) → 2 * length (x .surfaces) ≤ length list → run src list .result ≡ answer (length (x .surfaces))
   pub writes-s : (list : List Float) → 2 * length (x .surfaces) ≤ length list → (d : Float) (i : ℕ) → i < length (x .surfaces) → getD (run src list .list) (2 * i) d ≡ worked-out x (suc i) .s
   pub writes-p : (list : List Float) → 2 * length (x .surfaces) ≤ length list → (d : Float) (i : ℕ) → i < length (x .surfaces) → getD (run src list .list) (2 * i + 1) d ≡ worked-out x (suc i) .p
   pub leaves : (list : List Float) → 2 * length (x .surfaces) ≤ length list → (d : Float) (i : ℕ) → 2 * length (x .surfaces) ≤ i → getD (run src list .list) i d ≡ getD list i d
   -- a step is not refused where surfaces done is under the sheet's count; otherwise it is, with 7, and the state is as before
-  pub taken : (st : State) → st .done < length (x .surfaces) → step src st .refusal ≡ record { number = 0; place = 0 }
+  pub accepted : (st : State) → st .done < length (x .surfaces) → step src st .refusal ≡ record { number = 0; place = 0 }
   pub seven : (st : State) → length (x .surfaces) ≤ st .done → step src st ≡ record { refusal = record { number = 7; place = 0 }; state = st }
   -- a whole run is refused with 8 where its list is shorter than 2 × surfaces, and the list is as before
   pub eight : (list : List Float) → length list < 2 * length (x .surfaces) → run src list ≡ record { result = refusal 8 0; list = list }
@@ -106,6 +106,6 @@ pub record TurnedBack (src : List ℕ) (number place : ℕ) : Type 0 where
 -- ---- demand 3: the gate admits exactly the sheets of 01's grammar and limits, and every admitted sheet has all of this; there is such a sheet
 pub record TrainClaim : Type 0 where
   pub gate : GateClaim
-  pub admitted : (x : Sheet) → WellFormed x → Within x → Admitted (encode x) x
+  pub admitted : (x : Sheet) → WellFormed x → WithinLimits x → AdmittedSheet (encode x) x
   pub turned-back : (src : List ℕ) (number place : ℕ) → gated src ≡ refusal number place → TurnedBack src number place
-  pub one : (x : Sheet) × (WellFormed x × Within x)
+  pub one : (x : Sheet) × (WellFormed x × WithinLimits x)

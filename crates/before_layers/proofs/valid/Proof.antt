@@ -21,43 +21,43 @@ module _ (p q f w : Bool) where
   last : p ≡ true → q ≡ true → f ≡ true → w ≡ p && q && f && w
   last a e g = simp (a, e, g)
 
-positive-requires : tie.Need-positive-requires
-positive-requires c κs = search needs
+finite-positive-requires : tie.Need-finite-positive-requires
+finite-positive-requires c κs = search needs
 
 returns : tie.Need-returns
 unfolding valid
-returns c = first _ _ _ _ (sym (c .before .positive .ensures) ∙ not-true _ (c .if1 .taken))
+returns c = first _ _ _ _ (sym (c .before .finite-positive .ensures) ∙ not-true _ (c .if1 .taken))
 
-positive-requires-2 : tie.Need-positive-requires-2
-positive-requires-2 c κs = search needs
+finite-positive-requires-2 : tie.Need-finite-positive-requires-2
+finite-positive-requires-2 c κs = search needs
 
 returns-2 : tie.Need-returns-2
 unfolding valid
-returns-2 c = second _ _ _ _ (sym (c .before .before .before .positive .ensures) ∙ not-false _ (c .before .before .if1 .left)) (sym (c .before .positive2 .ensures) ∙ not-true _ (c .if2 .taken))
+returns-2 c = second _ _ _ _ (sym (c .before .before .before .finite-positive .ensures) ∙ not-false _ (c .before .before .if1 .left)) (sym (c .before .finite-positive2 .ensures) ∙ not-true _ (c .if2 .taken))
 
 is-finite-requires : tie.Need-is-finite-requires
 is-finite-requires c κs = search needs
 
-positive-requires-3 : tie.Need-positive-requires-3
-positive-requires-3 c κs = search needs
+finite-positive-requires-3 : tie.Need-finite-positive-requires-3
+finite-positive-requires-3 c κs = search needs
 
 returns-3 : tie.Need-returns-3
 unfolding valid
-returns-3 c = c .positive3 .ensures ∙ last _ _ _ _ (sym (c .before .before .before .before .before .before .positive .ensures) ∙ not-false _ (c .before .before .before .before .before .if1 .left)) (sym (c .before .before .before .before .positive2 .ensures) ∙ not-false _ (c .before .before .before .if2 .left)) (sym (c .before .before .is-finite .ensures) ∙ c .before .if3 .taken)
+returns-3 c = c .finite-positive3 .ensures ∙ last _ _ _ _ (sym (c .before .before .before .before .before .before .finite-positive .ensures) ∙ not-false _ (c .before .before .before .before .before .if1 .left)) (sym (c .before .before .before .before .finite-positive2 .ensures) ∙ not-false _ (c .before .before .before .if2 .left)) (sym (c .before .before .is-finite .ensures) ∙ c .before .if3 .taken)
 
 returns-4 : tie.Need-returns-4
 unfolding valid
-returns-4 c = c .if3 .left ∙ third _ _ _ _ (sym (c .before .before .before .before .before .positive .ensures) ∙ not-false _ (c .before .before .before .before .if1 .left)) (sym (c .before .before .before .positive2 .ensures) ∙ not-false _ (c .before .before .if2 .left)) (sym (c .before .is-finite .ensures) ∙ c .if3 .left)
+returns-4 c = c .if3 .left ∙ third _ _ _ _ (sym (c .before .before .before .before .before .finite-positive .ensures) ∙ not-false _ (c .before .before .before .before .if1 .left)) (sym (c .before .before .before .finite-positive2 .ensures) ∙ not-false _ (c .before .before .if2 .left)) (sym (c .before .is-finite .ensures) ∙ c .if3 .left)
 
 pub valid-spec : {M : Type 1} → statement M
 valid-spec =
     tie.close
     (tie.spec
-    positive-requires
+    finite-positive-requires
     returns
-    positive-requires-2
+    finite-positive-requires-2
     returns-2
     is-finite-requires
-    positive-requires-3
+    finite-positive-requires-3
     returns-3
     returns-4)

@@ -5,7 +5,7 @@ use Prim.Native.Nat.{ℕ, _+_}
 use lib.ListN.{length, take, drop}
 use lib.Ieee.{Float}
 use Rattle.surface.specs.declared.Answers.{Answers}
-use Rattle.call.specs.Layout.{jones, mueller, head, common}
+use Rattle.call.specs.Layout.{jones-numbers, mueller-numbers, head, common}
 use Rattle.call.proofs.Front.{nothing, more}
 use borrow.Author.Needs.{needs}
 use Rattle.call.proofs.place_common.Statement.{statement}
@@ -14,7 +14,7 @@ use Rattle.call.proofs.place_common.Tie as tie
 abbrev Placed : ℕ → List Float → List Float → List Float → Type 0
 Placed at numbers list next = next ≡ take at list ++ numbers ++ drop (at + length numbers) list
 
-module _ (a : Answers) (l₀ l₁ l₂ l₃ l₄ l₅ h j k m t : List Float) (eh : h ≡ head a) (ej : j ≡ jones (a .reflection)) (ek : k ≡ jones (a .transmission)) (em : m ≡ mueller (a .«reflection_mueller»)) (et : t ≡ mueller (a .«transmission_mueller»))
+module _ (a : Answers) (l₀ l₁ l₂ l₃ l₄ l₅ h j k m t : List Float) (eh : h ≡ head a) (ej : j ≡ jones-numbers (a .reflection)) (ek : k ≡ jones-numbers (a .transmission)) (em : m ≡ mueller-numbers (a .«reflection_mueller»)) (et : t ≡ mueller-numbers (a .«transmission_mueller»))
     (p₁ : Placed 0 h l₀ l₁) (p₂ : Placed 5 j l₁ l₂) (p₃ : Placed 13 k l₂ l₃) (p₄ : Placed 21 m l₃ l₄) (p₅ : Placed 37 t l₄ l₅) where
   all : l₅ ≡ common a ++ drop 53 l₀
   all =

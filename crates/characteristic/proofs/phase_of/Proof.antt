@@ -1,7 +1,7 @@
 -- `characteristic::phase_of` meets its contract. Assumes nothing.
-use mathlib.Core.Path.{_≡_, ap, sym, _∙_}
+use mathlib.Core.Path.{_≡_}
 use lib.Ieee.{Float, neg}
-use Rattle.ieee.specs.Operators.{_⊕_, _⊖_, _⊗_}
+use Rattle.ieee.specs.Operators.{_⊗_}
 use Rattle.ieee.specs.Functions.{zero-f, half}
 use Rattle.trig.specs.declared.SinCos.{SinCos}
 use Rattle.trig.specs.Trig.{sin, cos, sin-cos}

@@ -1,5 +1,5 @@
 -- `coating::prepare` meets its contract. Assumes nothing.
-use mathlib.Core.Path.{sym, _∙_, ap}
+use mathlib.Core.Path.{sym, _∙_}
 use borrow.Author.Tests.{le-leb, lt-leb, not-true, not-false}
 use Rattle.coating.specs.Evaluate.{start, prepare}
 use borrow.Author.Needs.{needs}

@@ -13,7 +13,7 @@ use Rattle.sheet.specs.Sheet.{Sheet}
 use Rattle.gate.specs.Gate.{gated}
 use Rattle.optical_train.specs.Train.{Ran, ran, run}
 use Rattle.call.specs.Call.{done, Apart, returned}
-use Rattle.dihkelu.specs.Train.{run-whole}
+use Rattle.dihkelu.specs.Train.{run-done}
 use Rattle.dihkelu.proofs.Places.{gate-apart}
 use Rattle.dihkelu.proofs.dihkelu_run.Statement.{statement}
 use Rattle.dihkelu.proofs.dihkelu_run.Tie as tie
@@ -31,8 +31,8 @@ module _ (src : List ℕ) (list out : List Float) (o : Outcome ℕ) (e : record 
       go (answer x) h = either (leb (2 * length (x .surfaces)) (length list)) _ _ tt (omega arith)
       go (refusal number place) h = h
 
-  whole : (n : ℕ) → n ≡ returned o → done n out ≡ run-whole (run src list)
-  whole n is = ap (λ (k : ℕ). done k out) is ∙ ap run-whole e
+  whole : (n : ℕ) → n ≡ returned o → done n out ≡ run-done (run src list)
+  whole n is = ap (λ (k : ℕ). done k out) is ∙ ap run-done e
 
 run-requires : tie.Need-run-requires
 run-requires c κs = search needs

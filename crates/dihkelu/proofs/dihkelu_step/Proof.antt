@@ -16,13 +16,13 @@ use Rattle.optical_train.specs.declared.State.{State}
 use Rattle.optical_train.specs.declared.Stepped.{Stepped}
 use Rattle.optical_train.specs.Train.{stepped, step}
 use Rattle.call.specs.Call.{Done, done, packed, Apart, written, answered}
-use Rattle.dihkelu.specs.Train.{gone-on, taken}
+use Rattle.dihkelu.specs.Train.{step-layout, step-outcome}
 use Rattle.dihkelu.proofs.Places.{gate-apart}
 use Rattle.dihkelu.proofs.Returned.{refuses, answers}
 use Rattle.dihkelu.proofs.dihkelu_step.Statement.{statement}
 use Rattle.dihkelu.proofs.dihkelu_step.Tie as tie
 
-either : (b : Bool) (x y : Stepped) → Apart (taken x) → Apart (taken y) → Apart (taken (cond b x y))
+either : (b : Bool) (x y : Stepped) → Apart (step-outcome x) → Apart (step-outcome y) → Apart (step-outcome (cond b x y))
 either true x y h k = h
 either false x y h k = k
 
@@ -31,24 +31,24 @@ chosen true x y h k = h
 chosen false x y h k = k
 
 module _ (src : List ℕ) (st : State) where
-  apart : Apart (taken (step src st))
+  apart : Apart (step-outcome (step src st))
   unfolding step
   apart = go (gated src) (gate-apart src)
     where
-      go : (o : Outcome Sheet) → Apart o → Apart (taken (stepped st o))
+      go : (o : Outcome Sheet) → Apart o → Apart (step-outcome (stepped st o))
       go (answer x) h = either (ltb (st .done) (length (x .surfaces))) _ _ tt (omega arith)
       go (refusal number place) h = chosen (eqb number 0) (answer st) (refusal number place) tt h
 
   module _ (q : Stepped) (e : q ≡ step src st) where
-    not-taken : (q .refusal .number ≡ 0 → ⊥) → (n : ℕ) (list : List Float) → n ≡ packed (q .refusal .number) (q .refusal .place % 2 ^ 32) → done n list ≡ answered gone-on (taken (step src st)) list
+    not-taken : (q .refusal .number ≡ 0 → ⊥) → (n : ℕ) (list : List Float) → n ≡ packed (q .refusal .number) (q .refusal .place % 2 ^ 32) → done n list ≡ answered step-layout (step-outcome (step src st)) list
     not-taken h n list is =
-        let r : refused-with (q .refusal) ≡ taken q = simp (ne-eqb (q .refusal .number) 0 h) in
-        refuses gone-on (q .refusal) (taken (step src st)) n list (r ∙ ap taken e) apart is
+        let r : refused-with (q .refusal) ≡ step-outcome q = simp (ne-eqb (q .refusal .number) 0 h) in
+        refuses step-layout (q .refusal) (step-outcome (step src st)) n list (r ∙ ap step-outcome e) apart is
 
-    is-taken : q .refusal .number ≡ 0 → (d : Done) (list : List Float) → d ≡ written (gone-on (q .state)) list → d ≡ answered gone-on (taken (step src st)) list
+    is-taken : q .refusal .number ≡ 0 → (d : Done) (list : List Float) → d ≡ written (step-layout (q .state)) list → d ≡ answered step-layout (step-outcome (step src st)) list
     is-taken h d list is =
-        let r : answer (q .state) ≡ taken q = simp (eq-eqb (q .refusal .number) 0 h) in
-        answers gone-on (q .state) (taken (step src st)) d list (r ∙ ap taken e) is
+        let r : answer (q .state) ≡ step-outcome q = simp (eq-eqb (q .refusal .number) 0 h) in
+        answers step-layout (q .state) (step-outcome (step src st)) d list (r ∙ ap step-outcome e) is
 
 step-requires : tie.Need-step-requires
 step-requires c κs = search needs

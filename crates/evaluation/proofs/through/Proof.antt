@@ -57,7 +57,7 @@ use Rattle.transfer_matrix.specs.declared.ThinFilmLayer.{ThinFilmLayer}
 use Rattle.transfer_matrix.proofs.ThinFilmLayer as L
 use Rattle.transfer_matrix.proofs.ThinFilmLayer.Laws as L′
 use Rattle.evaluation.specs.declared.Pending.{Pending}
-use Rattle.evaluation.specs.Walk.{blank}
+use Rattle.evaluation.specs.Walk.{no-layer}
 use Rattle.evaluation.specs.Walk as Walk
 use Rattle.evaluation.proofs.Order as Order
 use Rattle.evaluation.proofs.Pending as S
@@ -172,8 +172,8 @@ module _ {M : Type 1} (𝓤 : URA M) (H : Heap 𝓤) (A : Atoms 𝓤) (W : Given
       qed W [] ∵ nothing ! $ owned ! usize (Is usize) (uint-makes 𝓤 H A W w64) i _ (refl, omega (arith, n-fits)) $ fjoin ! $ owned ! usize (Is usize) (uint-makes 𝓤 H A W w64) n _ (refl, n-fits) $ fjoin ! $
       owned ! S.the-row (Is S.the-row) (LL.makes S.the-type S′.the-plain 𝓤 H A) start (sval start ∷ []) is₀ $ fjoin ! $ nothing ! $ join ! $ frame ! $ done !
 
-  at-said : (i r : ℕ) → ent 𝓤 (ensured 𝓤 H A at.ended (at.clauses 𝓤 H A mem run) tt (start, (n, (i, tt))) tt r) (fact 𝓤 (r ≡ Walk.place (start .far) n i))
-  at-said i r = exE 𝓤 _ (λ ws. snd∗ 𝓤 (sem 𝓤 H A (lasts at.ended tt (start, (n, (i, tt))) ws)) (fact 𝓤 (r ≡ Walk.place (start .far) n i)))
+  at-said : (i r : ℕ) → ent 𝓤 (ensured 𝓤 H A at.ended (at.clauses 𝓤 H A mem run) tt (start, (n, (i, tt))) tt r) (fact 𝓤 (r ≡ Walk.nth-index (start .far) n i))
+  at-said i r = exE 𝓤 _ (λ ws. snd∗ 𝓤 (sem 𝓤 H A (lasts at.ended tt (start, (n, (i, tt))) ws)) (fact 𝓤 (r ≡ Walk.nth-index (start .far) n i)))
 
   -- the call of `step`
   abbrev to-step : Pending → Val → ThinFilmLayer → Step 𝓤 H A mem run .Ghost
@@ -236,10 +236,10 @@ module _ {M : Type 1} (𝓤 : URA M) (H : Heap 𝓤) (A : Atoms 𝓤) (W : Given
 
         -- where the layer stands, and the layer
         abbrev j : ℕ
-        j = Walk.place (start .far) n i
+        j = Walk.nth-index (start .far) n i
 
         abbrev y : ThinFilmLayer
-        y = getD ys j blank
+        y = getD ys j no-layer
 
         lj : j < lent
         lj = Order.inside start ys i l
@@ -271,10 +271,10 @@ module _ {M : Type 1} (𝓤 : URA M) (H : Heap 𝓤) (A : Atoms 𝓤) (W : Given
             assigns ! (bin ! (load ! (from ! (stop !)) (look ! 12 refl)) (lit ! tt) (record { fits = bytes-fit })) (from ! (stop !)) (init ! 6 refl (tt, record { fits = bytes-fit })) $
             assigns ! (bin ! (load ! (from ! (fld ! refl (stop !))) (look-in ! 22 (sub ! 0 refl (whole !)))) (load ! (from ! (stop !)) (look ! 6 refl)) tt) (from ! (stop !)) (init ! 4 refl (tt, tt)) $
             rewrite ! 4 (λ (p : ℕ). ‵ (fat fullShare tyPtr l₁₀ 0 (vptr b p))) (sym (place-is 24 o j)) refl $
-            elem-out ! L.the-row (Is L.the-row) (shows 𝓤 H A L.the-row) lvals (LL.tells L.the-type L′.the-laws) q′ ys j blank b o lj (λ g.
+            elem-out ! L.the-row (Is L.the-row) (shows 𝓤 H A L.the-row) lvals (LL.tells L.the-type L′.the-laws) q′ ys j no-layer b o lj (λ g.
             -- [the layer's cell; what it owns; the others; the open borrow; _11; …]
             assigns ! (of-opd ! (load ! (from ! (hop ! (look ! 6 refl) (stop !))) (look-raw ! 0 refl))) (from ! (stop !)) (init ! 4 refl (LL.lawful L.the-type L′.the-laws 𝓤 H A W .typed y _ g .0)) $
-            elem-back ! L.the-row q′ ys j blank (lvals y) b o lj $
+            elem-back ! L.the-row q′ ys j no-layer (lvals y) b o lj $
             -- _4 is step(_4, _11)
             use0 W (raw (Step 𝓤 H A mem run .pre (to-step acc u y))) (goes-step acc u y is g) $
             calls-at ! fm (Step 𝓤 H A mem run) known-step (to-step acc u y) (and-then ! (load ! (from ! (stop !)) (look ! 17 refl)) (and-then ! (load ! (from ! (stop !)) (look ! 3 refl)) (no-more !))) (λ w′.
@@ -284,7 +284,7 @@ module _ {M : Type 1} (𝓤 : URA M) (H : Heap 𝓤) (A : Atoms 𝓤) (W : Given
             -- i is one more
             assigns-last ! (bin ! (load ! (from ! (stop !)) (look ! 14 refl)) (lit ! tt) (record { fits = next-fits })) (from ! (stop !)) (store ! 14 refl (tt, record { fits = next-fits })) $
             forget ! 2 refl $ forget ! 4 refl $ forget ! 6 refl $ forget ! 8 refl $ forget ! 12 refl $
-            again ! Nearer Inv s (i + 1, r′, w′, add-one-le l, is′, ap (λ (a : Pending). Walk.steps a (drop (i + 1) ls)) e′ ∙ Order.turns start ys acc i blank l ∙ left) (add-one-dec n i l))))))))))
+            again ! Nearer Inv s (i + 1, r′, w′, add-one-le l, is′, ap (λ (a : Pending). Walk.steps a (drop (i + 1) ls)) e′ ∙ Order.turns start ys acc i no-layer l ∙ left) (add-one-dec n i l))))))))))
 
       -- the turn that leaves the loop, and the rest of the body
       ends : (s : St) → s .0 ≡ n → Sq W (Inv s) (runs C Λ En pieces.turn-1 (anyQ (Turned s)))

@@ -10,19 +10,19 @@ use borrow.Author.Tests.{eq-eqb, ne-eqb}
 use Rattle.refusal.specs.Outcome.{invalid-parameter}
 use Rattle.thin_film.specs.declared.SurfaceCoating.{SurfaceCoating}
 use Rattle.thin_film.specs.Evaluate.{evaluate-surface}
-use Rattle.flat_layers.specs.declared.Coded.{Coded}
-use Rattle.flat_layers.specs.declared.Coded.the-variants as K
+use Rattle.limits.specs.declared.Interface.{Interface}
+use Rattle.limits.specs.declared.Interface.the-variants.{Bare, Coated}
 use Rattle.flat_layers.specs.Evaluate.{layers, evaluate-coded}
 use borrow.Author.Needs.{needs}
 use Rattle.flat_layers.proofs.evaluate_coded.Statement.{statement}
 use Rattle.flat_layers.proofs.evaluate_coded.Tie as tie
 
-module _ (flat : List Float) (whole : length flat % 3 ≡ 0) (n-incident n-substrate angle wavelength : Float) (k : Coded) where
-  known : (s : SurfaceCoating) → k ≡ K.Known s → evaluate-surface s (layers flat) n-incident n-substrate angle wavelength ≡ cond (eqb (length flat % 3) 0) (evaluate-coded k flat n-incident n-substrate angle wavelength) invalid-parameter
+module _ (flat : List Float) (whole : length flat % 3 ≡ 0) (n-incident n-substrate angle wavelength : Float) (k : Interface) where
+  known : (s : SurfaceCoating) → k ≡ Coated s → evaluate-surface s (layers flat) n-incident n-substrate angle wavelength ≡ cond (eqb (length flat % 3) 0) (evaluate-coded k flat n-incident n-substrate angle wavelength) invalid-parameter
   unfolding evaluate-coded
   known s e = simp (eq-eqb _ _ whole, e)
 
-  unknown : k ≡ K.Unknown → invalid-parameter ≡ cond (eqb (length flat % 3) 0) (evaluate-coded k flat n-incident n-substrate angle wavelength) invalid-parameter
+  unknown : k ≡ Bare → invalid-parameter ≡ cond (eqb (length flat % 3) 0) (evaluate-coded k flat n-incident n-substrate angle wavelength) invalid-parameter
   unfolding evaluate-coded
   unknown e = simp (eq-eqb _ _ whole, e)
 

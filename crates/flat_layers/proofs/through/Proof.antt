@@ -9,7 +9,7 @@ use lib.Ieee.{Float}
 use Rattle.transfer_matrix.specs.declared.ThinFilmLayer.{ThinFilmLayer}
 use Rattle.transfer_matrix.specs.declared.Stack.{Stack}
 use Rattle.transfer_matrix.specs.Stack.{step, steps}
-use Rattle.evaluation.specs.Walk.{ordered, blank, place}
+use Rattle.evaluation.specs.Walk.{ordered, no-layer, nth-index}
 use Rattle.evaluation.proofs.Order.{done, as-long, within, goes-on}
 use Rattle.flat_layers.specs.Evaluate.{layers}
 use Rattle.flat_layers.proofs.Triples.{count}
@@ -26,13 +26,13 @@ abbrev μ-loop : tie.MeasureT-loop
 loop-holds : tie.Need-loop-holds Inv-loop μ-loop
 loop-holds c = (search needs, refl)
 
-place-requires : tie.Need-place-requires Inv-loop μ-loop
-place-requires c κs = search needs
+nth-index-requires : tie.Need-nth-index-requires Inv-loop μ-loop
+nth-index-requires c κs = search needs
 
 layer-at-requires : tie.Need-layer-at-requires Inv-loop μ-loop
 layer-at-requires c κs =
     let n : ℕ = length (c .before .before .before .before .args .flat .now) / 3 in
-    omega (arith, c .place .ensures, within (c .before .before .before .before .args .far) n (c .before .before .loop .i) (omega arith))
+    omega (arith, c .nth-index .ensures, within (c .before .before .before .before .args .far) n (c .before .before .loop .i) (omega arith))
 
 step-requires : tie.Need-step-requires Inv-loop μ-loop
 step-requires c κs = search needs
@@ -51,10 +51,10 @@ loop-again c =
     let i : ℕ = c .before .before .before .before .loop .i in
     let k : Stack = c .before .before .before .before .loop .stack in
     let l : i < length ls = omega arith in
-    let j-is : c .before .before .place .result ≡ place far (length ls) i = c .before .before .place .ensures ∙ ap (λ (m : ℕ). place far m i) n-is in
-    let layer-is : c .before .layer-at .result ≡ getD ls (place far (length ls) i) blank = c .before .layer-at .ensures ∙ ap (λ (m : ℕ). getD ls m blank) j-is in (
+    let j-is : c .before .before .nth-index .result ≡ nth-index far (length ls) i = c .before .before .nth-index .ensures ∙ ap (λ (m : ℕ). nth-index far m i) n-is in
+    let layer-is : c .before .layer-at .result ≡ getD ls (nth-index far (length ls) i) no-layer = c .before .layer-at .ensures ∙ ap (λ (m : ℕ). getD ls m no-layer) j-is in (
       search needs,
-      ap (λ (a : Stack). steps a (drop (i + 1) (ordered far ls))) (c .step .ensures ∙ ap (step k) layer-is) ∙ goes-on far ls k i blank l ∙ c .before .before .before .before .loop .inv .1,
+      ap (λ (a : Stack). steps a (drop (i + 1) (ordered far ls))) (c .step .ensures ∙ ap (step k) layer-is) ∙ goes-on far ls k i no-layer l ∙ c .before .before .before .before .loop .inv .1,
     )
 
 returns : tie.Need-returns Inv-loop μ-loop
@@ -69,7 +69,7 @@ through-spec =
     Inv-loop
     μ-loop
     loop-holds
-    place-requires
+    nth-index-requires
     layer-at-requires
     step-requires
     add-i

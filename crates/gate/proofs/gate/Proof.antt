@@ -9,7 +9,7 @@ use Rattle.refusal.specs.Outcome.{refusal, map}
 use Rattle.sheet.specs.Claim.{length-fits}
 use Rattle.sheet.specs.Read.{Result, read, fault, decode}
 use Rattle.sheet.specs.Sheet.{Sheet}
-use Rattle.sheet.specs.Scan.{counted, verdict-of}
+use Rattle.sheet.specs.Scan.{surface-count, verdict-of}
 use Rattle.sheet.proofs.Scan.{never}
 use Rattle.gate.specs.Gate.{within-limits, surfaces-of, gated, gate}
 use Rattle.gate.proofs.gate.Statement.{statement}
@@ -23,10 +23,10 @@ right-length : (src : List ℕ) → length-fits src ≡ true → map surfaces-of
 unfolding gate gated
 right-length src e = simp e
 
-out-of-grammar : (src : List ℕ) (place : ℕ) → length-fits src ≡ true → counted (decode src) ≡ fault place → refusal 5 place ≡ gate src
+out-of-grammar : (src : List ℕ) (place : ℕ) → length-fits src ≡ true → surface-count (decode src) ≡ fault place → refusal 5 place ≡ gate src
 out-of-grammar src place e f = go (decode src) f ∙ right-length src e
   where
-    go : (q : Result Sheet) → counted q ≡ fault place → refusal 5 place ≡ map surfaces-of (within-limits q)
+    go : (q : Result Sheet) → surface-count q ≡ fault place → refusal 5 place ≡ map surfaces-of (within-limits q)
     go (read x) f = never (cc)
     go (fault q) f = cc
 

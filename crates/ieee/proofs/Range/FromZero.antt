@@ -7,9 +7,11 @@ use mathlib.Core.Bool.{true, false, not, _||_, Bool·beq}
 use lib.Dec.{T, ltb, eqb, ltb→lt, eqb→eq, not-T}
 use lib.IntN.{pos}
 use lib.Ieee.{Float, nan, inf, fin, up, down, le, eq}
-use lib.Ieee.Fits.{and-l, down-pos}
+use lib.Ieee.Scale.{finite}
+use lib.Ieee.Bits.{is-true}
+use lib.Ieee.Fits.{and-l, and-i, down-pos}
 use lib.Ieee.Positive.{num, den, den-pos, through}
-use Rattle.ieee.specs.Functions.{zero-f}
+use Rattle.ieee.specs.Functions.{zero-f, finite-positive}
 use Rattle.ieee.specs.Range.{Mag, In, clear, plus}
 use Rattle.ieee.proofs.Signs.{zero-is}
 use Rattle.ieee.proofs.Range.Round.{lt-or-eq, le-cross}
@@ -53,7 +55,7 @@ plus-clear nan p = absurd p
 plus-clear (inf s) p = absurd p
 plus-clear (fin s m e) p = p
 
-pub above-zero : {a i p j : ℕ} {x : Float} → In a i p j x → T (ltb 0 a) → T (not (le x zero-f))
+above-zero : {a i p j : ℕ} {x : Float} → In a i p j x → T (ltb 0 a) → T (not (le x zero-f))
 above-zero {a} {i} {p} {j} {x} h t = not-T (le x zero-f) (λ u. none (num x) (den x) a i (den-pos x) (h .least) (ltb→lt 0 a t) (zero-cross u))
   where
     zero-cross : T (le x zero-f) → num x ≡ 0
@@ -61,3 +63,8 @@ above-zero {a} {i} {p} {j} {x} h t = not-T (le x zero-f) (λ u. none (num x) (de
 
     none : (n d a i : ℕ) → 0 < d → a * d ≤ n * 2 ^ i → 0 < a → n ≡ 0 → ⊥
     none n d a i D h A e = not-le-of-lt (mul-pos A D) (le-trans h (le-of-eq (ap (λ (m : ℕ). m * 2 ^ i) e ∙ zero-mul (2 ^ i))))
+
+-- ---- finite and not x <= 0
+pub in-positive : {a i p j : ℕ} {x : Float} → In a i p j x → T (ltb 0 a) → finite-positive x ≡ true
+unfolding finite-positive
+in-positive {x = x} h t = is-true _ (and-i (finite x) (not (le x zero-f)) (plus-finite x (h .sign)) (above-zero h t))

@@ -1,5 +1,5 @@
 -- `limits::judge_surface` meets its contract. Assumes nothing.
-use mathlib.Core.Path.{_≡_, ap}
+use mathlib.Core.Path.{_≡_}
 use mathlib.Core.Bool.{Bool}
 use lib.Ieee.{Float}
 use Rattle.ieee.specs.Operators.{_⊗_}

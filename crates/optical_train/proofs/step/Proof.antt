@@ -20,7 +20,7 @@ use Rattle.gate.specs.Gate as Gate
 use Rattle.gate.specs.Gate.{gate}
 use Rattle.gate.proofs.Admitted.{admitted, turned-back}
 use Rattle.optical_train.specs.declared.State.{State}
-use Rattle.optical_train.specs.Train.{past, stepped, step}
+use Rattle.optical_train.specs.Train.{after-one, stepped, step}
 use Rattle.optical_train.proofs.step.Statement.{statement}
 use Rattle.optical_train.proofs.step.Tie as tie
 
@@ -33,7 +33,7 @@ module _ (src : List ℕ) (st : State) where
         rw (a .is, le-ltb (st .done) (length (a .sheet .surfaces)) (omega (arith, a .counts)))
 
     one-more : st .done < n → (at : ℕ) → at ≡ place src (st .done)
-        → (w : Float) → w ≡ value (float src 2) → (next : State) → next ≡ past w st (surface-at src at (layers-at src (at + 7) (layer-run 16 src at)))
+        → (w : Float) → w ≡ value (float src 2) → (next : State) → next ≡ after-one w st (surface-at src at (layers-at src (at + 7) (layer-run 16 src at)))
         → record { refusal = record { number = 0; place = 0 }; state = next } ≡ step src st
     unfolding step
     one-more h at q w ew next en =
@@ -41,7 +41,7 @@ module _ (src : List ℕ) (st : State) where
         let d : st .done < length (a .sheet .surfaces) = omega (arith, a .counts) in
         rw (a .is, lt-ltb (st .done) (length (a .sheet .surfaces)) d)
         (ap (λ (z : State). record { refusal = record { number = 0; place = 0 }; state = z })
-        (en ∙ ap (past w st) (placed src (st .done) at q (a .sheet) (a .reads) d) ∙ ap (λ (z : Float). past z st (nth (a .sheet .surfaces) (st .done))) (ew ∙ ap value (sym (begins src (a .sheet) (a .reads) .wavelength)))))
+        (en ∙ ap (after-one w st) (placed src (st .done) at q (a .sheet) (a .reads) d) ∙ ap (λ (z : Float). after-one z st (nth (a .sheet .surfaces) (st .done))) (ew ∙ ap value (sym (begins src (a .sheet) (a .reads) .wavelength)))))
 
   not-taken : (r : Refusal) → refused r ≡ gate src → record { refusal = r; state = st } ≡ step src st
   unfolding step
@@ -62,17 +62,17 @@ place-of-requires c κs = search needs
 float-from-requires : tie.Need-float-from-requires
 float-from-requires c κs = search needs
 
-past-requires : tie.Need-past-requires
-past-requires c κs = search needs
+after-one-requires : tie.Need-after-one-requires
+after-one-requires c κs = search needs
 
 enum-known-refusal : tie.Need-enum-known-refusal
 enum-known-refusal c = search needs
 
 returns-2 : tie.Need-returns-2
-returns-2 c = one-more _ _ _ (sym (ap Gate.outcome (c .before .before .before .before .before .before .count .given .1)) ∙ c .before .before .before .before .before .before .before .before .gate .ensures) (c .before .before .before .if1 .left) _ (c .before .before .place-of .ensures) _ (c .before .float-from .ensures) _ (c .past .ensures)
+returns-2 c = one-more _ _ _ (sym (ap Gate.outcome (c .before .before .before .before .before .before .count .given .1)) ∙ c .before .before .before .before .before .before .before .before .gate .ensures) (c .before .before .before .if1 .left) _ (c .before .before .place-of .ensures) _ (c .before .float-from .ensures) _ (c .after-one .ensures)
 
 returns-3 : tie.Need-returns-3
 returns-3 c = not-taken _ _ _ (sym (ap Gate.outcome (c .before .refusal .given .1)) ∙ c .before .before .before .gate .ensures)
 
 pub step-spec : {M : Type 1} → statement M
-step-spec = tie.close (tie.spec gate-requires enum-known-count returns place-of-requires float-from-requires past-requires enum-known-refusal returns-2 returns-3)
+step-spec = tie.close (tie.spec gate-requires enum-known-count returns place-of-requires float-from-requires after-one-requires enum-known-refusal returns-2 returns-3)

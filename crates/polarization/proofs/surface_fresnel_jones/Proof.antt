@@ -1,12 +1,13 @@
 -- `polarization::surface_fresnel_jones` meets its contract. Assumes nothing.
-use mathlib.Core.Path.{sym}
+use mathlib.Core.Path.{sym, _∙_}
+use borrow.Author.Tests.{not-true, not-false}
 use Rattle.polarization.specs.Surface.{returned, surface-fresnel-jones}
 use borrow.Author.Needs.{needs}
 use Rattle.polarization.proofs.surface_fresnel_jones.Statement.{statement}
 use Rattle.polarization.proofs.surface_fresnel_jones.Tie as tie
 
-invalid-requires : tie.Need-invalid-requires
-invalid-requires c κs = search needs
+indices-valid-requires : tie.Need-indices-valid-requires
+indices-valid-requires c κs = search needs
 
 zero-requires : tie.Need-zero-requires
 zero-requires c κs = search needs
@@ -19,7 +20,7 @@ diattenuator-requires c κs = search needs
 
 returns : tie.Need-returns
 unfolding returned surface-fresnel-jones
-returns c = simp (c .diattenuator .ensures, c .before .zero2 .ensures, c .before .before .zero .ensures, sym (c .before .before .before .before .invalid .ensures), c .before .before .before .if1 .taken)
+returns c = simp (c .diattenuator .ensures, c .before .zero2 .ensures, c .before .before .zero .ensures, sym (c .before .before .before .before .indices-valid .ensures) ∙ not-true _ (c .before .before .before .if1 .taken))
 
 sin-cos-requires : tie.Need-sin-cos-requires
 sin-cos-requires c κs = search needs
@@ -29,13 +30,13 @@ bare-requires c κs = search needs
 
 returns-2 : tie.Need-returns-2
 unfolding returned surface-fresnel-jones
-returns-2 c = simp (c .bare .ensures, c .before .sin-cos .ensures, sym (c .before .before .before .invalid .ensures), c .before .before .if1 .left)
+returns-2 c = simp (c .bare .ensures, c .before .sin-cos .ensures, sym (c .before .before .before .indices-valid .ensures) ∙ not-false _ (c .before .before .if1 .left))
 
 pub surface-fresnel-jones-spec : {M : Type 1} → statement M
 surface-fresnel-jones-spec =
     tie.close
     (tie.spec
-    invalid-requires
+    indices-valid-requires
     zero-requires
     zero-requires-2
     diattenuator-requires

@@ -16,11 +16,11 @@ powi2-requires c κs = search needs
 atan-requires-2 : tie.Need-atan-requires-2
 atan-requires-2 c κs = search needs
 
-turned-requires : tie.Need-turned-requires
-turned-requires c κs = search needs
+phase-factor-requires : tie.Need-phase-factor-requires
+phase-factor-requires c κs = search needs
 
-turned-requires-2 : tie.Need-turned-requires-2
-turned-requires-2 c κs = search needs
+phase-factor-requires-2 : tie.Need-phase-factor-requires-2
+phase-factor-requires-2 c κs = search needs
 
 diattenuator-requires : tie.Need-diattenuator-requires
 diattenuator-requires c κs = search needs
@@ -36,7 +36,7 @@ diattenuator-requires-2 c κs = search needs
 
 returns : tie.Need-returns
 unfolding rs-phase rp-phase totally-reflected
-returns c = simp (c .diattenuator2 .ensures, c .before .zero2 .ensures, c .before .before .zero .ensures, c .before .before .before .diattenuator .ensures, c .before .before .before .before .turned2 .ensures, c .before .before .before .before .before .turned .ensures, c .before .before .before .before .before .before .atan2 .ensures, c .before .before .before .before .before .before .before .powi2 .ensures, c .before .before .before .before .before .before .before .before .atan .ensures, c .before .before .before .before .before .before .before .before .before .excess .ensures)
+returns c = simp (c .diattenuator2 .ensures, c .before .zero2 .ensures, c .before .before .zero .ensures, c .before .before .before .diattenuator .ensures, c .before .before .before .before .phase-factor2 .ensures, c .before .before .before .before .before .phase-factor .ensures, c .before .before .before .before .before .before .atan2 .ensures, c .before .before .before .before .before .before .before .powi2 .ensures, c .before .before .before .before .before .before .before .before .atan .ensures, c .before .before .before .before .before .before .before .before .before .excess .ensures)
 
 pub totally-reflected-spec : {M : Type 1} → statement M
 totally-reflected-spec =
@@ -46,8 +46,8 @@ totally-reflected-spec =
     atan-requires
     powi2-requires
     atan-requires-2
-    turned-requires
-    turned-requires-2
+    phase-factor-requires
+    phase-factor-requires-2
     diattenuator-requires
     zero-requires
     zero-requires-2

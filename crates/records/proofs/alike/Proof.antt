@@ -1,6 +1,6 @@
 -- `records::alike` meets its contract. Assumes nothing.
-use mathlib.Core.Path.{_≡_, refl, sym, _∙_}
-use Prim.Native.Nat.{_+_, _-_, _≤_}
+use mathlib.Core.Path.{_≡_, refl, _∙_}
+use Prim.Native.Nat.{_-_, _≤_}
 use lib.ListN.{length, drop}
 use Rattle.records.specs.Words.{agree}
 use Rattle.records.proofs.Words.{goes-on, differs, counted}

@@ -1,6 +1,5 @@
 -- `records::bits` meets its contract. Assumes nothing.
 use Rattle.records.proofs.Words.{no-nan, number, no-number}
-use borrow.Author.Needs.{needs}
 use Rattle.records.proofs.bits.Statement.{statement}
 use Rattle.records.proofs.bits.Tie as tie
 

@@ -9,28 +9,28 @@ use native.Mathlib.Omega.{arith}
 use lib.Dec.{eqb}
 use lib.ListN.{length, getD}
 use borrow.Author.Tests.{eqb-true, eq-eqb}
-use Rattle.sheet.specs.Sheet.{Layer, Surface, All, kind-word}
+use Rattle.sheet.specs.Sheet.{SheetLayer, SheetSurface, All, kind-word}
 use Rattle.sheet.specs.Words.{word, payload}
 use Rattle.sheet.specs.Read.{room-after, layer-at, surface-at}
 use Rattle.sheet.proofs.Claim.WordBytes.{Byte}
 use Rattle.sheet.proofs.Claim.Tail.{tail, Good, tail-end, tail-layer, tail-surface, Same, same-head, float-lt, same-block, same-after}
-use Rattle.sheet.proofs.Claim.Found.{IsSurface, IsLayer}
+use Rattle.sheet.proofs.Standing.{IsSurface, IsLayer}
 
-pub record Agree (src : List ℕ) (at done room : ℕ) (ls : List Layer) (xs : List Surface) (n : ℕ) : Type 0 where
+pub record Agree (src : List ℕ) (at done room : ℕ) (ls : List SheetLayer) (xs : List SheetSurface) (n : ℕ) : Type 0 where
   pub good : Good done room ls xs
   pub long : n ≤ at + length (tail done ls xs)
   pub same : Same src at (tail done ls xs) n
 
 -- ---- the room after a SURFACE
-pub room-custom : (p : ℕ) (ls : List Layer) → length ls ≤ room-after p → (length ls ≤ 16) × ((ls ≡ []) ⊎ (p / 2 ≡ 5))
+pub room-custom : (p : ℕ) (ls : List SheetLayer) → length ls ≤ room-after p → (length ls ≤ 16) × ((ls ≡ []) ⊎ (p / 2 ≡ 5))
 room-custom p ls = by (eqb (p / 2) 5) refl ls
   where
-    by : (t : Bool) → eqb (p / 2) 5 ≡ t → (ls : List Layer) → length ls ≤ cond t 16 0 → (length ls ≤ 16) × ((ls ≡ []) ⊎ (p / 2 ≡ 5))
+    by : (t : Bool) → eqb (p / 2) 5 ≡ t → (ls : List SheetLayer) → length ls ≤ cond t 16 0 → (length ls ≤ 16) × ((ls ≡ []) ⊎ (p / 2 ≡ 5))
     by true e ls le = (le, inr (eqb-true (p / 2) 5 e))
     by false e [] le = (omega arith, inl refl)
     by false e (l ∷ ls) le = absurd (omega arith)
 
-pub custom-room : (p : ℕ) (ls : List Layer) → length ls ≤ 16 → (ls ≡ []) ⊎ (p / 2 ≡ 5) → length ls ≤ room-after p
+pub custom-room : (p : ℕ) (ls : List SheetLayer) → length ls ≤ 16 → (ls ≡ []) ⊎ (p / 2 ≡ 5) → length ls ≤ room-after p
 custom-room p ls le (inl e) = let z : length ls ≡ 0 = ap length e in omega arith
 custom-room p ls le (inr e) = rw (eq-eqb (p / 2) 5 e) le
 
@@ -47,7 +47,7 @@ end-agree src at done room n le long w = record {
     by (suc i) lt = absurd (omega arith)
 
 -- ---- a SURFACE in front
-module _ (src : List ℕ) (bs : All Byte src) (at done room : ℕ) (ls : List Layer) (xs : List Surface) (n : ℕ) where
+module _ (src : List ℕ) (bs : All Byte src) (at done room : ℕ) (ls : List SheetLayer) (xs : List SheetSurface) (n : ℕ) where
   pub surface-front : IsSurface (word src at) done → Agree src (at + 7) (suc done) (room-after (payload (word src at))) ls xs n →
       Agree src at done room [] (surface-at src at ls ∷ xs) n
   surface-front s a = record {
@@ -86,7 +86,7 @@ module _ (src : List ℕ) (bs : All Byte src) (at done room : ℕ) (ls : List La
 
 -- ---- the block in front taken away
 module _ (src : List ℕ) (at done room n : ℕ) (lt : at < n) where
-  pub surface-back : (x : Surface) (xs : List Surface) → Agree src at done room [] (x ∷ xs) n →
+  pub surface-back : (x : SheetSurface) (xs : List SheetSurface) → Agree src at done room [] (x ∷ xs) n →
       IsSurface (word src at) done × (payload (word src at) ≡ x .payload) × Agree src (at + 7) (suc done) (room-after (payload (word src at))) (x .layers) xs n
   surface-back x xs a =
       let same = rw (tail-surface done x xs) at (a .same) in
@@ -107,7 +107,7 @@ module _ (src : List ℕ) (at done room n : ℕ) (lt : at < n) where
         },
       )
 
-  pub layer-back : (l : Layer) (ls : List Layer) (xs : List Surface) → Agree src at done room (l ∷ ls) xs n →
+  pub layer-back : (l : SheetLayer) (ls : List SheetLayer) (xs : List SheetSurface) → Agree src at done room (l ∷ ls) xs n →
       IsLayer (word src at) room × Agree src (at + 7) done (room - 1) ls xs n
   layer-back l ls xs a =
       let same = rw (tail-layer done l ls xs) at (a .same) in

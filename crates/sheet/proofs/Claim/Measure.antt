@@ -5,21 +5,21 @@ use mathlib.Core.List.{List, [], _∷_, _++_, List·Memᴰ, List·Memᴰ·head, 
 use Prim.Native.Nat.{ℕ, zero, suc, _+_, _*_, _≤_, _<_}
 use native.Mathlib.Omega.{arith}
 use lib.ListN.{length}
-use Rattle.sheet.specs.Sheet.{Layer, Surface, Sheet, All, GoodLayer, GoodSurface, WellFormed, Pattern, words, layer-places, surface-places, places}
+use Rattle.sheet.specs.Sheet.{SheetLayer, SheetSurface, Sheet, All, GoodLayer, GoodSurface, WellFormed, Pattern, words, layer-places, surface-places, places}
 use Rattle.sheet.proofs.Claim.WordBytes.{Word}
 use Rattle.sheet.proofs.Claim.Tail.{block, tail, tail-end, tail-layer, tail-surface, words-tail, words-length}
 
 -- ---- the length
 -- SURFACEs and LAYERs
-blocks : List Surface → ℕ
+blocks : List SheetSurface → ℕ
 blocks [] = 0
 blocks (x ∷ xs) = suc (length (x .layers)) + blocks xs
 
-length-layers : (done : ℕ) (ls : List Layer) (xs : List Surface) → length (tail done ls xs) ≡ 7 * length ls + length (tail done [] xs)
+length-layers : (done : ℕ) (ls : List SheetLayer) (xs : List SheetSurface) → length (tail done ls xs) ≡ 7 * length ls + length (tail done [] xs)
 length-layers done [] xs = omega arith
 length-layers done (l ∷ ls) xs = let ih = length-layers done ls xs in rw (tail-layer done l ls xs) (omega arith)
 
-length-tail : (done : ℕ) (xs : List Surface) → length (tail done [] xs) ≡ 7 * blocks xs + 1
+length-tail : (done : ℕ) (xs : List SheetSurface) → length (tail done [] xs) ≡ 7 * blocks xs + 1
 unfolding blocks
 length-tail done [] = rw (tail-end done)
 length-tail done (x ∷ xs) = let ih = length-tail (suc done) xs in rw (tail-surface done x xs) (omega (arith, length-layers (suc done) (x .layers) xs))
@@ -27,7 +27,7 @@ length-tail done (x ∷ xs) = let ih = length-tail (suc done) xs in rw (tail-sur
 length-words : (x : Sheet) → length (words x) ≡ 9 + 7 * blocks (x .surfaces)
 length-words x = omega (arith, words-length x, length-tail 0 (x .surfaces))
 
-few-blocks : (xs : List Surface) → All GoodSurface xs → blocks xs ≤ 17 * length xs
+few-blocks : (xs : List SheetSurface) → All GoodSurface xs → blocks xs ≤ 17 * length xs
 unfolding blocks
 few-blocks [] h = omega arith
 few-blocks (x ∷ xs) h = let ih = few-blocks xs (h .1) in omega (arith, h .0 .few)
@@ -40,12 +40,12 @@ length-limits x h = omega (arith, length-words x, few-blocks (x .surfaces) (h .s
 words-block : (w a b c : ℕ) (more : List ℕ) → Word w → Pattern a → Pattern b → Pattern c → All Word more → All Word (block w a b c more)
 words-block w a b c more hw ha hb hc hm = (hw, (omega arith, (omega arith, (omega arith, (omega arith, (omega arith, (omega arith, hm)))))))
 
-words-layers : (done : ℕ) (ls : List Layer) (xs : List Surface) → All GoodLayer ls → All Word (tail done [] xs) → All Word (tail done ls xs)
+words-layers : (done : ℕ) (ls : List SheetLayer) (xs : List SheetSurface) → All GoodLayer ls → All Word (tail done [] xs) → All Word (tail done ls xs)
 words-layers done [] xs hl hx = hx
 words-layers done (l ∷ ls) xs hl hx =
     rw (tail-layer done l ls xs) (words-block _ (l .n) (l .k) (l .thickness) (tail done ls xs) (omega arith) (hl .0 .n) (hl .0 .k) (hl .0 .thickness) (words-layers done ls xs (hl .1) hx))
 
-words-surfaces : (done : ℕ) (xs : List Surface) → done + length xs ≤ 64 → All GoodSurface xs → All Word (tail done [] xs)
+words-surfaces : (done : ℕ) (xs : List SheetSurface) → done + length xs ≤ 64 → All GoodSurface xs → All Word (tail done [] xs)
 words-surfaces done [] few h = rw (tail-end done) (omega arith, tt)
 words-surfaces done (x ∷ xs) few h =
     let g = h .0 in
@@ -67,12 +67,12 @@ Place p = (p ≡ 0) ⊎ ((p ≡ 1) ⊎ Steps 8 p)
 on : (at p k : ℕ) → Steps (at + 7 * k) p → Steps at p
 on at p k s = (k + s .0, omega (arith, s .1))
 
-layer-steps : (at p : ℕ) (ls : List Layer) → List·Memᴰ p (layer-places at ls) → Steps at p
+layer-steps : (at p : ℕ) (ls : List SheetLayer) → List·Memᴰ p (layer-places at ls) → Steps at p
 unfolding layer-places
 layer-steps at p [] m = absurd (List·Memᴰ·not-nil m)
 layer-steps at p (l ∷ ls) m = ⊎-elim (λ e. (0, omega arith)) (λ t. on at p 1 (layer-steps (at + 7) p ls t)) (List·Memᴰ·cases-cons m)
 
-surface-steps : (at p : ℕ) (xs : List Surface) → List·Memᴰ p (surface-places at xs) → Steps at p
+surface-steps : (at p : ℕ) (xs : List SheetSurface) → List·Memᴰ p (surface-places at xs) → Steps at p
 unfolding surface-places
 surface-steps at p [] m = (0, omega (arith, List·Memᴰ·eq-of-singleton m))
 surface-steps at p (x ∷ xs) m =
@@ -86,7 +86,7 @@ unfolding places
 place-of x p m = ⊎-elim inl (λ t. inr (⊎-elim inl (λ u. inr (surface-steps 8 p (x .surfaces) u)) (List·Memᴰ·cases-cons t))) (List·Memᴰ·cases-cons m)
 
 -- the other way: past the LAYERs, and then past the SURFACEs
-past-layers : (at i : ℕ) (ls : List Layer) (ys : List ℕ) → ((j : ℕ) → i ≡ length ls + j → List·Memᴰ (at + 7 * i) ys) → List·Memᴰ (at + 7 * i) (layer-places at ls ++ ys)
+past-layers : (at i : ℕ) (ls : List SheetLayer) (ys : List ℕ) → ((j : ℕ) → i ≡ length ls + j → List·Memᴰ (at + 7 * i) ys) → List·Memᴰ (at + 7 * i) (layer-places at ls ++ ys)
 unfolding layer-places
 past-layers at i [] ys f = f i (omega arith)
 past-layers at zero (l ∷ ls) ys f = List·Memᴰ·head {x = at} (omega arith)
@@ -94,7 +94,7 @@ past-layers at (suc i) (l ∷ ls) ys f =
     let r : at + 7 * suc i ≡ at + 7 + 7 * i = omega arith in
     List·Memᴰ·tail (Memᴰ·cast r (past-layers (at + 7) i ls ys (λ j e. Memᴰ·cast (sym r) (f j (omega arith)))))
 
-steps-surface : (at i : ℕ) (xs : List Surface) → i ≤ blocks xs → List·Memᴰ (at + 7 * i) (surface-places at xs)
+steps-surface : (at i : ℕ) (xs : List SheetSurface) → i ≤ blocks xs → List·Memᴰ (at + 7 * i) (surface-places at xs)
 unfolding blocks surface-places
 steps-surface at i [] le = List·Memᴰ·head {x = at} (omega arith)
 steps-surface at zero (x ∷ xs) le = List·Memᴰ·head {x = at} (omega arith)

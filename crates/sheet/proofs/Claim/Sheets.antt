@@ -9,7 +9,7 @@ use native.Mathlib.Omega.{arith}
 use lib.Dec.{eqb}
 use lib.ListN.{length, getD}
 use borrow.Author.Tests.{eqb-true, eqb-false, eq-eqb}
-use Rattle.sheet.specs.Sheet.{Layer, Surface, Sheet, WellFormed, kind-word, words}
+use Rattle.sheet.specs.Sheet.{SheetLayer, SheetSurface, Sheet, WellFormed, kind-word, words}
 use Rattle.sheet.specs.Words.{word, count, float}
 use Rattle.sheet.specs.Read.{Result, read, fault, Rest, rest, found, with-beam, decode}
 use Rattle.sheet.specs.Claim.{Bytes, Agrees, OutOfGrammar, CutOff, Fault}
@@ -21,16 +21,16 @@ use Rattle.sheet.proofs.Claim.Measure.{place-of, of-place}
 
 -- ---- from the blocks to the sheet
 -- the BEAM of some bytes, and SURFACEs
-abbrev with-beam-of : List ℕ → List Surface → Sheet
+abbrev with-beam-of : List ℕ → List SheetSurface → Sheet
 with-beam-of src xs = record { wavelength = float src 2; s = float src 4; p = float src 6; surfaces = xs }
 
 -- no LAYER stands before the first SURFACE
-no-layers : (ls : List Layer) → length ls ≤ 0 → ls ≡ []
+no-layers : (ls : List SheetLayer) → length ls ≤ 0 → ls ≡ []
 no-layers [] h = refl
 no-layers (l ∷ ls) h = absurd (omega arith)
 
 module _ (src : List ℕ) (bs : Bytes src) (opens : word src 0 ≡ kind-word 1 1) (beams : word src 1 ≡ kind-word 2 0) where
-  sheet-front : (xs : List Surface) (n : ℕ) → Agree src 8 0 0 [] xs n → Agrees (with-beam-of src xs) src n
+  sheet-front : (xs : List SheetSurface) (n : ℕ) → Agree src 8 0 0 [] xs n → Agrees (with-beam-of src xs) src n
   sheet-front xs n a = record {
     formed = record { wavelength = float-lt src bs 2; s = float-lt src bs 4; p = float-lt src bs 6; surfaces = a .good .surfaces; few = omega (arith, a .good .few) };
     long = omega (arith, words-length (with-beam-of src xs), a .long);

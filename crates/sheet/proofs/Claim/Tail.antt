@@ -5,7 +5,7 @@ use Prim.Native.Nat.{ℕ, zero, suc, _+_, _*_, _/_, _%_, _^_, _≤_, _<_}
 use native.Mathlib.Nat.{zero-add, add-zero, add-suc, suc-add}
 use native.Mathlib.Omega.{arith}
 use lib.ListN.{length, getD}
-use Rattle.sheet.specs.Sheet.{Layer, Surface, Sheet, All, GoodLayer, GoodSurface, kind-word, layer-words, layers-words, surface-words, surfaces-words, beam-words, words}
+use Rattle.sheet.specs.Sheet.{SheetLayer, SheetSurface, Sheet, All, GoodLayer, GoodSurface, kind-word, layer-words, layers-words, surface-words, surfaces-words, beam-words, words}
 use Rattle.sheet.specs.Words.{word, float}
 use Rattle.sheet.proofs.Claim.WordBytes.{Byte, word-lt}
 
@@ -14,11 +14,11 @@ abbrev pub block : ℕ → ℕ → ℕ → ℕ → List ℕ → List ℕ
 block w a b c more = w ∷ a / 2 ^ 32 ∷ a % 2 ^ 32 ∷ b / 2 ^ 32 ∷ b % 2 ^ 32 ∷ c / 2 ^ 32 ∷ c % 2 ^ 32 ∷ more
 
 -- the words after `done` SURFACEs
-unfoldable pub tail : ℕ → List Layer → List Surface → List ℕ
+unfoldable pub tail : ℕ → List SheetLayer → List SheetSurface → List ℕ
 tail done ls xs = layers-words ls ++ (surfaces-words xs ++ (kind-word 5 (done + length xs) ∷ []))
 
 -- the LAYERs find room, and the SURFACEs are not too many
-pub record Good (done room : ℕ) (ls : List Layer) (xs : List Surface) : Type 0 where
+pub record Good (done room : ℕ) (ls : List SheetLayer) (xs : List SheetSurface) : Type 0 where
   pub layers : All GoodLayer ls
   pub fit : length ls ≤ room
   pub surfaces : All GoodSurface xs
@@ -29,11 +29,11 @@ pub tail-end : (done : ℕ) → tail done [] [] ≡ kind-word 5 done ∷ []
 unfolding tail layers-words surfaces-words
 tail-end done = rw (add-zero done)
 
-pub tail-layer : (done : ℕ) (l : Layer) (ls : List Layer) (xs : List Surface) → tail done (l ∷ ls) xs ≡ block (kind-word 4 0) (l .n) (l .k) (l .thickness) (tail done ls xs)
+pub tail-layer : (done : ℕ) (l : SheetLayer) (ls : List SheetLayer) (xs : List SheetSurface) → tail done (l ∷ ls) xs ≡ block (kind-word 4 0) (l .n) (l .k) (l .thickness) (tail done ls xs)
 unfolding tail layers-words layer-words
 tail-layer done l ls xs = rw (append-assoc (layer-words l) (layers-words ls) (surfaces-words xs ++ (kind-word 5 (done + length xs) ∷ [])))
 
-pub tail-surface : (done : ℕ) (x : Surface) (xs : List Surface) →
+pub tail-surface : (done : ℕ) (x : SheetSurface) (xs : List SheetSurface) →
     tail done [] (x ∷ xs) ≡ block (kind-word 3 (x .payload)) (x .n-incident) (x .n-substrate) (x .angle) (tail (suc done) (x .layers) xs)
 unfolding tail layers-words surfaces-words surface-words
 tail-surface done x xs = rw (append-assoc (layers-words (x .layers)) (surfaces-words xs) (kind-word 5 (done + suc (length xs)) ∷ []), add-suc done (length xs), suc-add done (length xs))

@@ -4,12 +4,12 @@ use mathlib.Core.List.{List, [], _∷_}
 use Prim.Native.Nat.{ℕ, zero, suc, _+_, _-_, _*_, _≤_, _<_}
 use native.Mathlib.Omega.{arith}
 use lib.ListN.{length}
-use Rattle.sheet.specs.Sheet.{Layer, Surface, All}
+use Rattle.sheet.specs.Sheet.{SheetLayer, SheetSurface, All}
 use Rattle.sheet.specs.Words.{word, count, payload}
 use Rattle.sheet.specs.Read.{Result, read, fault, Follows, found, Rest, rest, room-after, layer-at, with-layer, surface-at, with-surface}
 use Rattle.sheet.proofs.Claim.WordBytes.{Byte}
 use Rattle.sheet.proofs.Claim.Tail.{tail, tail-end, tail-layer, tail-surface}
-use Rattle.sheet.proofs.Claim.Found.{IsSurface, IsLayer, Found, is-surface, is-layer, is-end, cut-surface, cut-layer, cut-end, after-end, no-block, found-cases}
+use Rattle.sheet.proofs.Standing.{IsSurface, IsLayer, Found, is-surface, is-layer, is-end, cut-surface, cut-layer, cut-end, after-end, no-block, found-cases}
 use Rattle.sheet.proofs.Claim.Agree.{Agree, end-agree, surface-front, layer-front, surface-back, layer-back, end-back}
 
 -- ---- a fault
@@ -17,15 +17,15 @@ use Rattle.sheet.proofs.Claim.Agree.{Agree, end-agree, surface-front, l
 pub record Out (src : List ℕ) (at done room place : ℕ) : Type 0 where
   pub from : at ≤ place
   pub inside : place < count src
-  pub layers : List Layer
-  pub surfaces : List Surface
+  pub layers : List SheetLayer
+  pub surfaces : List SheetSurface
   pub before : Agree src at done room layers surfaces place
-  pub never : (ls : List Layer) (xs : List Surface) → Agree src at done room ls xs (suc place) → ⊥
+  pub never : (ls : List SheetLayer) (xs : List SheetSurface) → Agree src at done room ls xs (suc place) → ⊥
 
 -- the bytes end before the blocks do; `place` is that of the last block that begins inside or just after them
 pub record Cut (src : List ℕ) (at done room place : ℕ) : Type 0 where
-  pub layers : List Layer
-  pub surfaces : List Surface
+  pub layers : List SheetLayer
+  pub surfaces : List SheetSurface
   pub agree : Agree src at done room layers surfaces (count src)
   pub longer : count src < at + length (tail done layers surfaces)
   pub blocks : ℕ
@@ -40,11 +40,11 @@ pub data Outcome (src : List ℕ) (at done room : ℕ) : Result Rest → Type 0 
 
 -- ---- a block in front of what stands after it
 pub record Front (src : List ℕ) (at done room done′ room′ : ℕ) : Type 0 where
-  pub put : List Layer → List Surface → Rest
-  pub agree : (ls : List Layer) (xs : List Surface) (n : ℕ) → Agree src (at + 7) done′ room′ ls xs n → Agree src at done room (put ls xs .layers) (put ls xs .surfaces) n
-  pub seven : (ls : List Layer) (xs : List Surface) → at + length (tail done (put ls xs .layers) (put ls xs .surfaces)) ≡ at + 7 + length (tail done′ ls xs)
-  pub back : (n : ℕ) → at < n → (ls : List Layer) (xs : List Surface) → Agree src at done room ls xs n →
-      (ls′ : List Layer) × (xs′ : List Surface) × Agree src (at + 7) done′ room′ ls′ xs′ n
+  pub put : List SheetLayer → List SheetSurface → Rest
+  pub agree : (ls : List SheetLayer) (xs : List SheetSurface) (n : ℕ) → Agree src (at + 7) done′ room′ ls xs n → Agree src at done room (put ls xs .layers) (put ls xs .surfaces) n
+  pub seven : (ls : List SheetLayer) (xs : List SheetSurface) → at + length (tail done (put ls xs .layers) (put ls xs .surfaces)) ≡ at + 7 + length (tail done′ ls xs)
+  pub back : (n : ℕ) → at < n → (ls : List SheetLayer) (xs : List SheetSurface) → Agree src at done room ls xs n →
+      (ls′ : List SheetLayer) × (xs′ : List SheetSurface) × Agree src (at + 7) done′ room′ ls′ xs′ n
 
 surface-in-front : (src : List ℕ) → All Byte src → (at done room : ℕ) → IsSurface (word src at) done → Front src at done room (suc done) (room-after (payload (word src at)))
 surface-in-front src bs at done room s = record {
@@ -54,8 +54,8 @@ surface-in-front src bs at done room s = record {
   back = by;
 }
   where
-    by : (n : ℕ) → at < n → (ls : List Layer) (xs : List Surface) → Agree src at done room ls xs n →
-        (ls′ : List Layer) × (xs′ : List Surface) × Agree src (at + 7) (suc done) (room-after (payload (word src at))) ls′ xs′ n
+    by : (n : ℕ) → at < n → (ls : List SheetLayer) (xs : List SheetSurface) → Agree src at done room ls xs n →
+        (ls′ : List SheetLayer) × (xs′ : List SheetSurface) × Agree src (at + 7) (suc done) (room-after (payload (word src at))) ls′ xs′ n
     by n lt (l ∷ ls) xs a = absurd (omega (arith, s .three, layer-back src at done room n lt l ls xs a .0 .four))
     by n lt [] [] a = absurd (omega (arith, s .three, end-back src at done room n lt a .0))
     by n lt [] (x ∷ xs) a = (x .layers, xs, surface-back src at done room n lt x xs a .2)
@@ -68,8 +68,8 @@ layer-in-front src bs at done room l = record {
   back = by;
 }
   where
-    by : (n : ℕ) → at < n → (ls : List Layer) (xs : List Surface) → Agree src at done room ls xs n →
-        (ls′ : List Layer) × (xs′ : List Surface) × Agree src (at + 7) done (room - 1) ls′ xs′ n
+    by : (n : ℕ) → at < n → (ls : List SheetLayer) (xs : List SheetSurface) → Agree src at done room ls xs n →
+        (ls′ : List SheetLayer) × (xs′ : List SheetSurface) × Agree src (at + 7) done (room - 1) ls′ xs′ n
     by n lt (m ∷ ls) xs a = (ls, xs, layer-back src at done room n lt m ls xs a .1)
     by n lt [] [] a = absurd (omega (arith, l .four, end-back src at done room n lt a .0))
     by n lt [] (x ∷ xs) a = absurd (omega (arith, l .four, surface-back src at done room n lt x xs a .0 .three))
@@ -129,16 +129,16 @@ module _ (src : List ℕ) (bs : All Byte src) (at done room : ℕ) where
   after-layer l (out place o) = out place (after-out (layer-in-front src bs at done room l) place o)
   after-layer l (cut place c) = cut place (after-cut (layer-in-front src bs at done room l) place c)
 
-  module _ (fuel : ℕ) (few : done ≤ 64) (next : (done′ room′ : ℕ) → done′ ≤ 64 → at + 7 ≤ count src →
+  module _ (fuel : ℕ) (few : done ≤ 64) (inside : at ≤ count src) (next : (done′ room′ : ℕ) → done′ ≤ 64 → at + 7 ≤ count src →
       Outcome src (at + 7) done′ room′ (rest src fuel (found src (at + 7) done′ room′) (at + 7) done′ room′)) where
     step : {f : Follows} → Found src at done room f → Outcome src at done room (rest src (suc fuel) f at done room)
     unfolding rest
     step (is-surface le s) = after-surface s (next (suc done) (room-after (payload (word src at))) (s .few) le)
     step (is-layer le l) = after-layer l (next done (room - 1) few le)
-    step (is-end e w) = whole _ (end-agree src at done room (count src) few (omega arith) (λ _. w)) (rw (tail-end done) e)
+    step (is-end e w) = whole _ (end-agree src at done room (count src) few (omega arith) (λ _. w .word)) (rw (tail-end done) e)
     step (cut-surface lt short s) = cut at (cut-inside (surface-in-front src bs at done room s) (s .few) lt short)
     step (cut-layer lt short l) = cut at (cut-inside (layer-in-front src bs at done room l) few lt short)
-    step (cut-end e) = cut at record {
+    step (cut-end past) = cut at record {
       layers = [];
       surfaces = [];
       agree = end-agree src at done room (count src) few (omega arith) (λ h. absurd (omega arith));
@@ -157,7 +157,7 @@ module _ (src : List ℕ) (bs : All Byte src) (at done room : ℕ) where
       never = no-more;
     }
       where
-        no-more : (ls : List Layer) (xs : List Surface) → Agree src at done room ls xs (suc (at + 1)) → ⊥
+        no-more : (ls : List SheetLayer) (xs : List SheetSurface) → Agree src at done room ls xs (suc (at + 1)) → ⊥
         no-more (l ∷ ls) xs a = omega (arith, layer-back src at done room (suc (at + 1)) (omega arith) l ls xs a .0 .four)
         no-more [] [] a = omega (arith, end-back src at done room (suc (at + 1)) (omega arith) a .1)
         no-more [] (x ∷ xs) a = omega (arith, surface-back src at done room (suc (at + 1)) (omega arith) x xs a .0 .three)
@@ -170,13 +170,13 @@ module _ (src : List ℕ) (bs : All Byte src) (at done room : ℕ) where
       never = nothing;
     }
       where
-        nothing : (ls : List Layer) (xs : List Surface) → Agree src at done room ls xs (suc at) → ⊥
+        nothing : (ls : List SheetLayer) (xs : List SheetSurface) → Agree src at done room ls xs (suc at) → ⊥
         nothing (l ∷ ls) xs a = not-layer (layer-back src at done room (suc at) (omega arith) l ls xs a .0)
-        nothing [] [] a = not-end (end-back src at done room (suc at) (omega arith) a .0)
+        nothing [] [] a = not-end few (end-back src at done room (suc at) (omega arith) a .0)
         nothing [] (x ∷ xs) a = not-surface (surface-back src at done room (suc at) (omega arith) x xs a .0)
 
 pub walk : (src : List ℕ) → All Byte src → (fuel at done room : ℕ) → done ≤ 64 → at ≤ count src → count src < at + fuel →
     Outcome src at done room (rest src fuel (found src at done room) at done room)
 walk src bs zero at done room few le enough = absurd (omega arith)
 walk src bs (suc fuel) at done room few le enough =
-    step src bs at done room fuel few (λ done′ room′ few′ le′. walk src bs fuel (at + 7) done′ room′ few′ le′ (omega arith)) (found-cases src at done room few le)
+    step src bs at done room fuel few le (λ done′ room′ few′ le′. walk src bs fuel (at + 7) done′ room′ few′ le′ (omega arith)) (found-cases src at done room)

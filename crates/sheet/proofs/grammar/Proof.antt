@@ -1,19 +1,19 @@
 -- `sheet::grammar` meets its contract. The loop's invariant: what is left from this place on, with the SURFACEs done, tallies to the whole sheet's count.
 -- The measure is what is left of the words. Assumes nothing.
 use mathlib.Core.Path.{_≡_, sym, ap, _∙_}
-use Prim.Native.Nat.{ℕ, _+_, _-_, _≤_, _<_}
+use Prim.Native.Nat.{_+_, _-_, _≤_}
 use native.Mathlib.Omega.{arith}
 use borrow.Author.Needs.{needs}
 use borrow.Author.Tests.{eq-eqb, ne-eqb}
-use Rattle.sheet.specs.Words.{count, word}
+use Rattle.sheet.specs.Words.{count}
 use Rattle.sheet.specs.Read.{decode}
-use Rattle.sheet.specs.Scan.{block-of, counted}
-use Rattle.sheet.proofs.Scan.{surface-room, layer-room, left, tally, scan-surface, scan-layer, scan-end, scan-wrong, counted-left, not-open, not-beam}
+use Rattle.sheet.specs.Scan.{block-of, surface-count}
+use Rattle.sheet.proofs.Scan.{a-surface, a-layer, left, tally, scan-surface, scan-layer, scan-end, scan-wrong, counted-left, not-open, not-beam}
 use Rattle.sheet.proofs.grammar.Statement.{statement}
 use Rattle.sheet.proofs.grammar.Tie as tie
 
 abbrev Inv-loop : tie.InvT-loop
-Inv-loop src at₀ done₀ room₀ at done room = (at ≤ count src + 8) × ((done ≤ 64) × (tally done (left src at done room) ≡ counted (decode src)))
+Inv-loop src at₀ done₀ room₀ at done room = (at ≤ count src + 8) × ((done ≤ 64) × (tally done (left src at done room) ≡ surface-count (decode src)))
 
 abbrev μ-loop : tie.MeasureT-loop
 μ-loop src at₀ done₀ room₀ at done room = count src + 8 - at
@@ -52,29 +52,29 @@ add-at : tie.Need-add-at Inv-loop μ-loop
 add-at c = search needs
 
 loop-less : tie.Need-loop-less Inv-loop μ-loop
-loop-less c = omega (arith, surface-room _ _ _ _ (sym (c .before .before .before .before .found .ensures) ∙ ap block-of (c .before .before .enum-told .given .1)) .1)
+loop-less c = omega (arith, a-surface _ _ _ _ (sym (c .before .before .before .before .found .ensures) ∙ ap block-of (c .before .before .enum-told .given .1)) .0)
 
 loop-again : tie.Need-loop-again Inv-loop μ-loop
 loop-again c =
-    let h = surface-room _ _ _ _ (sym (c .before .before .before .before .found .ensures) ∙ ap block-of (c .before .before .enum-told .given .1)) in
-    (omega (arith, h .1), (omega (arith, h .0), scan-surface _ _ _ _ _ _ (sym (c .before .before .before .before .found .ensures) ∙ ap block-of (c .before .before .enum-told .given .1)) (c .before .word-from3 .ensures) (c .room-after .ensures) ∙ c .before .before .before .before .before .loop .inv .1 .1))
+    let h = a-surface _ _ _ _ (sym (c .before .before .before .before .found .ensures) ∙ ap block-of (c .before .before .enum-told .given .1)) in
+    (omega (arith, h .0), (omega (arith, h .1 .few), scan-surface _ _ _ _ _ _ (sym (c .before .before .before .before .found .ensures) ∙ ap block-of (c .before .before .enum-told .given .1)) (c .before .word-from3 .ensures) (c .room-after .ensures) ∙ c .before .before .before .before .before .loop .inv .1 .1))
 
 enum-told-2 : tie.Need-enum-told-2 Inv-loop μ-loop
 enum-told-2 c = search needs
 
 sub-room : tie.Need-sub-room Inv-loop μ-loop
-sub-room c = omega (arith, layer-room _ _ _ _ (sym (c .before .before .found .ensures) ∙ ap block-of (c .enum-told2 .given .1)) .0)
+sub-room c = omega (arith, a-layer _ _ _ _ (sym (c .before .before .found .ensures) ∙ ap block-of (c .enum-told2 .given .1)) .1 .fit)
 
 add-at-2 : tie.Need-add-at-2 Inv-loop μ-loop
 add-at-2 c = search needs
 
 loop-less-2 : tie.Need-loop-less-2 Inv-loop μ-loop
-loop-less-2 c = omega (arith, layer-room _ _ _ _ (sym (c .before .before .found .ensures) ∙ ap block-of (c .enum-told2 .given .1)) .1)
+loop-less-2 c = omega (arith, a-layer _ _ _ _ (sym (c .before .before .found .ensures) ∙ ap block-of (c .enum-told2 .given .1)) .0)
 
 loop-again-2 : tie.Need-loop-again-2 Inv-loop μ-loop
 loop-again-2 c =
-    let h = layer-room _ _ _ _ (sym (c .before .before .found .ensures) ∙ ap block-of (c .enum-told2 .given .1)) in
-    (omega (arith, h .1), (c .before .before .before .loop .inv .1 .0, scan-layer _ _ _ _ (sym (c .before .before .found .ensures) ∙ ap block-of (c .enum-told2 .given .1)) ∙ c .before .before .before .loop .inv .1 .1))
+    let h = a-layer _ _ _ _ (sym (c .before .before .found .ensures) ∙ ap block-of (c .enum-told2 .given .1)) in
+    (omega (arith, h .0), (c .before .before .before .loop .inv .1 .0, scan-layer _ _ _ _ (sym (c .before .before .found .ensures) ∙ ap block-of (c .enum-told2 .given .1)) ∙ c .before .before .before .loop .inv .1 .1))
 
 enum-told-3 : tie.Need-enum-told-3 Inv-loop μ-loop
 enum-told-3 c = search needs

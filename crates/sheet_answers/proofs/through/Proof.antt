@@ -9,7 +9,7 @@ use borrow.Author.Needs.{needs}
 use Rattle.transfer_matrix.specs.declared.ThinFilmLayer.{ThinFilmLayer}
 use Rattle.transfer_matrix.specs.declared.Stack.{Stack}
 use Rattle.transfer_matrix.specs.Stack.{step, steps}
-use Rattle.evaluation.specs.Walk.{ordered, blank, place}
+use Rattle.evaluation.specs.Walk.{ordered, no-layer, nth-index}
 use Rattle.evaluation.proofs.Order.{done, as-long, within, goes-on}
 use Rattle.sheet_values.specs.Values.{films, layers-at}
 use Rattle.sheet_answers.proofs.Behind.{many, nth}
@@ -25,8 +25,8 @@ abbrev μ-loop : tie.MeasureT-loop
 loop-holds : tie.Need-loop-holds Inv-loop μ-loop
 loop-holds c = (search needs, refl)
 
-place-requires : tie.Need-place-requires Inv-loop μ-loop
-place-requires c κs = search needs
+nth-index-requires : tie.Need-nth-index-requires Inv-loop μ-loop
+nth-index-requires c κs = search needs
 
 layer-behind-requires : tie.Need-layer-behind-requires Inv-loop μ-loop
 layer-behind-requires c κs = search needs
@@ -52,12 +52,12 @@ loop-again c =
     let k : Stack = c .before .before .before .before .loop .stack in
     let h : i < n = c .before .before .before .loop-test .taken in
     let l : i < length ls = rw n-is h in
-    let j : ℕ = c .before .before .place .result in
-    let j-is : j ≡ place far n i = c .before .before .place .ensures in
-    let layer-is : c .before .layer-behind .result ≡ getD ls (place far (length ls) i) blank =
-    c .before .layer-behind .ensures ∙ sym (nth src from n j blank (rw j-is (within far n i h))) ∙ ap (λ (m : ℕ). getD ls m blank) (j-is ∙ ap (λ (m : ℕ). place far m i) (sym n-is)) in (
+    let j : ℕ = c .before .before .nth-index .result in
+    let j-is : j ≡ nth-index far n i = c .before .before .nth-index .ensures in
+    let layer-is : c .before .layer-behind .result ≡ getD ls (nth-index far (length ls) i) no-layer =
+    c .before .layer-behind .ensures ∙ sym (nth src from n j no-layer (rw j-is (within far n i h))) ∙ ap (λ (m : ℕ). getD ls m no-layer) (j-is ∙ ap (λ (m : ℕ). nth-index far m i) (sym n-is)) in (
       search needs,
-      ap (λ (a : Stack). steps a (drop (i + 1) (ordered far ls))) (c .step .ensures ∙ ap (step k) layer-is) ∙ goes-on far ls k i blank l ∙ c .before .before .before .before .loop .inv .1,
+      ap (λ (a : Stack). steps a (drop (i + 1) (ordered far ls))) (c .step .ensures ∙ ap (step k) layer-is) ∙ goes-on far ls k i no-layer l ∙ c .before .before .before .before .loop .inv .1,
     )
 
 returns : tie.Need-returns Inv-loop μ-loop
@@ -68,4 +68,4 @@ returns c =
     sym (done (c .before .loop .stack) _ (c .before .loop .i) (omega (arith, as-long far ls))) ∙ c .before .loop .inv .1
 
 pub through-spec : {M : Type 1} → statement M
-through-spec = tie.close (tie.spec Inv-loop μ-loop loop-holds place-requires layer-behind-requires step-requires add-i loop-less loop-again returns)
+through-spec = tie.close (tie.spec Inv-loop μ-loop loop-holds nth-index-requires layer-behind-requires step-requires add-i loop-less loop-again returns)

@@ -12,7 +12,7 @@ use Rattle.surface.specs.declared.Answers.{Answers}
 use Rattle.surface.specs.declared.AnswersReply.{AnswersReply}
 use Rattle.surface.specs.Answers.{answers, returned}
 use Rattle.surface.specs.Finite.{Answered}
-use Rattle.sheet.specs.Sheet.{Surface, Sheet}
+use Rattle.sheet.specs.Sheet.{SheetSurface, Sheet}
 use Rattle.sheet.specs.Words.{float}
 use Rattle.sheet.specs.Read.{surface-at}
 use Rattle.sheet.specs.Scan.{layer-run}
@@ -29,7 +29,7 @@ use Rattle.sheet_surfaces.proofs.Answers.{all-nth, Good, layers-length,
 use Rattle.sheet_surfaces.proofs.surface_answers.Statement.{statement}
 use Rattle.sheet_surfaces.proofs.surface_answers.Tie as tie
 
-abbrev its-answers : Sheet → Surface → Outcome Answers
+abbrev its-answers : Sheet → SheetSurface → Outcome Answers
 its-answers x y = answers (value (x .wavelength)) (surface-value y) (films (y .layers))
 
 module _ (src : List ℕ) (i n : ℕ) (e : answer n ≡ gate src) where

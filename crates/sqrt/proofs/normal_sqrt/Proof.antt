@@ -9,7 +9,7 @@ use lib.Dec.{T}
 use lib.Ieee.{binary64, nanBits, toBits, ofBits}
 use Rattle.ieee.proofs.Signs.{of-true}
 use Rattle.square_root.specs.Root.{closestRoot}
-use Rattle.sqrt.specs.Steps.{radicand, rootBits, Nearest}
+use Rattle.sqrt.specs.Steps.{radicand, rootBits, NearestBits}
 use Rattle.sqrt.proofs.Cases.{is-above, above-no-nan, below-no-nan}
 use Rattle.sqrt.proofs.Finish.{own-most, normal-root-lt}
 use Rattle.sqrt.proofs.normal_sqrt.Statement.{statement}
@@ -30,11 +30,11 @@ same b = ap (λ (t : ℕ). (t + 2 ^ 52) * (2 - part b / 2 ^ 52 % 2) * 2 ^ 52) (d
 moved : (b r q : ℕ) → r / 2 ^ 52 ≡ part b / 2 ^ 52 → q ≡ r % 2 ^ 52 + 2 ^ 52 → r + b / 2 ^ 52 / 2 * 2 ^ 52 - 0x1ff0_0000_0000_0000 ≡ (b / 2 ^ 52 + 1021) / 2 * 2 ^ 52 + q
 moved b r q e f = omega arith
 
-found : (b r : ℕ) → Nearest (part b) r → r + b / 2 ^ 52 / 2 * 2 ^ 52 - 0x1ff0_0000_0000_0000 ≡ rootBits b
+found : (b r : ℕ) → NearestBits (part b) r → r + b / 2 ^ 52 / 2 * 2 ^ 52 - 0x1ff0_0000_0000_0000 ≡ rootBits b
 found b r v = moved b r (closestRoot (radicand b) 1) (v .field) (ap (λ (n : ℕ). closestRoot n 1) (sym (same b)) ∙ v .root)
 
 -- between 1/2 and 2 nothing is moved
-found-there : (b r : ℕ) → part b ≡ b → Nearest (part b) r → r ≡ rootBits b
+found-there : (b r : ℕ) → part b ≡ b → NearestBits (part b) r → r ≡ rootBits b
 found-there b r e v = stays b r e ∙ found b r v
   where
     stays : (b r : ℕ) → part b ≡ b → r ≡ r + b / 2 ^ 52 / 2 * 2 ^ 52 - 0x1ff0_0000_0000_0000
@@ -56,7 +56,7 @@ bits c = c .before .before .before .before .before .before .args .bits
 abbrev root : tie.Then3 → ℕ
 root c = toBits binary64 (c .before .before .before .before .second-guess .result)
 
-nearest : (c : tie.Then3) → Nearest (part (bits c)) (root c)
+nearest : (c : tie.Then3) → NearestBits (part (bits c)) (root c)
 nearest c = c .before .is-root .ensures (of-true (c .before .is-root .result) (c .if3 .taken))
 
 -- a pattern that is the root's is no NaN's

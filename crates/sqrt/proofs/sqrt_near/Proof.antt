@@ -9,7 +9,7 @@ use lib.Ieee.{Float, binary64, le, isNan, fits, toBits, ofBits}
 use lib.Ieee.Bits.{ofBits-toBits}
 use Rattle.ieee.proofs.Signs.{of-true}
 use Rattle.square_root.specs.Root.{squareRoot, closestRoot}
-use Rattle.sqrt.specs.Steps.{radicand, Nearest}
+use Rattle.sqrt.specs.Steps.{radicand, NearestBits}
 use Rattle.sqrt.proofs.Cases.{above-no-nan, below-no-nan}
 use Rattle.sqrt.proofs.Patterns.{one, one-above, one-least}
 use Rattle.sqrt.proofs.Finish.{normal-root}
@@ -17,7 +17,7 @@ use Rattle.sqrt.proofs.sqrt_near.Statement.{statement}
 use Rattle.sqrt.proofs.sqrt_near.Tie as tie
 
 -- between 1 and 2 the root's pattern is the guess's
-passed : (b r : ℕ) → b / 2 ^ 52 ≡ 1023 → Nearest b r → ofBits binary64 r ≡ squareRoot binary64 (ofBits binary64 b)
+passed : (b r : ℕ) → b / 2 ^ 52 ≡ 1023 → NearestBits b r → ofBits binary64 r ≡ squareRoot binary64 (ofBits binary64 b)
 passed b r e v = ap (ofBits binary64) (joined b r (closestRoot (radicand b) 1) e (v .field) (v .root)) ∙ normal-root b (least b e) (most b e)
   where
     joined : (b r q : ℕ) → b / 2 ^ 52 ≡ 1023 → r / 2 ^ 52 ≡ b / 2 ^ 52 → q ≡ r % 2 ^ 52 + 2 ^ 52 → r ≡ (b / 2 ^ 52 + 1021) / 2 * 2 ^ 52 + q
@@ -54,7 +54,7 @@ root-field c =
     let n = c .before .before .second-guess in
     field (n .result) (ofBits-toBits binary64 (n .result) (of-true (fits binary64 (n .result)) (n .ok))) (c .before .if3 .taken) (c .if4 .taken)
 
-nearest : (c : tie.Then5) → Nearest (toBits binary64 (c .before .before .before .before .before .before .before .args .x)) (toBits binary64 (c .before .before .before .before .second-guess .result))
+nearest : (c : tie.Then5) → NearestBits (toBits binary64 (c .before .before .before .before .before .before .before .args .x)) (toBits binary64 (c .before .before .before .before .second-guess .result))
 nearest c = c .before .is-root .ensures (of-true (c .before .is-root .result) (c .if5 .taken))
 
 float-to-bits-bits : tie.Need-float-to-bits-bits

@@ -13,7 +13,7 @@ use Rattle.transfer_matrix.specs.declared.ThinFilmLayer.{ThinFilmLayer}
 use Rattle.coating.specs.declared.Built.{Built}
 use Rattle.coating.specs.declared.Coating.the-variants as C
 use Rattle.preset_layers.specs.Layers.{bragg-layers}
-use Rattle.evaluation.specs.Walk.{blank}
+use Rattle.evaluation.specs.Walk.{no-layer}
 use Rattle.coating.specs.Coating.{built, too-many, bragg-mirror}
 use Rattle.preset_layers.proofs.Nth.{alike}
 use Rattle.coating.proofs.Repeat.{stored, all-stored}
@@ -31,19 +31,19 @@ module _ (high low design : Float) (pairs : ℕ) where
   layers = bragg-layers high low pairs design
 
   -- a turn of the loop
-  turn : (d items : List ThinFilmLayer) (i : ℕ) (y : ThinFilmLayer) → d ≡ replicate 64 blank → pairs ≤ 31 → i < pairs * 2 + 1 → items ≡ paste d 0 layers i
-      → y ≡ getD (bragg-layers high low i design) i blank → set items i y ≡ paste d 0 layers (i + 1)
+  turn : (d items : List ThinFilmLayer) (i : ℕ) (y : ThinFilmLayer) → d ≡ replicate 64 no-layer → pairs ≤ 31 → i < pairs * 2 + 1 → items ≡ paste d 0 layers i
+      → y ≡ getD (bragg-layers high low i design) i no-layer → set items i y ≡ paste d 0 layers (i + 1)
   turn d items i y d-is p h e f =
       ap (λ (l : List ThinFilmLayer). set l i y) e ∙ ap (set (paste d 0 layers i) i) (f ∙ alike high low design i pairs i (omega arith) (omega arith))
-      ∙ stored d layers i blank (rw d-is (omega arith)) (rw long (omega arith))
+      ∙ stored d layers i no-layer (rw d-is (omega arith)) (rw long (omega arith))
 
   -- the loop is left
-  whole : (d items : List ThinFilmLayer) (i : ℕ) → d ≡ replicate 64 blank → pairs ≤ 31 → i ≡ pairs * 2 + 1 → items ≡ paste d 0 layers i
+  whole : (d items : List ThinFilmLayer) (i : ℕ) → d ≡ replicate 64 no-layer → pairs ≤ 31 → i ≡ pairs * 2 + 1 → items ≡ paste d 0 layers i
       → _≡_ {A = Built} (record { refusal = 0; coating = C.Multilayer; layers = record { items = items; count = pairs * 2 + 1 } }) (bragg-mirror high low pairs design)
   whole d items i d-is p e h =
-      let items-are : items ≡ layers ++ replicate (64 - length layers) blank = h ∙ ap (λ (l : List ThinFilmLayer). paste l 0 layers i) d-is ∙ all-stored layers 64 i blank (e ∙ sym (long high low design pairs)) (omega arith) in
+      let items-are : items ≡ layers ++ replicate (64 - length layers) no-layer = h ∙ ap (λ (l : List ThinFilmLayer). paste l 0 layers i) d-is ∙ all-stored layers 64 i no-layer (e ∙ sym (long high low design pairs)) (omega arith) in
       ap (λ (l : List ThinFilmLayer). record { refusal = 0; coating = C.Multilayer; layers = record { items = l; count = pairs * 2 + 1 } }) items-are
-      ∙ ap (λ (n : ℕ). record { refusal = 0; coating = C.Multilayer; layers = record { items = layers ++ replicate (64 - length layers) blank; count = n } }) (sym (long high low design pairs))
+      ∙ ap (λ (n : ℕ). record { refusal = 0; coating = C.Multilayer; layers = record { items = layers ++ replicate (64 - length layers) no-layer; count = n } }) (sym (long high low design pairs))
       ∙ sym (ap (λ (t : Bool). cond t (built C.Multilayer layers) too-many) (le-leb pairs 31 p))
 
 abbrev Inv-loop : tie.InvT-loop

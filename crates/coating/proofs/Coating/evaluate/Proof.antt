@@ -45,7 +45,7 @@ use Rattle.transfer_matrix.proofs.ThinFilmLayer as L
 use Rattle.coating.specs.declared.Coating.{Coating}
 use Rattle.evaluation.specs.declared.Pending.{Pending}
 use Rattle.evaluation.specs.declared.Evaluation.{Evaluation}
-use Rattle.evaluation.specs.Walk.{ordered, outcome}
+use Rattle.evaluation.specs.Walk.{outcome}
 use Rattle.coating.specs.Evaluate.{evaluate-coating, prepare as prepare-of}
 use Rattle.evaluation.specs.Walk as Walk
 use Rattle.evaluation.proofs.Order.{front}

@@ -4,15 +4,16 @@ use mathlib.Core.Bool.{true, false}
 use borrow.Author.Needs.{needs}
 use lib.Ieee.{lt}
 use Rattle.complex.specs.declared.Complex.{Complex}
-use Rattle.complex.specs.Complex.{norm-sq, zero, quotient, least-denom, div}
+use Rattle.complex.specs.Complex.{norm-sq, zero, quotient, div}
+use Rattle.ieee.specs.Functions.{tiny}
 use Rattle.complex.proofs.Complex.div.Statement.{statement}
 use Rattle.complex.proofs.Complex.div.Tie as tie
 
-small : (z w : Complex) → lt (norm-sq w) least-denom ≡ true → zero ≡ div z w
+small : (z w : Complex) → lt (norm-sq w) tiny ≡ true → zero ≡ div z w
 unfolding div
 small z w e = simp e
 
-large : (z w : Complex) → lt (norm-sq w) least-denom ≡ false → quotient z w (norm-sq w) ≡ div z w
+large : (z w : Complex) → lt (norm-sq w) tiny ≡ false → quotient z w (norm-sq w) ≡ div z w
 unfolding div
 large z w e = simp e
 

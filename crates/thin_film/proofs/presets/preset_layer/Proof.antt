@@ -16,7 +16,7 @@ use Rattle.thin_film.specs.declared.SurfaceCoating.the-variants as S
 use Rattle.thin_film.specs.Coating.{n-mgf2, standard-wavelength, mgf2-layers, mirror-layers, layers-of}
 use Rattle.preset_layers.specs.Layers.{n-sio2, n-tio2, quarter-wave, bragg-layers, broadband-layers, broadband-last}
 use Rattle.preset_layers.proofs.Nth.{default, alike}
-use Rattle.evaluation.specs.Walk.{blank}
+use Rattle.evaluation.specs.Walk.{no-layer}
 use Rattle.thin_film.proofs.SurfaceCoating.{the-type}
 use borrow.Author.Needs.{needs}
 use Rattle.thin_film.proofs.presets.preset_layer.Statement.{statement}
@@ -24,7 +24,7 @@ use Rattle.thin_film.proofs.presets.preset_layer.Tie as tie
 
 -- the layer is the i-th
 abbrev Ith : SurfaceCoating → ℕ → ThinFilmLayer → Type 0
-Ith s i r = i < length (layers-of s []) → r ≡ getD (layers-of s []) i blank
+Ith s i r = i < length (layers-of s []) → r ≡ getD (layers-of s []) i no-layer
 
 mgf2 : (design : Float) (s : SurfaceCoating) (i : ℕ) (r : ThinFilmLayer) → s ≡ S.MgF2 design → r ≡ dielectric n-mgf2 (quarter-wave design n-mgf2) → Ith s i r
 unfolding layers-of mgf2-layers
@@ -32,7 +32,7 @@ mgf2 design s i r e f h =
     let l : i < 1 = simp e at h in
     let z : i ≡ 0 = omega arith in f ∙ simp (e, z)
 
-mirror : (s : SurfaceCoating) (i : ℕ) (r : ThinFilmLayer) → s ≡ S.HighReflectanceMirror → r ≡ getD (bragg-layers n-tio2 n-sio2 i standard-wavelength) i blank → Ith s i r
+mirror : (s : SurfaceCoating) (i : ℕ) (r : ThinFilmLayer) → s ≡ S.HighReflectanceMirror → r ≡ getD (bragg-layers n-tio2 n-sio2 i standard-wavelength) i no-layer → Ith s i r
 unfolding layers-of mirror-layers bragg-layers
 mirror s i r e f h =
     let l : i < 15 = simp e at h in f ∙ alike n-tio2 n-sio2 standard-wavelength i 7 i (omega arith) l ∙ simp e
@@ -41,7 +41,7 @@ others : (s : SurfaceCoating) (i : ℕ) (r : ThinFilmLayer) → OneOf (0 ∷ 2 �
 unfolding layers-of broadband-layers
 others S.IdealAr i r k f h = absurd (not-suc-le-zero h)
 others (S.MgF2 design) i r k f h = absurd (miss (0 ∷ 2 ∷ 4 ∷ []) 1 tt k)
-others S.BroadbandAr i r k f h = f ∙ default broadband-layers i broadband-last blank h
+others S.BroadbandAr i r k f h = f ∙ default broadband-layers i broadband-last no-layer h
 others S.HighReflectanceMirror i r k f h = absurd (miss (0 ∷ 2 ∷ 4 ∷ []) 3 tt k)
 others (S.Custom C.IdealAr) i r k f h = absurd (not-suc-le-zero h)
 others (S.Custom C.IdealMirror) i r k f h = absurd (not-suc-le-zero h)

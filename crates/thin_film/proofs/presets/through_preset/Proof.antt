@@ -9,7 +9,7 @@ use Rattle.transfer_matrix.specs.declared.ThinFilmLayer.{ThinFilmLayer}
 use Rattle.transfer_matrix.specs.declared.Stack.{Stack}
 use Rattle.transfer_matrix.specs.Stack.{step, steps}
 use Rattle.thin_film.specs.Coating.{layers-of}
-use Rattle.evaluation.specs.Walk.{ordered, blank, place}
+use Rattle.evaluation.specs.Walk.{ordered, no-layer, nth-index}
 use Rattle.evaluation.proofs.Order.{done, as-long, within, goes-on}
 use borrow.Author.Needs.{needs}
 use Rattle.thin_film.proofs.presets.through_preset.Statement.{statement}
@@ -27,8 +27,8 @@ preset-count-requires c κs = search needs
 loop-holds : tie.Need-loop-holds Inv-loop μ-loop
 loop-holds c = (search needs, refl)
 
-place-requires : tie.Need-place-requires Inv-loop μ-loop
-place-requires c κs = search needs
+nth-index-requires : tie.Need-nth-index-requires Inv-loop μ-loop
+nth-index-requires c κs = search needs
 
 preset-layer-requires : tie.Need-preset-layer-requires Inv-loop μ-loop
 preset-layer-requires c κs = search needs
@@ -50,11 +50,11 @@ loop-again c =
     let i : ℕ = c .before .before .before .before .loop .i in
     let k : Stack = c .before .before .before .before .loop .stack in
     let l : i < length ls = omega arith in
-    let j-is : c .before .before .place .result ≡ place far (length ls) i = c .before .before .place .ensures ∙ ap (λ (m : ℕ). place far m i) n-is in
-    let layer-is : c .before .preset-layer .result ≡ getD ls (place far (length ls) i) blank =
-    c .before .preset-layer .ensures (rw j-is (within far (length ls) i l)) ∙ ap (λ (m : ℕ). getD ls m blank) j-is in (
+    let j-is : c .before .before .nth-index .result ≡ nth-index far (length ls) i = c .before .before .nth-index .ensures ∙ ap (λ (m : ℕ). nth-index far m i) n-is in
+    let layer-is : c .before .preset-layer .result ≡ getD ls (nth-index far (length ls) i) no-layer =
+    c .before .preset-layer .ensures (rw j-is (within far (length ls) i l)) ∙ ap (λ (m : ℕ). getD ls m no-layer) j-is in (
       search needs,
-      ap (λ (a : Stack). steps a (drop (i + 1) (ordered far ls))) (c .step .ensures ∙ ap (step k) layer-is) ∙ goes-on far ls k i blank l ∙ c .before .before .before .before .loop .inv .1,
+      ap (λ (a : Stack). steps a (drop (i + 1) (ordered far ls))) (c .step .ensures ∙ ap (step k) layer-is) ∙ goes-on far ls k i no-layer l ∙ c .before .before .before .before .loop .inv .1,
     )
 
 returns : tie.Need-returns Inv-loop μ-loop
@@ -68,7 +68,7 @@ through-preset-spec =
     μ-loop
     preset-count-requires
     loop-holds
-    place-requires
+    nth-index-requires
     preset-layer-requires
     step-requires
     add-i

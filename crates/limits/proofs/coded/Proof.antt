@@ -1,8 +1,8 @@
--- `flat_layers::coating_of` meets its contract. Assumes nothing.
+-- `limits::coded` meets its contract. Assumes nothing.
 use borrow.Author.Tests.{ne-eqb}
-use Rattle.flat_layers.specs.Evaluate.{coded}
-use Rattle.flat_layers.proofs.coating_of.Statement.{statement}
-use Rattle.flat_layers.proofs.coating_of.Tie as tie
+use Rattle.limits.specs.Coating.{coded}
+use Rattle.limits.proofs.coded.Statement.{statement}
+use Rattle.limits.proofs.coded.Tie as tie
 
 returns : tie.Need-returns
 unfolding coded
@@ -40,8 +40,8 @@ returns-9 : tie.Need-returns-9
 unfolding coded
 returns-9 c = simp (ne-eqb _ _ (c .before .before .before .before .before .before .before .if1 .left), ne-eqb _ _ (c .before .before .before .before .before .before .if2 .left), ne-eqb _ _ (c .before .before .before .before .before .if3 .left), ne-eqb _ _ (c .before .before .before .before .if4 .left), ne-eqb _ _ (c .before .before .before .if5 .left), ne-eqb _ _ (c .before .before .if6 .left), ne-eqb _ _ (c .before .if7 .left), ne-eqb _ _ (c .if8 .left))
 
-pub coating-of-spec : {M : Type 1} → statement M
-coating-of-spec =
+pub coded-spec : {M : Type 1} → statement M
+coded-spec =
     tie.close
     (tie.spec
     returns

@@ -1,10 +1,10 @@
--- `evaluation::place` meets its contract. Assumes nothing.
+-- `evaluation::nth_index` meets its contract. Assumes nothing.
 use Prim.Native.Nat.{ℕ, _-_, _≤_}
 use native.Mathlib.Omega.{arith}
 use mathlib.Core.Path.{_≡_, _∙_}
 use borrow.Author.Needs.{needs}
-use Rattle.evaluation.proofs.place.Statement.{statement}
-use Rattle.evaluation.proofs.place.Tie as tie
+use Rattle.evaluation.proofs.nth_index.Statement.{statement}
+use Rattle.evaluation.proofs.nth_index.Tie as tie
 
 -- past the last
 past : (n i : ℕ) → n ≤ i → 0 ≡ n - 1 - i
@@ -25,5 +25,5 @@ returns-2 c = past _ _ (c .if2 .left) ∙ simp (c .before .if1 .taken)
 returns-3 : tie.Need-returns-3
 returns-3 c = simp (c .if1 .left)
 
-pub place-spec : {M : Type 1} → statement M
-place-spec = tie.close (tie.spec sub-result sub-result-2 returns returns-2 returns-3)
+pub nth-index-spec : {M : Type 1} → statement M
+nth-index-spec = tie.close (tie.spec sub-result sub-result-2 returns returns-2 returns-3)
