@@ -12,6 +12,10 @@ use lib.ListN.{length, getD, set, take, drop, drop-of-length-le}
 use lib.Seq.{drop-cons}
 use lib.Ieee.{Float, nan, inf, fin, eq, isNan, binary64, ofBits, toBits}
 use Rattle.sheet.specs.Words as Sheet
+use Rattle.complex.specs.Complex.{zero}
+use Rattle.mueller.specs.declared.JonesMatrix.{JonesMatrix}
+use Rattle.records.specs.declared.Four.{Four}
+use Rattle.records.specs.Parts.{four, matrix, jones}
 use Rattle.records.specs.Words.{word, small, behind, header, pattern, written, agree}
 
 -- ---- past the last word
@@ -25,6 +29,12 @@ word-past src i h = simp (sheet-past src (2 * i) (omega arith), sheet-past src (
 
 pub float-past : (src : List ℕ) (i : ℕ) → Sheet.count src ≤ i → ofBits binary64 0 ≡ ofBits binary64 (word src i)
 float-past src i h = ap (ofBits binary64) (word-past src i h)
+
+pub four-past : (src : List ℕ) (i : ℕ) → Sheet.count src ≤ i → _≡_ {A = Four} (record { a = ofBits binary64 0; b = ofBits binary64 0; c = ofBits binary64 0; d = ofBits binary64 0 }) (four src i)
+four-past src i h = λ j. record { a = float-past src i h j; b = float-past src (i + 1) (omega arith) j; c = float-past src (i + 2) (omega arith) j; d = float-past src (i + 3) (omega arith) j }
+
+pub jones-past : (src : List ℕ) (i : ℕ) → Sheet.count src ≤ i → _≡_ {A = JonesMatrix} (record { m = zero ∷ zero ∷ zero ∷ zero ∷ [] }) (jones src i)
+jones-past src i h = λ j. matrix (four-past src i h j) (four-past src (i + 4) (omega arith) j)
 
 pub small-past : (src : List ℕ) (i : ℕ) → Sheet.count src ≤ i → 0 ≡ small src i
 small-past src i h = sym (sheet-past src (2 * i + 1) (omega arith))

@@ -2,8 +2,9 @@
 // A word has the bytes of two words of a sheet, and is read by the sheet's reader.
 ghost use mathlib.Core.Path.{_≡_};
 ghost use lib.Ieee.{binary64, ofBits};
-ghost use Rattle.records.specs.Parts.{of-jones, of-response};
+ghost use Rattle.records.specs.Parts.{four, jones, response, of-jones, of-response};
 ghost use Rattle.records.specs.Words.{word, small, behind, header, pattern, written, agree, recorded};
+use complex::Complex;
 use mueller::JonesMatrix;
 use mueller::MuellerMatrix;
 use transfer_matrix::CoatingResponse;
@@ -29,6 +30,77 @@ pub fn float_at(b: &[u8], i: usize) -> f64
         sheet::float_from(b, 2 * i)
     } else {
         0.0
+    }
+}
+
+// Four floats.
+pub struct Four {
+    pub a: f64,
+    pub b: f64,
+    pub c: f64,
+    pub d: f64,
+}
+
+// Those of the words from the i-th on.
+pub fn four_at(b: &[u8], i: usize) -> Four
+    ensures { λ r. ⌜ r ≡ four (now (b .entry)) i ⌝ }
+{
+    if i < b.len() / 4 {
+        Four {
+            a: float_at(b, i),
+            b: float_at(b, i + 1),
+            c: float_at(b, i + 2),
+            d: float_at(b, i + 3),
+        }
+    } else {
+        Four {
+            a: 0.0,
+            b: 0.0,
+            c: 0.0,
+            d: 0.0,
+        }
+    }
+}
+
+// The Jones matrix in the eight words from the i-th on.
+pub fn jones_at(b: &[u8], i: usize) -> JonesMatrix
+    ensures { λ r. ⌜ r ≡ jones (now (b .entry)) i ⌝ }
+{
+    if i >= b.len() / 4 {
+        let none = Complex::zero();
+        return JonesMatrix {
+            m: [none, none, none, none],
+        };
+    }
+    let x = four_at(b, i);
+    let y = four_at(b, i + 4);
+    let m0 = Complex::new(x.a, x.b);
+    let m1 = Complex::new(x.c, x.d);
+    let m2 = Complex::new(y.a, y.b);
+    let m3 = Complex::new(y.c, y.d);
+    JonesMatrix {
+        m: [m0, m1, m2, m3],
+    }
+}
+
+// The response in the first fourteen words.
+pub fn response_at(b: &[u8]) -> CoatingResponse
+    ensures { λ r. ⌜ r ≡ response (now (b .entry)) ⌝ }
+{
+    let r = four_at(b, 0);
+    let t = four_at(b, 4);
+    let powers = four_at(b, 8);
+    CoatingResponse {
+        rs: Complex::new(r.a, r.b),
+        rp: Complex::new(r.c, r.d),
+        ts: Complex::new(t.a, t.b),
+        tp: Complex::new(t.c, t.d),
+        reflectance_s: powers.a,
+        reflectance_p: powers.b,
+        transmittance_s: powers.c,
+        transmittance_p: powers.d,
+        phase_rs_rad: float_at(b, 12),
+        phase_rp_rad: float_at(b, 13),
     }
 }
 

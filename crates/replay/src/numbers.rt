@@ -1,26 +1,6 @@
 // The functions 1 to 59: of ieee, sqrt, elementary and complex.
-ghost use Prim.Native.Nat.{_≤_};
 use complex::Complex;
-
-// Four floats.
-pub struct Four {
-    pub a: f64,
-    pub b: f64,
-    pub c: f64,
-    pub d: f64,
-}
-
-// Those of the words from the i-th on.
-pub fn four_at(a: &[u8], i: usize) -> Four
-    requires { ⌜ i ≤ 512 ⌝ }
-{
-    Four {
-        a: records::float_at(a, i),
-        b: records::float_at(a, i + 1),
-        c: records::float_at(a, i + 2),
-        d: records::float_at(a, i + 3),
-    }
-}
+use records::Four;
 
 pub fn one(out: &mut [u64; 256], x: f64) -> usize {
     let w = [x];
@@ -95,7 +75,7 @@ fn complex_value(f: usize, z: Complex, w: Complex) -> Complex {
 
 // How many words the function gave; 0 where it is not one of these.
 pub fn call(f: usize, a: &[u8], out: &mut [u64; 256]) -> usize {
-    let x = four_at(a, 0);
+    let x = records::four_at(a, 0);
     let z = Complex::new(x.a, x.b);
     match f {
         4 => flag(out, ieee::is_finite(x.a)),

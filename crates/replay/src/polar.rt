@@ -1,12 +1,10 @@
 // The functions 80 to 139: of fresnel and polarization.
-ghost use Prim.Native.Nat.{_≤_};
-use super::numbers::Four;
-use super::numbers::four_at;
 use super::numbers::one;
 use super::numbers::two;
 use complex::Complex;
 use mueller::JonesMatrix;
 use mueller::MuellerMatrix;
+use records::Four;
 use stokes::JonesVector;
 use stokes::StokesVector;
 
@@ -31,32 +29,14 @@ fn mueller_out(out: &mut [u64; 256], x: MuellerMatrix) -> usize {
     16
 }
 
-fn vector_at(a: &[u8], i: usize) -> JonesVector
-    requires { ⌜ i ≤ 512 ⌝ }
-{
-    let x = four_at(a, i);
+fn vector_at(a: &[u8], i: usize) -> JonesVector {
+    let x = records::four_at(a, i);
     JonesVector::new(Complex::new(x.a, x.b), Complex::new(x.c, x.d))
 }
 
-fn stokes_at(a: &[u8], i: usize) -> StokesVector
-    requires { ⌜ i ≤ 512 ⌝ }
-{
-    let x = four_at(a, i);
+fn stokes_at(a: &[u8], i: usize) -> StokesVector {
+    let x = records::four_at(a, i);
     StokesVector::new(x.a, x.b, x.c, x.d)
-}
-
-pub fn jones_at(a: &[u8], i: usize) -> JonesMatrix
-    requires { ⌜ i ≤ 500 ⌝ }
-{
-    let x = vector_at(a, i);
-    let y = vector_at(a, i + 4);
-    let m0 = x.ex;
-    let m1 = x.ey;
-    let m2 = y.ex;
-    let m3 = y.ey;
-    JonesMatrix {
-        m: [m0, m1, m2, m3],
-    }
 }
 
 fn mueller_at(a: &[u8]) -> MuellerMatrix {
@@ -113,7 +93,7 @@ pub fn vector_call(f: usize, a: &[u8], out: &mut [u64; 256]) -> usize {
     let v = vector_at(a, 0);
     let s = stokes_at(a, 0);
     match f {
-        80..=82 => fresnel_call(f, four_at(a, 0), out),
+        80..=82 => fresnel_call(f, records::four_at(a, 0), out),
         106 => one(out, v.intensity()),
         100..=107 => vector_out(out, vector_value(f, v)),
         108 => stokes_out(out, v.to_stokes()),
@@ -138,7 +118,7 @@ fn jones_value(f: usize, x: Four, left: JonesMatrix, right: JonesMatrix) -> Jone
 }
 
 fn coating_jones(a: &[u8], out: &mut [u64; 256]) -> usize {
-    let r = polarization::surface_coating_jones(super::films::response_at(a));
+    let r = polarization::surface_coating_jones(records::response_at(a));
     let reflection = r.reflection;
     let transmission = r.transmission;
     records::write_jones(out, 0, reflection);
@@ -163,18 +143,22 @@ fn fresnel_jones(x: Four, out: &mut [u64; 256]) -> usize {
 
 // 120 to 139.
 pub fn matrix_call(f: usize, a: &[u8], out: &mut [u64; 256]) -> usize {
-    let left = jones_at(a, 0);
+    let left = records::jones_at(a, 0);
     match f {
         126 => vector_out(out, left.apply(vector_at(a, 8))),
         120..=127 => {
-            records::write_jones(out, 0, jones_value(f, four_at(a, 0), left, jones_at(a, 8)));
+            records::write_jones(
+                out,
+                0,
+                jones_value(f, records::four_at(a, 0), left, records::jones_at(a, 8)),
+            );
             8
         }
         128 => mueller_out(out, left.to_mueller()),
         130 => mueller_out(out, MuellerMatrix::identity()),
         131 => stokes_out(out, mueller_at(a).apply(stokes_at(a, 16))),
         135 => coating_jones(a, out),
-        136 => fresnel_jones(four_at(a, 0), out),
+        136 => fresnel_jones(records::four_at(a, 0), out),
         _ => 0,
     }
 }

@@ -6,58 +6,11 @@ mod calls;
 
 use records::Header;
 
-fn print_words(label: &[u8], b: &[u8]) {
-    io::write_all(1, label);
-    let n = b.len() / 8;
-    let mut i = 0;
-    while i < n {
-        io::write_all(1, b" ");
-        io::print_hex(1, records::word_at(b, i), 16);
-        i += 1;
-    }
-    io::write_all(1, b"\n");
-}
-
-fn print_got(w: &[u64; 256], n: usize) {
-    io::write_all(1, b"  computed");
-    let mut i = 0;
-    while i < n {
-        if i < 256 {
-            io::write_all(1, b" ");
-            io::print_hex(1, w[i], 16);
-        }
-        i += 1;
-    }
-    io::write_all(1, b"\n");
-}
-
-// A record that differs, whole.
-fn print_record(f: usize, a: &[u8], want: &[u8], got: &[u64; 256], count: usize) {
-    io::write_all(1, b"function ");
-    io::print_decimal(1, f as u64);
-    io::write_all(1, b" differs\n");
-    print_words(b"  arguments", a);
-    print_words(b"  recorded", want);
-    print_got(got, count);
-}
-
-// Whether the first words of an answer are the recorded ones; if not, and if it is the first of its
-// function, the record is printed.
-fn compared(f: usize, a: &[u8], want: &[u8], got: &[u64; 256], count: usize, first: bool) -> bool {
-    if records::same(got, count, want) {
-        return true;
-    }
-    if first {
-        print_record(f, a, want, got, count);
-    }
-    false
-}
-
 // Whether the answer to a record is the recorded one.
 fn agrees(f: usize, a: &[u8], want: &[u8], first: bool) -> bool {
     let mut got = [0u64; 256];
     let count = calls::call(f, a, &mut got);
-    compared(f, a, want, &got, count, first)
+    tally::compared(f, a, want, &got, count, first)
 }
 
 // The same of a record's words, all of which were read.
@@ -91,21 +44,6 @@ fn read_body(h: Header, body: &mut [u8]) -> bool {
     io::read_full(0, &mut body[..n]) == n
 }
 
-// Whether every answer of a function so far agreed.
-fn clean(f: usize, all: &[u32; 256], agreed: &[u32; 256]) -> bool {
-    if f < 256 {
-        return all[f] == agreed[f];
-    }
-    false
-}
-
-// One more answer of a function; there are fewer records than a count holds.
-fn count(f: usize, counts: &mut [u32; 256]) {
-    if f < 256 {
-        counts[f] = std::num::wrapping_add_u32(counts[f], 1);
-    }
-}
-
 // One record: whether there was one.
 fn replay(all: &mut [u32; 256], agreed: &mut [u32; 256], body: &mut [u8; 34816]) -> bool {
     let mut header = [0u8; 8];
@@ -118,32 +56,11 @@ fn replay(all: &mut [u32; 256], agreed: &mut [u32; 256], body: &mut [u8; 34816])
         return false;
     }
     let f = h.function;
-    if body_agrees(h, body, clean(f, all, agreed)) {
-        count(f, agreed);
+    if body_agrees(h, body, tally::clean(f, all, agreed)) {
+        tally::count(f, agreed);
     }
-    count(f, all);
+    tally::count(f, all);
     true
-}
-
-fn print_line(f: usize, agreed: u32, all: u32) {
-    io::write_all(1, b"function ");
-    io::print_decimal(1, f as u64);
-    io::write_all(1, b": ");
-    io::print_decimal(1, agreed as u64);
-    io::write_all(1, b" of ");
-    io::print_decimal(1, all as u64);
-    io::write_all(1, b" agree\n");
-}
-
-// A line for each function that was called.
-fn print_tally(all: &[u32; 256], agreed: &[u32; 256]) {
-    let mut f = 0;
-    while f < 256 {
-        if all[f] > 0 {
-            print_line(f, agreed[f], all[f]);
-        }
-        f += 1;
-    }
 }
 
 fn main() {
@@ -155,5 +72,5 @@ fn main() {
             break;
         }
     }
-    print_tally(&all, &agreed);
+    tally::print_tally(&all, &agreed);
 }

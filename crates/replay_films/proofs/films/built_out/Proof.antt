@@ -1,8 +1,8 @@
--- `replay::films::built_out` is safe and ends. Assumes nothing.
+-- `replay_films::films::built_out` is safe and ends. Assumes nothing.
 use Prim.Native.Nat.{_-_, _≤_}
 use borrow.Author.Needs.{needs}
-use Rattle.replay.proofs.films.built_out.Statement.{statement}
-use Rattle.replay.proofs.films.built_out.Tie as tie
+use Rattle.replay_films.proofs.films.built_out.Statement.{statement}
+use Rattle.replay_films.proofs.films.built_out.Tie as tie
 
 abbrev Inv-loop : tie.InvT-loop
 Inv-loop out₀ at items count i₀ out i = i ≤ count

@@ -1,8 +1,8 @@
--- `replay_train::print_got` is safe and ends. Assumes nothing.
+-- `tally::print_got` is safe and ends. Assumes nothing.
 use Prim.Native.Nat.{_-_, _≤_}
 use borrow.Author.Needs.{needs}
-use Rattle.replay_train.proofs.print_got.Statement.{statement}
-use Rattle.replay_train.proofs.print_got.Tie as tie
+use Rattle.tally.proofs.print_got.Statement.{statement}
+use Rattle.tally.proofs.print_got.Tie as tie
 
 abbrev Inv-loop : tie.InvT-loop
 Inv-loop w n t₀ i₀ t i = i ≤ n

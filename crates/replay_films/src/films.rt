@@ -1,52 +1,33 @@
 // The functions 60 to 79: of thin films.
 ghost use Prim.Native.Nat.{_≤_};
-use super::numbers::Four;
-use super::numbers::four_at;
-use super::numbers::one;
-use super::polar::jones_at;
 use coating::Built;
 use coating::Coating;
 use coating::Layers;
-use complex::Complex;
 use evaluation::Evaluation;
 use mueller::JonesMatrix;
+use records::Four;
 use thin_film::SurfaceCoating;
 use thin_film::Text;
 use transfer_matrix::CoatingResponse;
 use transfer_matrix::ThinFilmLayer;
+
+fn one(out: &mut [u64; 256], x: f64) -> usize {
+    let w = [x];
+    records::write(out, 0, &w);
+    1
+}
 
 fn layer_out(out: &mut [u64; 256], at: usize, l: ThinFilmLayer) {
     let w = [l.n, l.k, l.thickness_nm];
     records::write(out, at, &w);
 }
 
-fn layer_at(a: &[u8], i: usize) -> ThinFilmLayer
-    requires { ⌜ i ≤ 512 ⌝ }
-{
-    let x = four_at(a, i);
+fn layer_at(a: &[u8], i: usize) -> ThinFilmLayer {
+    let x = records::four_at(a, i);
     ThinFilmLayer {
         n: x.a,
         k: x.b,
         thickness_nm: x.c,
-    }
-}
-
-// The response in a call's first fourteen words.
-pub fn response_at(a: &[u8]) -> CoatingResponse {
-    let r = four_at(a, 0);
-    let t = four_at(a, 4);
-    let powers = four_at(a, 8);
-    CoatingResponse {
-        rs: Complex::new(r.a, r.b),
-        rp: Complex::new(r.c, r.d),
-        ts: Complex::new(t.a, t.b),
-        tp: Complex::new(t.c, t.d),
-        reflectance_s: powers.a,
-        reflectance_p: powers.b,
-        transmittance_s: powers.c,
-        transmittance_p: powers.d,
-        phase_rs_rad: records::float_at(a, 12),
-        phase_rp_rad: records::float_at(a, 13),
     }
 }
 
@@ -200,20 +181,20 @@ fn product(x: JonesMatrix, y: JonesMatrix) -> JonesMatrix {
 }
 
 fn coating_evaluation(a: &[u8]) -> Evaluation {
-    let x = four_at(a, 1);
+    let x = records::four_at(a, 1);
     let n = records::small_at(a, 5) as usize;
     let c = coating(records::small_at(a, 0));
     lent_layers::evaluate_coating(c, items_at(a, 6), n, x.a, x.b, x.c, x.d)
 }
 
 fn surface_evaluation(a: &[u8]) -> Evaluation {
-    let x = four_at(a, 2);
+    let x = records::four_at(a, 2);
     let n = records::small_at(a, 6) as usize;
     lent_layers::evaluate_surface(surface_at(a), items_at(a, 7), n, x.a, x.b, x.c, x.d)
 }
 
 fn multilayer_response(a: &[u8]) -> CoatingResponse {
-    let x = four_at(a, 0);
+    let x = records::four_at(a, 0);
     let n = records::small_at(a, 4) as usize;
     lent_layers::evaluate_multilayer(items_at(a, 5), n, x.a, x.b, x.c, x.d)
 }
@@ -250,14 +231,18 @@ fn built_call(f: usize, a: &[u8], x: Four, out: &mut [u64; 256]) -> usize {
 // How many words the function gave; 0 where it is not one of these.
 pub fn call(f: usize, a: &[u8], out: &mut [u64; 256]) -> usize {
     match f {
-        60..=63 => small_call(f, four_at(a, 0), response_at(a), out),
-        64..=67 => built_call(f, a, four_at(a, 0), out),
+        60..=63 => small_call(f, records::four_at(a, 0), records::response_at(a), out),
+        64..=67 => built_call(f, a, records::four_at(a, 0), out),
         68 => text_out(out, surface_at(a).label()),
         69 => evaluation_out(out, coating_evaluation(a)),
         70 => evaluation_out(out, surface_evaluation(a)),
         71 => response_out(out, multilayer_response(a)),
         72 => {
-            records::write_jones(out, 0, product(jones_at(a, 0), jones_at(a, 8)));
+            records::write_jones(
+                out,
+                0,
+                product(records::jones_at(a, 0), records::jones_at(a, 8)),
+            );
             8
         }
         _ => 0,

@@ -1,8 +1,8 @@
--- `replay::print_tally` is safe and ends. Assumes nothing.
+-- `tally::print_tally` is safe and ends. Assumes nothing.
 use Prim.Native.Nat.{_-_, _≤_}
 use borrow.Author.Needs.{needs}
-use Rattle.replay.proofs.print_tally.Statement.{statement}
-use Rattle.replay.proofs.print_tally.Tie as tie
+use Rattle.tally.proofs.print_tally.Statement.{statement}
+use Rattle.tally.proofs.print_tally.Tie as tie
 
 abbrev Inv-loop : tie.InvT-loop
 Inv-loop all agreed f₀ f = f ≤ 256

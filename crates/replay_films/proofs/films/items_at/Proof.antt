@@ -1,8 +1,8 @@
--- `replay::films::items_at` is safe and ends. Assumes nothing.
+-- `replay_films::films::items_at` is safe and ends. Assumes nothing.
 use Prim.Native.Nat.{_-_, _≤_}
 use borrow.Author.Needs.{needs}
-use Rattle.replay.proofs.films.items_at.Statement.{statement}
-use Rattle.replay.proofs.films.items_at.Tie as tie
+use Rattle.replay_films.proofs.films.items_at.Statement.{statement}
+use Rattle.replay_films.proofs.films.items_at.Tie as tie
 
 abbrev Inv-loop : tie.InvT-loop
 Inv-loop a from items₀ i₀ items i = i ≤ 72

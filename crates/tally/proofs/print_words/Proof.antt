@@ -1,8 +1,8 @@
--- `replay::print_words` is safe and ends. Assumes nothing.
+-- `tally::print_words` is safe and ends. Assumes nothing.
 use Prim.Native.Nat.{_-_, _≤_}
 use borrow.Author.Needs.{needs}
-use Rattle.replay.proofs.print_words.Statement.{statement}
-use Rattle.replay.proofs.print_words.Tie as tie
+use Rattle.tally.proofs.print_words.Statement.{statement}
+use Rattle.tally.proofs.print_words.Tie as tie
 
 abbrev Inv-loop : tie.InvT-loop
 Inv-loop label b n i₀ t5 t6 i = i ≤ n

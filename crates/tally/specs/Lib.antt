@@ -1,0 +1,2 @@
+-- Counts of a replay.
+pub mod Counts
