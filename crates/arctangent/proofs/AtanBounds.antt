@@ -12,7 +12,7 @@ use lib.Ieee.Scale.{finite}
 use lib.Ieee.Positive.{num}
 use Rattle.ieee.specs.Operators.{_⊕_, _⊖_, _⊗_, _⊘_}
 use Rattle.ieee.specs.Functions.{zero-f, one, is-inf, is-zero, abs, three, four}
-use Rattle.ieee.specs.Range.{Mag, In, sgn, wider, tops, inb}
+use Rattle.ieee.specs.Range.{Mag, In, sgn, wider, at-most, inb}
 use Rattle.ieee.proofs.Signs.{finite-number}
 use Rattle.ieee.proofs.Range.Laws.{in-lit, in-mag, mag-lit, mag-up, mul-mag, sq-in, neg-mag, abs-in}
 use Rattle.ieee.proofs.Range.Constants.{zero-mag, one-in, two-in}
@@ -73,7 +73,7 @@ poly-mag {t} h =
     mul-mag four-mag a tt
 
 -- ---- the half angle: from 1/2^j to half of it
-half-angle-mag : {j k : ℕ} {t : Float} → Mag 1 j t → T (wider 1 j 1 0) → T (tops 1 (2 ^ j * 2) 1 k) → Mag 1 k (half-angle t)
+half-angle-mag : {j k : ℕ} {t : Float} → Mag 1 j t → T (wider 1 j 1 0) → T (at-most 1 (2 ^ j * 2) 1 k) → Mag 1 k (half-angle t)
 unfolding half-angle
 half-angle-mag {t = t} h u v =
     let z : In 0 0 1 0 (t ⊗ t) = sq-in (mag-up {q = 1} {k = 0} h u) tt in

@@ -1,6 +1,6 @@
 -- Facts on lists of layers that the loops over layers cite: a stack takes one layer more, and the i-th layer that is read stands where `nth-index` says.
 --     front, done, as-long, within, goes-on                 where every layer is read, from either end
---     at-most, inside, starts, turns, ends, none-lent       where all or none of a lent list are
+--     within-list, inside, starts, turns, ends, none-lent       where all or none of a lent list are
 -- Assumes nothing.
 use mathlib.Core.Path.{_≡_, refl, sym, _∙_, ap}
 use Prim.Native.Nat.{ℕ, suc, _+_, _-_, _<_, _≤_, zero-le}
@@ -86,8 +86,8 @@ bounded true n = le-refl n
 bounded false n = zero-le
 
 module _ (p : Pending) (ys : List ThinFilmLayer) where
-  pub at-most : count p (length ys) ≤ length ys
-  at-most = bounded (p .read) (length ys)
+  pub within-list : count p (length ys) ≤ length ys
+  within-list = bounded (p .read) (length ys)
 
   pub inside : (i : ℕ) → i < count p (length ys) → nth-index (p .far) (count p (length ys)) i < length ys
   inside i h = placed (p .far) ys (p .read) i h
@@ -108,4 +108,4 @@ module _ (p : Pending) (ys : List ThinFilmLayer) where
 
 -- an empty list leaves all as it is
 pub none-lent : (p : Pending) → through p [] ≡ p
-none-lent p = sym (starts p []) ∙ ends p [] p 0 (omega (arith, at-most p []))
+none-lent p = sym (starts p []) ∙ ends p [] p 0 (omega (arith, within-list p []))

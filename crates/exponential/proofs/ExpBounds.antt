@@ -9,7 +9,7 @@ use lib.Ieee.Bits.{cond-no, ofBits-fits}
 use lib.Ieee.Fits.{and-l, and-r}
 use Rattle.ieee.specs.Operators.{_⊕_, _⊗_, _⊘_}
 use Rattle.ieee.specs.Functions.{zero-f, one}
-use Rattle.ieee.specs.Range.{Mag, In, plus, tops, inb}
+use Rattle.ieee.specs.Range.{Mag, In, plus, at-most, inb}
 use Rattle.ieee.proofs.Signs.{finite-number}
 use Rattle.ieee.proofs.Range.Laws.{in-lit, in-up, mag-up, mul-mag, sq-in}
 use Rattle.ieee.proofs.Range.Constants.{one-mag}
@@ -73,7 +73,7 @@ sqs zero p = p
 sqs (suc n) p = sqs n (sq p)
 
 abbrev fit : ℕ → Bool
-fit p = tops (p * p) (2 ^ 28 * 2 ^ 28) (sq p) 28
+fit p = at-most (p * p) (2 ^ 28 * 2 ^ 28) (sq p) 28
 
 abbrev all-fit : ℕ → ℕ → Bool
 all-fit zero p = true

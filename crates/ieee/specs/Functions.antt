@@ -39,7 +39,7 @@ seven-eighths = ofBits binary64 0x3FEC_0000_0000_0000
 abbrev pub half : Float
 half = ofBits binary64 0x3FE0_0000_0000_0000
 
--- 1e-28: below it complex.rs divides by nothing, up to it polarization.rs normalizes nothing
+-- 1e-28: a denominator below it makes a quotient of thin_film.rs zero, and normalize of polarization.rs leaves a vector of up to that intensity
 abbrev pub tiny : Float
 tiny = ofBits binary64 0x3A1F_B0F6_BE50_6019
 

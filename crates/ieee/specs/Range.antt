@@ -67,12 +67,12 @@ abbrev pub wider : ℕ → ℕ → ℕ → ℕ → Bool
 wider p j q k = leb (p * 2 ^ k) (q * 2 ^ j)
 
 -- P / Q ≤ p / 2 ^ j, which an f64 holds
-abbrev pub tops : ℕ → ℕ → ℕ → ℕ → Bool
-tops P Q p j = leb (P * 2 ^ j) (p * Q) && holds p j
+abbrev pub at-most : ℕ → ℕ → ℕ → ℕ → Bool
+at-most P Q p j = leb (P * 2 ^ j) (p * Q) && holds p j
 
 -- a / 2 ^ i, which an f64 holds, is ≤ A / B
-abbrev pub foot : ℕ → ℕ → ℕ → ℕ → Bool
-foot A B a i = leb (a * B) (A * 2 ^ i) && holds a i
+abbrev pub at-least : ℕ → ℕ → ℕ → ℕ → Bool
+at-least A B a i = leb (a * B) (A * 2 ^ i) && holds a i
 
 -- `Mag` and `In` as tests, for constants
 abbrev pub magb : ℕ → ℕ → Float → Bool

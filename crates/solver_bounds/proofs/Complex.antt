@@ -9,7 +9,7 @@ use lib.Ieee.Fits.{mul-fits, and-r}
 use lib.Ieee.Scale.{finite}
 use Rattle.ieee.specs.Operators.{_⊕_, _⊗_, _⊘_}
 use Rattle.ieee.specs.Functions.{zero-f, two, tiny, max}
-use Rattle.ieee.specs.Range.{Mag, In, holds, wider, tops, foot}
+use Rattle.ieee.specs.Range.{Mag, In, holds, wider, at-most, at-least}
 use Rattle.ieee.proofs.Range.Laws.{in-mag, in-lit, in-up, neg-mag, mul-mag, mul-in, sq-in}
 use Rattle.ieee.proofs.Range.Sums.{add-mag, add-in}
 use Rattle.ieee.proofs.Range.Quotients.{div-in}
@@ -32,15 +32,15 @@ pub real-up : {a i p j b k q l : ℕ} {z : Complex} → Real a i p j z → T (wi
 real-up h t = record { re = in-up (h .re) t; im = h .im }
 
 -- ---- the squared size of a real one is the square of its real part
-pub norm-same : {a i p j : ℕ} {z : Complex} (q l : ℕ) → Real a i p j z → T (tops (p * p) (2 ^ j * 2 ^ j) q l) → norm-sq z ≡ z .re ⊗ z .re
+pub norm-same : {a i p j : ℕ} {z : Complex} (q l : ℕ) → Real a i p j z → T (at-most (p * p) (2 ^ j * 2 ^ j) q l) → norm-sq z ≡ z .re ⊗ z .re
 unfolding norm-sq
 norm-same {z = z} q l h t =
     let s : In 0 0 q l (z .re ⊗ z .re) = sq-in (in-mag (h .re)) t in
     add-zero-same (z .re ⊗ z .re) (s .sign) (mul-fits binary64 (z .re) (z .re)) (zero-mul-mag (h .im) (h .im))
 
-pub norm-in : {a i p j b k q l : ℕ} {z : Complex} → Real a i p j z → T (foot (a * a) (2 ^ i * 2 ^ i) b k && tops (p * p) (2 ^ j * 2 ^ j) q l) → In b k q l (norm-sq z)
+pub norm-in : {a i p j b k q l : ℕ} {z : Complex} → Real a i p j z → T (at-least (a * a) (2 ^ i * 2 ^ i) b k && at-most (p * p) (2 ^ j * 2 ^ j) q l) → In b k q l (norm-sq z)
 norm-in {a} {i} {p} {j} {b} {k} {q} {l} {z} h t =
-    subst (λ (x : Float). In b k q l x) (sym (norm-same q l h (and-r (foot (a * a) (2 ^ i * 2 ^ i) b k) (tops (p * p) (2 ^ j * 2 ^ j) q l) t))) (mul-in (h .re) (h .re) t)
+    subst (λ (x : Float). In b k q l x) (sym (norm-same q l h (and-r (at-least (a * a) (2 ^ i * 2 ^ i) b k) (at-most (p * p) (2 ^ j * 2 ^ j) q l) t))) (mul-in (h .re) (h .re) t)
 
 -- ---- division: 1e-28 is from 2 ^ -94 to 2 ^ -93, and a denominator above that is not replaced
 pub tiny-in : In 1 94 1 93 tiny
@@ -52,7 +52,7 @@ unfolding div
 div-is z w h t = cond-no (lt (norm-sq w) tiny) zero (quotient z w (norm-sq w)) (never-under h tiny-in t)
 
 -- ---- products of real ones
-pub mul-real : {a i p j b k q l c m r n : ℕ} {z w : Complex} → Real a i p j z → Real b k q l w → T (foot (a * b) (2 ^ i * 2 ^ k) c m && tops (p * q) (2 ^ j * 2 ^ l) r n) → T (holds c m && holds r n) → Real c m r n (mul z w)
+pub mul-real : {a i p j b k q l c m r n : ℕ} {z w : Complex} → Real a i p j z → Real b k q l w → T (at-least (a * b) (2 ^ i * 2 ^ k) c m && at-most (p * q) (2 ^ j * 2 ^ l) r n) → T (holds c m && holds r n) → Real c m r n (mul z w)
 unfolding mul
 mul-real h g t u = record {
   re = sub-zero-in (mul-in (h .re) (g .re) t) (zero-mul-mag (h .im) (g .im)) u;
@@ -74,6 +74,6 @@ sqrt-real z h f =
     (record { re = half-root-in u; im = cond-mag (le zero-f (z .im)) zero-mag (neg-mag zero-mag) })
 
 -- ---- e ^ z, where e ^ x is at most p: both parts are at most p
-pub exp-mag : {p : ℕ} (z : Complex) → Mag p 0 (Exp.exp (z .re)) → T (finite (z .im)) → T (tops (p * 1) (2 ^ 0 * 2 ^ 0) p 0) → CMag p 0 (exp z)
+pub exp-mag : {p : ℕ} (z : Complex) → Mag p 0 (Exp.exp (z .re)) → T (finite (z .im)) → T (at-most (p * 1) (2 ^ 0 * 2 ^ 0) p 0) → CMag p 0 (exp z)
 unfolding exp
 exp-mag z h f t = record { re = mul-mag h (cos-mag (z .im) f) t; im = mul-mag h (sin-mag (z .im) f) t }

@@ -9,7 +9,7 @@ use lib.Ieee.{Float, binary64, neg, fits}
 use lib.Ieee.Fits.{mul-fits, sub-fits}
 use Rattle.ieee.specs.Operators.{_⊕_, _⊖_, _⊗_}
 use Rattle.ieee.specs.Functions.{zero-f, one, two, half}
-use Rattle.ieee.specs.Range.{Mag, In, tops}
+use Rattle.ieee.specs.Range.{Mag, In, at-most}
 use Rattle.ieee.proofs.Range.Laws.{in-mag, neg-mag, mul-mag, mul-in, sq-in}
 use Rattle.ieee.proofs.Range.Sums.{add-mag, sub-mag, sub-in}
 use Rattle.ieee.proofs.Range.Quotients.{div-mag, div-in}
@@ -117,11 +117,11 @@ factor-mag {d} h g =
 
 -- ---- cos δ and i sin δ, where both exponentials of Im δ are at most p: both parts are at most p. The tests hold of every numeral below 2 ^ 52
 pub record Room (p : ℕ) : Type 0 where
-  pub once : T (tops (p * 1) (2 ^ 0 * 2 ^ 0) p 0)
-  pub twice : T (tops (p * 2 ^ 0 + p * 2 ^ 0) (2 ^ 0 * 2 ^ 0) (2 * p) 0)
-  pub halved : T (tops (2 * p * 1) (2 ^ 0 * 2 ^ 1) p 0)
-  pub before : T (tops (0 * 2 ^ 0 + p * 2 ^ 0) (2 ^ 0 * 2 ^ 0) p 0)
-  pub behind : T (tops (p * 2 ^ 0 + 0 * 2 ^ 0) (2 ^ 0 * 2 ^ 0) p 0)
+  pub once : T (at-most (p * 1) (2 ^ 0 * 2 ^ 0) p 0)
+  pub twice : T (at-most (p * 2 ^ 0 + p * 2 ^ 0) (2 ^ 0 * 2 ^ 0) (2 * p) 0)
+  pub halved : T (at-most (2 * p * 1) (2 ^ 0 * 2 ^ 1) p 0)
+  pub before : T (at-most (0 * 2 ^ 0 + p * 2 ^ 0) (2 ^ 0 * 2 ^ 0) p 0)
+  pub behind : T (at-most (p * 2 ^ 0 + 0 * 2 ^ 0) (2 ^ 0 * 2 ^ 0) p 0)
 
 pub record Turns (p : ℕ) (δ : Complex) : Type 0 where
   pub angle : Mag 32768 0 (δ .re)

@@ -1,8 +1,9 @@
 // The tally of a replay: for each function how many answers agree with the recorded ones, and the
 // first record that does not, whole.
 ghost use mathlib.Core.Path.{_≡_};
+ghost use mathlib.Core.Bool.{_&&_};
 ghost use Rattle.records.specs.Words.{recorded};
-ghost use Rattle.tally.specs.Counts.{clean, one-more};
+ghost use Rattle.tally.specs.Counts.{clean, all-clean, one-more};
 
 fn print_words(label: &[u8], b: &[u8]) {
     io::write_all(1, label);
@@ -89,15 +90,24 @@ fn print_line(f: usize, agreed: u32, all: u32) {
     io::write_all(1, b" agree\n");
 }
 
-// A line for each function that was called. What is printed is outside of what is proved.
-pub fn print_tally(all: &[u32; 256], agreed: &[u32; 256])
-    ensures { λ r. ⌜ r ≡ tt ⌝ }
+fn both(a: bool, b: bool) -> bool
+    ensures { λ r. ⌜ r ≡ (a && b) ⌝ }
 {
+    if a { b } else { false }
+}
+
+// Prints a line for each function that was called; whether every answer agreed.
+pub fn print_tally(all: &[u32; 256], agreed: &[u32; 256]) -> bool
+    ensures { λ r. ⌜ r ≡ all-clean 256 (now (all .entry)) (now (agreed .entry)) ⌝ }
+{
+    let mut every = true;
     let mut f = 0;
     while f < 256 {
         if all[f] > 0 {
             print_line(f, agreed[f], all[f]);
         }
+        every = both(every, clean(f, all, agreed));
         f += 1;
     }
+    every
 }

@@ -149,7 +149,7 @@ module _ {M : Type 1} (𝓤 : URA M) (H : Heap 𝓤) (A : Atoms 𝓤) (W : Given
       owned ! S.the-row (Is S.the-row) (LL.makes S.the-type S′.the-plain 𝓤 H A) acc (u ∷ []) is $ done !
 
   n-fits : n < 2 ^ 64
-  n-fits = omega (arith, Order.at-most start ys, room .0)
+  n-fits = omega (arith, Order.within-list start ys, room .0)
 
   -- the call of `count`: what it is passed, what it asks, and what is known of its result
   abbrev to-count : Count 𝓤 H A mem run .Ghost

@@ -13,7 +13,7 @@ use lib.Ieee.Fits.{and-l, and-r}
 use lib.Ieee.Scale.{finite}
 use lib.Ieee.Positive.{num, den, den-pos, through, first-pos}
 use Rattle.ieee.specs.Functions.{abs}
-use Rattle.ieee.specs.Range.{sgn, plus, Mag, In, Size, Rep, holds, wider, tops, foot, magb, inb}
+use Rattle.ieee.specs.Range.{sgn, plus, Mag, In, Size, Rep, holds, wider, at-most, at-least, magb, inb}
 use Rattle.ieee.proofs.Range.Round.{round-most, round-least, round-plus}
 
 -- ---- which bounds an f64 holds. A numeral below 2 ^ 53 over a power of two, or a power of two
@@ -74,17 +74,17 @@ in-up {a} {i} {p} {j} {b} {k} {q} {l} {x} h t = record {
 }
 
 -- ---- a rounded fraction N / D, known to be at most P / Q, and at least A / B
-tops-le : (P Q p j : ℕ) → T (tops P Q p j) → P * 2 ^ j ≤ p * Q
-tops-le P Q p j t = leb→le (P * 2 ^ j) (p * Q) (and-l (leb (P * 2 ^ j) (p * Q)) (holds p j) t)
+at-most-le : (P Q p j : ℕ) → T (at-most P Q p j) → P * 2 ^ j ≤ p * Q
+at-most-le P Q p j t = leb→le (P * 2 ^ j) (p * Q) (and-l (leb (P * 2 ^ j) (p * Q)) (holds p j) t)
 
-tops-rep : (P Q p j : ℕ) → T (tops P Q p j) → Rep binary64 p j
-tops-rep P Q p j t = rep-small p j (and-r (leb (P * 2 ^ j) (p * Q)) (holds p j) t)
+at-most-rep : (P Q p j : ℕ) → T (at-most P Q p j) → Rep binary64 p j
+at-most-rep P Q p j t = rep-small p j (and-r (leb (P * 2 ^ j) (p * Q)) (holds p j) t)
 
-foot-le : (A B a i : ℕ) → T (foot A B a i) → a * B ≤ A * 2 ^ i
-foot-le A B a i t = leb→le (a * B) (A * 2 ^ i) (and-l (leb (a * B) (A * 2 ^ i)) (holds a i) t)
+at-least-le : (A B a i : ℕ) → T (at-least A B a i) → a * B ≤ A * 2 ^ i
+at-least-le A B a i t = leb→le (a * B) (A * 2 ^ i) (and-l (leb (a * B) (A * 2 ^ i)) (holds a i) t)
 
-foot-rep : (A B a i : ℕ) → T (foot A B a i) → Rep binary64 a i
-foot-rep A B a i t = rep-small a i (and-r (leb (a * B) (A * 2 ^ i)) (holds a i) t)
+at-least-rep : (A B a i : ℕ) → T (at-least A B a i) → Rep binary64 a i
+at-least-rep A B a i t = rep-small a i (and-r (leb (a * B) (A * 2 ^ i)) (holds a i) t)
 
 -- by a bound that an f64 holds, however that is known
 pub round-rep : (s : Bool) (N D p j : ℕ) → 0 < D → Rep binary64 p j → N * 2 ^ j ≤ p * D → Mag p j (round binary64 s N D)
@@ -92,16 +92,16 @@ round-rep s N D p j D0 r h =
     let g = round-most binary64 N D p j D0 r h s in
     record { fine = g .0; most = g .1 }
 
-pub round-mag : (s : Bool) (N D P Q p j : ℕ) → 0 < D → 0 < Q → N * Q ≤ P * D → T (tops P Q p j) → Mag p j (round binary64 s N D)
-round-mag s N D P Q p j D0 Q0 h t = round-rep s N D p j D0 (tops-rep P Q p j t) (through N P p D Q (2 ^ j) Q0 h (tops-le P Q p j t))
+pub round-mag : (s : Bool) (N D P Q p j : ℕ) → 0 < D → 0 < Q → N * Q ≤ P * D → T (at-most P Q p j) → Mag p j (round binary64 s N D)
+round-mag s N D P Q p j D0 Q0 h t = round-rep s N D p j D0 (at-most-rep P Q p j t) (through N P p D Q (2 ^ j) Q0 h (at-most-le P Q p j t))
 
-pub round-in : (N D A B P Q a i p j : ℕ) → 0 < D → 0 < B → 0 < Q → A * D ≤ N * B → N * Q ≤ P * D → T (foot A B a i && tops P Q p j) → In a i p j (round binary64 false N D)
+pub round-in : (N D A B P Q a i p j : ℕ) → 0 < D → 0 < B → 0 < Q → A * D ≤ N * B → N * Q ≤ P * D → T (at-least A B a i && at-most P Q p j) → In a i p j (round binary64 false N D)
 round-in N D A B P Q a i p j D0 B0 Q0 l h t =
-    let u = and-l (foot A B a i) (tops P Q p j) t in
-    let g = round-mag false N D P Q p j D0 Q0 h (and-r (foot A B a i) (tops P Q p j) t) in
+    let u = and-l (at-least A B a i) (at-most P Q p j) t in
+    let g = round-mag false N D P Q p j D0 Q0 h (and-r (at-least A B a i) (at-most P Q p j) t) in
     record {
       sign = round-plus binary64 N D (g .fine);
-      least = round-least binary64 N D a i D0 (foot-rep A B a i u) (through a A N (2 ^ i) B D B0 (foot-le A B a i u) l) (g .fine);
+      least = round-least binary64 N D a i D0 (at-least-rep A B a i u) (through a A N (2 ^ i) B D B0 (at-least-le A B a i u) l) (g .fine);
       most = g .most;
     }
 
@@ -201,13 +201,13 @@ ac-mul X dx Y dy a A b B h k = simp (mul-assoc, mul-comm, mul-left-comm) (simp (
 ac-mul' : (X dx Y dy a A b B : ℕ) → A * dx ≤ X * a → B * dy ≤ Y * b → A * B * (dx * dy) ≤ X * Y * (a * b)
 ac-mul' X dx Y dy a A b B h k = simp (mul-assoc, mul-comm, mul-left-comm) (simp (mul-assoc, mul-comm, mul-left-comm) at (mul-le-mul h k))
 
-pub mul-mag : {p j q k r l : ℕ} {x y : Float} → Mag p j x → Mag q k y → T (tops (p * q) (2 ^ j * 2 ^ k) r l) → Mag r l (mul binary64 x y)
+pub mul-mag : {p j q k r l : ℕ} {x y : Float} → Mag p j x → Mag q k y → T (at-most (p * q) (2 ^ j * 2 ^ k) r l) → Mag r l (mul binary64 x y)
 mul-mag {p} {j} {q} {k} {r} {l} {x} {y} h g t =
     subst (λ (z : Float). Mag r l z) (sym (mul-is x y (h .fine) (g .fine)))
     (round-mag (unlike (sgn x) (sgn y)) (num x * num y) (den x * den y) (p * q) (2 ^ j * 2 ^ k) r l (mul-pos (den-pos x) (den-pos y)) (mul-pos (pow-pos j) (pow-pos k))
     (ac-mul (num x) (den x) (num y) (den y) (2 ^ j) p (2 ^ k) q (h .most) (g .most)) t)
 
-pub mul-in : {a i p j b k q l c m r n : ℕ} {x y : Float} → In a i p j x → In b k q l y → T (foot (a * b) (2 ^ i * 2 ^ k) c m && tops (p * q) (2 ^ j * 2 ^ l) r n) → In c m r n (mul binary64 x y)
+pub mul-in : {a i p j b k q l c m r n : ℕ} {x y : Float} → In a i p j x → In b k q l y → T (at-least (a * b) (2 ^ i * 2 ^ k) c m && at-most (p * q) (2 ^ j * 2 ^ l) r n) → In c m r n (mul binary64 x y)
 mul-in {a} {i} {p} {j} {b} {k} {q} {l} {c} {m} {r} {n} {x} {y} h g t =
     subst (λ (z : Float). In c m r n z)
     (sym (mul-is x y (plus-finite x (h .sign)) (plus-finite y (g .sign)) ∙ ap (λ (s : Bool). round binary64 (unlike s (sgn y)) (num x * num y) (den x * den y)) (plus-sgn x (h .sign)) ∙ ap (λ (s : Bool). round binary64 (unlike false s) (num x * num y) (den x * den y)) (plus-sgn y (g .sign))))
@@ -220,7 +220,7 @@ beq-self : (s : Bool) → unlike s s ≡ false
 beq-self true = refl
 beq-self false = refl
 
-pub sq-in : {p j r n : ℕ} {x : Float} → Mag p j x → T (tops (p * p) (2 ^ j * 2 ^ j) r n) → In 0 0 r n (mul binary64 x x)
+pub sq-in : {p j r n : ℕ} {x : Float} → Mag p j x → T (at-most (p * p) (2 ^ j * 2 ^ j) r n) → In 0 0 r n (mul binary64 x x)
 sq-in {p} {j} {r} {n} {x} h t =
     subst (λ (z : Float). In 0 0 r n z)
     (sym (mul-is x x (h .fine) (h .fine) ∙ ap (λ (s : Bool). round binary64 s (num x * num x) (den x * den x)) (beq-self (sgn x))))

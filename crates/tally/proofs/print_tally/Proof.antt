@@ -1,17 +1,32 @@
--- `tally::print_tally` is safe and ends. Assumes nothing.
-use Prim.Native.Nat.{_-_, _≤_}
+-- `tally::print_tally` meets its contract. Assumes nothing.
+use mathlib.Core.Path.{_≡_, refl, sym, ap, _∙_}
+use mathlib.Core.Bool.{Bool, _&&_}
+use mathlib.Core.List.{List}
+use Prim.Native.Nat.{ℕ, _+_, _-_, _≤_}
+use native.Mathlib.Numerals.{add-one}
+use native.Mathlib.Omega.{arith}
+use Rattle.tally.specs.Counts.{clean, all-clean}
 use borrow.Author.Needs.{needs}
 use Rattle.tally.proofs.print_tally.Statement.{statement}
 use Rattle.tally.proofs.print_tally.Tie as tie
 
+-- one function more
+next : (all agreed : List ℕ) (f : ℕ) (every k r : Bool) → every ≡ all-clean f all agreed → k ≡ clean f all agreed → r ≡ (every && k) → r ≡ all-clean (f + 1) all agreed
+unfolding all-clean
+next all agreed f every k r p q e = e ∙ ap (λ (x : Bool). x && k) p ∙ ap (λ (y : Bool). all-clean f all agreed && y) q ∙ ap (λ (n : ℕ). all-clean n all agreed) (sym (add-one f))
+
+last : (all agreed : List ℕ) (f : ℕ) (every : Bool) → f ≤ 256 → 256 ≤ f → every ≡ all-clean f all agreed → every ≡ all-clean 256 all agreed
+last all agreed f every h g e = e ∙ ap (λ (n : ℕ). all-clean n all agreed) (omega arith)
+
 abbrev Inv-loop : tie.InvT-loop
-Inv-loop all agreed f₀ f = f ≤ 256
+Inv-loop all agreed every₀ f₀ every f = (f ≤ 256) × (every ≡ all-clean f all agreed)
 
 abbrev μ-loop : tie.MeasureT-loop
-μ-loop all agreed f₀ f = 256 - f
+μ-loop all agreed every₀ f₀ every f = 256 - f
 
 loop-holds : tie.Need-loop-holds Inv-loop μ-loop
-loop-holds c = search needs
+unfolding all-clean
+loop-holds c = (search needs, refl)
 
 mul-if1 : tie.Need-mul-if1 Inv-loop μ-loop
 mul-if1 c = search needs
@@ -34,6 +49,12 @@ element-copy-out-print-line-2 c = search needs
 print-line-requires : tie.Need-print-line-requires Inv-loop μ-loop
 print-line-requires c κs = search needs
 
+clean-requires : tie.Need-clean-requires Inv-loop μ-loop
+clean-requires c κs = search needs
+
+both-requires : tie.Need-both-requires Inv-loop μ-loop
+both-requires c κs = search needs
+
 add-f : tie.Need-add-f Inv-loop μ-loop
 add-f c = search needs
 
@@ -41,10 +62,10 @@ loop-less : tie.Need-loop-less Inv-loop μ-loop
 loop-less c = search needs
 
 loop-again : tie.Need-loop-again Inv-loop μ-loop
-loop-again c = search needs
+loop-again c = (search needs, next _ _ _ _ _ _ (c .before .before .before .before .before .loop .inv .1) (c .before .clean .ensures) (c .both .ensures))
 
 returns : tie.Need-returns Inv-loop μ-loop
-returns c = search needs
+returns c = last _ _ _ _ (c .before .loop .inv .0) (c .loop-test .left) (c .before .loop .inv .1)
 
 pub print-tally-spec : {M : Type 1} → statement M
 print-tally-spec =
@@ -60,6 +81,8 @@ print-tally-spec =
     mul-print-line-2
     element-copy-out-print-line-2
     print-line-requires
+    clean-requires
+    both-requires
     add-f
     loop-less
     loop-again
