@@ -1,2 +1,3 @@
--- laws
+-- Known answers, and that both evaluations refuse alike.
 pub mod Known
+pub mod Alike

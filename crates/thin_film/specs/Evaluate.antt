@@ -1,7 +1,8 @@
--- `SurfaceCoating::evaluate` of thin_film.rs. Definitions only.
+-- `SurfaceCoating::evaluate` of thin_film.rs, and that it refuses as `Coating::evaluate` does. Definitions only.
+use mathlib.Core.Path.{_≡_}
 use mathlib.Core.List.{List}
 use lib.Ieee.{Float, lt}
-use Rattle.refusal.specs.Outcome.{Outcome}
+use Rattle.refusal.specs.Outcome.{Outcome, map}
 use Rattle.transfer_matrix.specs.declared.ThinFilmLayer.{ThinFilmLayer}
 use Rattle.transfer_matrix.specs.declared.CoatingResponse.{CoatingResponse}
 use Rattle.evaluation.specs.Walk.{ordered}
@@ -13,3 +14,10 @@ use Rattle.thin_film.specs.Coating.{coating-of, layers-of}
 unfoldable pub evaluate-surface : SurfaceCoating → List ThinFilmLayer → Float → Float → Float → Float → Outcome CoatingResponse
 evaluate-surface surface custom n-incident n-substrate angle wavelength =
     evaluate-coating (coating-of surface) (ordered (lt n-substrate n-incident) (layers-of surface custom)) n-incident n-substrate angle wavelength
+
+-- 01 section 4: both refuse alike, with the same number and place and for the same arguments; proofs/Alike.antt has the proof
+abbrev pub refusal-of : Outcome CoatingResponse → Outcome (Unit {0})
+refusal-of o = map (λ r. tt) o
+
+abbrev pub RefuseAlike : Type 0
+RefuseAlike = (surface : SurfaceCoating) (custom : List ThinFilmLayer) (n-incident n-substrate angle wavelength : Float) → refusal-of (evaluate-surface surface custom n-incident n-substrate angle wavelength) ≡ refusal-of (evaluate-coating (coating-of surface) (layers-of surface custom) n-incident n-substrate angle wavelength)

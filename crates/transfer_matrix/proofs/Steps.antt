@@ -6,7 +6,7 @@ use Rattle.transfer_matrix.specs.declared.ThinFilmLayer.{ThinFilmLayer}
 use Rattle.transfer_matrix.specs.declared.Stack.{Stack}
 use Rattle.characteristic.specs.Matrix.{mat-mul}
 use Rattle.transfer_matrix.specs.Solve.{eta0-s, eta0-p, eta-sub-s, eta-sub-p, through-s, through-p, solve, respond, evaluate}
-use Rattle.transfer_matrix.specs.Stack.{nested, begin, step, steps, finish}
+use Rattle.transfer_matrix.specs.Stack.{nested, begin, step, steps, finish, LayerByLayer}
 
 -- from any stack on: the layers change the two products alone
 from : (k : Stack) (layers : List ThinFilmLayer)
@@ -18,6 +18,6 @@ unfolding finish steps step through-s through-p mat-mul
 from k [] = refl
 from k (layer ∷ layers) = from (step k layer) layers
 
-pub evaluates : (n-incident n-substrate angle wavelength : Float) (layers : List ThinFilmLayer) → finish (steps (begin n-incident n-substrate angle wavelength) layers) ≡ evaluate n-incident n-substrate angle wavelength layers
+pub evaluates : LayerByLayer
 unfolding begin evaluate
 evaluates n-incident n-substrate angle wavelength layers = from (begin n-incident n-substrate angle wavelength) layers

@@ -1,4 +1,5 @@
 -- thin_film.rs, the loop of evaluate_tmm_multilayer as a state that takes one layer at a time. Definitions only.
+use mathlib.Core.Path.{_≡_}
 use mathlib.Core.List.{List, [], _∷_}
 use lib.Ieee.{Float}
 use Rattle.ieee.specs.Operators.{_⊗_}
@@ -9,7 +10,7 @@ use Rattle.transfer_matrix.specs.declared.Product.{Product}
 use Rattle.transfer_matrix.specs.declared.Stack.{Stack}
 use Rattle.characteristic.specs.Matrix.{Matrix, at, matrix, mat-mul, identity}
 use Rattle.transfer_matrix.specs.Layer.{layer-s, layer-p}
-use Rattle.transfer_matrix.specs.Solve.{eta0-s, eta0-p, eta-sub-s, eta-sub-p, solve, respond}
+use Rattle.transfer_matrix.specs.Solve.{eta0-s, eta0-p, eta-sub-s, eta-sub-p, solve, respond, evaluate}
 
 -- a product and its matrix
 abbrev pub nested : Product → Matrix
@@ -53,3 +54,7 @@ finish k =
     respond
     (solve (nested (k .s)) (eta0-s (k .«n_incident») (k .«cos_theta0»)) (eta-sub-s (k .snell) (k .«n_substrate»)))
     (solve (nested (k .p)) (eta0-p (k .«n_incident») (k .«cos_theta0»)) (eta-sub-p (k .snell) (k .«n_substrate»)))
+
+-- one layer after the other is the solver over the whole list; proofs/Steps.antt has the proof
+abbrev pub LayerByLayer : Type 0
+LayerByLayer = (n-incident n-substrate angle wavelength : Float) (layers : List ThinFilmLayer) → finish (steps (begin n-incident n-substrate angle wavelength) layers) ≡ evaluate n-incident n-substrate angle wavelength layers
