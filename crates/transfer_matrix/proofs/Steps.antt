@@ -1,7 +1,6 @@
 -- A stack that takes the layers one after the other and is finished gives what evaluate_tmm_multilayer gives. Assumes nothing.
 use mathlib.Core.Path.{_≡_, refl}
 use mathlib.Core.List.{List, [], _∷_}
-use lib.Ieee.{Float}
 use Rattle.transfer_matrix.specs.declared.ThinFilmLayer.{ThinFilmLayer}
 use Rattle.transfer_matrix.specs.declared.Stack.{Stack}
 use Rattle.characteristic.specs.Matrix.{mat-mul}
