@@ -1,3 +1,4 @@
 -- Known answers, and that both evaluations refuse alike.
 pub mod Known
 pub mod Alike
+mod Mirror

@@ -8,7 +8,7 @@ ghost use Rattle.evaluation.specs.Walk.{ordered, no-layer};
 ghost use Rattle.preset_layers.specs.Layers.{broadband-layers};
 ghost use Rattle.coating.specs.Coating.{built};
 ghost use Rattle.coating.specs.declared.Coating.the-variants as C;
-ghost use Rattle.thin_film.specs.Coating.{layers-of, to-coating};
+ghost use Rattle.thin_film.specs.Coating.{mirror-layers, layers-of, to-coating};
 ghost use Rattle.thin_film.specs.declared.SurfaceCoating.the-variants as S;
 use crate::SurfaceCoating;
 use coating::Built;
@@ -83,8 +83,8 @@ fn preset_layer(coating: SurfaceCoating, i: usize) -> ThinFilmLayer
     }
 }
 
-// The stack with the layers of a preset coating, read from either end.
-pub fn through_preset(coating: SurfaceCoating, far: bool, start: Stack) -> Stack
+// The stack with the layers of a preset coating, one after the other, read from either end.
+fn through_layers(coating: SurfaceCoating, far: bool, start: Stack) -> Stack
     ensures { λ r. ⌜ r ≡ steps start (ordered far (layers-of coating [])) ⌝ }
 {
     let n = preset_count(coating);
@@ -96,4 +96,39 @@ pub fn through_preset(coating: SurfaceCoating, far: bool, start: Stack) -> Stack
         i += 1;
     }
     stack
+}
+
+// The stack with the mirror's layers, (H L)^7 H: two films, each worked out once.
+fn through_mirror(start: Stack) -> Stack
+    ensures { λ r. ⌜ r ≡ steps start mirror-layers ⌝ }
+{
+    let snell = start.snell;
+    let wavelength_nm = start.wavelength_nm;
+    let high = transfer_matrix::film_of(
+        snell,
+        wavelength_nm,
+        preset_layers::quarter_wave(2.30, 550.0),
+    );
+    let low = transfer_matrix::film_of(
+        snell,
+        wavelength_nm,
+        preset_layers::quarter_wave(1.46, 550.0),
+    );
+    let mut stack = transfer_matrix::join(start, high);
+    let mut i = 0usize;
+    while i < 7 {
+        stack = transfer_matrix::join(transfer_matrix::join(stack, low), high);
+        i += 1;
+    }
+    stack
+}
+
+// The stack with the layers of a preset coating, read from either end; the mirror's are the same from both.
+pub fn through_preset(coating: SurfaceCoating, far: bool, start: Stack) -> Stack
+    ensures { λ r. ⌜ r ≡ steps start (ordered far (layers-of coating [])) ⌝ }
+{
+    match coating {
+        SurfaceCoating::HighReflectanceMirror => through_mirror(start),
+        _ => through_layers(coating, far, start),
+    }
 }

@@ -1,11 +1,13 @@
 -- A stack that takes the layers one after the other and is finished gives what evaluate_tmm_multilayer gives. Assumes nothing.
 use mathlib.Core.Path.{_≡_, refl}
-use mathlib.Core.List.{List, [], _∷_}
+use mathlib.Core.List.{List, [], _∷_, _++_}
 use Rattle.transfer_matrix.specs.declared.ThinFilmLayer.{ThinFilmLayer}
 use Rattle.transfer_matrix.specs.declared.Stack.{Stack}
 use Rattle.characteristic.specs.Matrix.{mat-mul}
 use Rattle.transfer_matrix.specs.Solve.{eta0-s, eta0-p, eta-sub-s, eta-sub-p, through-s, through-p, solve, respond, evaluate}
-use Rattle.transfer_matrix.specs.Stack.{nested, begin, step, steps, finish, LayerByLayer}
+use Rattle.transfer_matrix.specs.Stack.{nested, begin, film-of, join, step, steps, finish, LayerByLayer}
+use Rattle.transfer_matrix.specs.Layer.{layer-s, layer-p}
+use Rattle.characteristic.specs.Film.{characteristic}
 
 -- from any stack on: the layers change the two products alone
 from : (k : Stack) (layers : List ThinFilmLayer)
@@ -20,3 +22,25 @@ from k (layer ∷ layers) = from (step k layer) layers
 pub evaluates : LayerByLayer
 unfolding begin evaluate
 evaluates n-incident n-substrate angle wavelength layers = from (begin n-incident n-substrate angle wavelength) layers
+
+-- what the layers leave as it is
+pub snell-kept : (k : Stack) (layers : List ThinFilmLayer) → steps k layers .snell ≡ k .snell
+unfolding steps step
+snell-kept k [] = refl
+snell-kept k (layer ∷ layers) = snell-kept (step k layer) layers
+
+pub wavelength-kept : (k : Stack) (layers : List ThinFilmLayer) → steps k layers .«wavelength_nm» ≡ k .«wavelength_nm»
+unfolding steps step
+wavelength-kept k [] = refl
+wavelength-kept k (layer ∷ layers) = wavelength-kept (step k layer) layers
+
+-- the layers of two lists, one after the other
+pub steps-append : (k : Stack) (xs ys : List ThinFilmLayer) → steps k (xs ++ ys) ≡ steps (steps k xs) ys
+unfolding steps
+steps-append k [] ys = refl
+steps-append k (x ∷ xs) ys = steps-append (step k x) xs ys
+
+-- a layer whose matrices are at hand
+pub joins : (k : Stack) (layer : ThinFilmLayer) → join k (film-of (k .snell) (k .«wavelength_nm») layer) ≡ step k layer
+unfolding join film-of step layer-s layer-p characteristic
+joins k layer = refl

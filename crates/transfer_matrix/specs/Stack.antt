@@ -8,8 +8,12 @@ use Rattle.transfer_matrix.specs.declared.ThinFilmLayer.{ThinFilmLayer}
 use Rattle.transfer_matrix.specs.declared.CoatingResponse.{CoatingResponse}
 use Rattle.transfer_matrix.specs.declared.Product.{Product}
 use Rattle.transfer_matrix.specs.declared.Stack.{Stack}
+use Rattle.transfer_matrix.specs.declared.Film.{Film}
+use Rattle.transfer_matrix.specs.declared.Terms.{Terms}
+use Rattle.complex.specs.Complex.{_⊠_, _⧄_}
+use Rattle.characteristic.specs.Film.{cos-theta, cos-delta, i-sin-delta}
 use Rattle.characteristic.specs.Matrix.{Matrix, at, matrix, mat-mul, identity}
-use Rattle.transfer_matrix.specs.Layer.{layer-s, layer-p}
+use Rattle.transfer_matrix.specs.Layer.{index, delta, layer-s, layer-p}
 use Rattle.transfer_matrix.specs.Solve.{eta0-s, eta0-p, eta-sub-s, eta-sub-p, solve, respond, evaluate}
 
 -- a product and its matrix
@@ -30,6 +34,13 @@ begin n-incident n-substrate angle wavelength = record {
   s = product identity;
   p = product identity;
 }
+
+-- what m_layer_s and m_layer_p are made of: cos(delta), i * sin(delta), and the admittances
+unfoldable pub terms-of : Float → Float → ThinFilmLayer → Terms
+terms-of snell wavelength layer =
+    let δ = delta snell wavelength layer in
+    let cos = cos-theta snell (index layer) in
+    record { phase = record { cos = cos-delta δ; «i_sin» = i-sin-delta δ }; «eta_s» = index layer ⊠ cos; «eta_p» = index layer ⧄ cos }
 
 -- M = M * M_layer, for s and for p
 unfoldable pub step : Stack → ThinFilmLayer → Stack
@@ -58,3 +69,19 @@ finish k =
 -- one layer after the other is the solver over the whole list; proofs/Steps.antt has the proof
 abbrev pub LayerByLayer : Type 0
 LayerByLayer = (n-incident n-substrate angle wavelength : Float) (layers : List ThinFilmLayer) → finish (steps (begin n-incident n-substrate angle wavelength) layers) ≡ evaluate n-incident n-substrate angle wavelength layers
+
+-- ---- a layer that comes again: m_layer_s and m_layer_p, worked out once
+unfoldable pub film-of : Float → Float → ThinFilmLayer → Film
+film-of snell wavelength layer = record { s = product (layer-s snell wavelength layer); p = product (layer-p snell wavelength layer) }
+
+-- M = M * M_layer
+unfoldable pub join : Stack → Film → Stack
+join k film = record {
+  «n_incident» = k .«n_incident»;
+  «n_substrate» = k .«n_substrate»;
+  «cos_theta0» = k .«cos_theta0»;
+  snell = k .snell;
+  «wavelength_nm» = k .«wavelength_nm»;
+  s = product (mat-mul (nested (k .s)) (nested (film .s)));
+  p = product (mat-mul (nested (k .p)) (nested (film .p)));
+}

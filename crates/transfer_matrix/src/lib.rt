@@ -5,7 +5,8 @@
 ghost use mathlib.Core.Path.{_≡_};
 ghost use Rattle.characteristic.specs.Matrix.{mat-mul};
 ghost use Rattle.transfer_matrix.specs.Solve.{cos-theta-sub, solve, unpolarized-reflectance, unpolarized-transmittance, dielectric};
-ghost use Rattle.transfer_matrix.specs.Stack.{product, nested, begin, step, finish};
+ghost use Rattle.transfer_matrix.specs.Stack.{product, nested, begin, terms-of, film-of, join, step, finish};
+use characteristic::Phase;
 use complex::Complex;
 
 // ---- layers and responses
@@ -87,6 +88,24 @@ pub struct Stack {
     pub p: Product,
 }
 
+// The characteristic matrices of one layer.
+pub struct Film {
+    pub s: Product,
+    pub p: Product,
+}
+
+// A matrix by its entries.
+fn entries(m: [[Complex; 2]; 2]) -> Product
+    ensures { λ r. ⌜ r ≡ product m ⌝ }
+{
+    Product {
+        m11: m[0][0],
+        m12: m[0][1],
+        m21: m[1][0],
+        m22: m[1][1],
+    }
+}
+
 // M * M_layer
 fn times(m: Product, layer: [[Complex; 2]; 2]) -> Product
     ensures { λ r. ⌜ r ≡ product (mat-mul (nested m) layer) ⌝ }
@@ -133,20 +152,89 @@ pub fn begin(
     }
 }
 
+// What both matrices of a layer are made of.
+struct Terms {
+    phase: Phase,
+    eta_s: Complex,
+    eta_p: Complex,
+}
+
+// Those of a layer, for the snell and the wavelength of a stack.
+fn terms_of(snell: f64, wavelength_nm: f64, layer: ThinFilmLayer) -> Terms
+    ensures { λ r. ⌜ r ≡ terms-of snell «wavelength_nm» layer ⌝ }
+{
+    let n_c = Complex::new(layer.n, -layer.k);
+    let cos = characteristic::cos_theta(snell, n_c);
+    let eta_s = n_c.mul(cos);
+    let eta_p = n_c.div(cos);
+    let factor = 2.0 * 3.141592653589793 * layer.thickness_nm / wavelength_nm;
+    let phase = characteristic::phase_of(eta_s.scale(factor));
+    Terms {
+        phase,
+        eta_s,
+        eta_p,
+    }
+}
+
 // The stack with one layer more.
 pub fn step(stack: Stack, layer: ThinFilmLayer) -> Stack
     ensures { λ r. ⌜ r ≡ step stack layer ⌝ }
 {
-    let n_c = Complex::new(layer.n, -layer.k);
-    let cos = characteristic::cos_theta(stack.snell, n_c);
-    let eta_s = n_c.mul(cos);
-    let eta_p = n_c.div(cos);
-    let factor = 2.0 * 3.141592653589793 * layer.thickness_nm / stack.wavelength_nm;
-    let phase = characteristic::phase_of(eta_s.scale(factor));
+    let terms = terms_of(stack.snell, stack.wavelength_nm, layer);
+    let phase = terms.phase;
+    let eta_s = terms.eta_s;
+    let eta_p = terms.eta_p;
     let s = stack.s;
     let p = stack.p;
     let s_next = times(s, characteristic::characteristic(phase, eta_s));
     let p_next = times(p, characteristic::characteristic(phase, eta_p));
+    Stack {
+        n_incident: stack.n_incident,
+        n_substrate: stack.n_substrate,
+        cos_theta0: stack.cos_theta0,
+        snell: stack.snell,
+        wavelength_nm: stack.wavelength_nm,
+        s: s_next,
+        p: p_next,
+    }
+}
+
+// ---- layers that come again
+
+// The matrices of a layer, for the snell and the wavelength of a stack.
+pub fn film_of(snell: f64, wavelength_nm: f64, layer: ThinFilmLayer) -> Film
+    ensures { λ r. ⌜ r ≡ film-of snell «wavelength_nm» layer ⌝ }
+{
+    let terms = terms_of(snell, wavelength_nm, layer);
+    let phase = terms.phase;
+    let eta_s = terms.eta_s;
+    let eta_p = terms.eta_p;
+    let s = entries(characteristic::characteristic(phase, eta_s));
+    let p = entries(characteristic::characteristic(phase, eta_p));
+    Film { s, p }
+}
+
+// M * M_layer, by the entries of both.
+fn product_of(m: Product, layer: Product) -> Product
+    ensures { λ r. ⌜ r ≡ product (mat-mul (nested m) (nested layer)) ⌝ }
+{
+    let l11 = layer.m11;
+    let l12 = layer.m12;
+    let l21 = layer.m21;
+    let l22 = layer.m22;
+    times(m, [[l11, l12], [l21, l22]])
+}
+
+// The stack with a layer more, whose matrices are at hand.
+pub fn join(stack: Stack, film: Film) -> Stack
+    ensures { λ r. ⌜ r ≡ join stack film ⌝ }
+{
+    let s = stack.s;
+    let p = stack.p;
+    let layer_s = film.s;
+    let layer_p = film.p;
+    let s_next = product_of(s, layer_s);
+    let p_next = product_of(p, layer_p);
     Stack {
         n_incident: stack.n_incident,
         n_substrate: stack.n_substrate,

@@ -1,0 +1,39 @@
+-- `transfer_matrix::film_of` meets its contract. Assumes nothing.
+use mathlib.Core.Path.{_≡_, _∙_}
+use lib.Ieee.{Float}
+use Rattle.characteristic.specs.Matrix.{Matrix}
+use Rattle.transfer_matrix.specs.declared.ThinFilmLayer.{ThinFilmLayer}
+use Rattle.transfer_matrix.specs.declared.Film.{Film}
+use Rattle.transfer_matrix.specs.declared.Product.{Product}
+use Rattle.transfer_matrix.specs.Layer.{layer-s, layer-p}
+use Rattle.transfer_matrix.specs.Stack.{product, film-of}
+use Rattle.transfer_matrix.proofs.OneLayer.{s-is, p-is}
+use borrow.Author.Needs.{needs}
+use Rattle.transfer_matrix.proofs.film_of.Statement.{statement}
+use Rattle.transfer_matrix.proofs.film_of.Tie as tie
+
+parts : (snell wavelength : Float) (layer : ThinFilmLayer) (m n : Matrix) (s p : Product) → m ≡ layer-s snell wavelength layer → s ≡ product m → n ≡ layer-p snell wavelength layer → p ≡ product n → _≡_ {A = Film} (record { s = s; p = p }) (film-of snell wavelength layer)
+unfolding film-of
+parts snell wavelength layer m n s p h1 h2 h3 h4 = simp (h4, h3, h2, h1)
+
+terms-of-requires : tie.Need-terms-of-requires
+terms-of-requires c κs = search needs
+
+characteristic-requires : tie.Need-characteristic-requires
+characteristic-requires c κs = search needs
+
+entries-requires : tie.Need-entries-requires
+entries-requires c κs = search needs
+
+characteristic-requires-2 : tie.Need-characteristic-requires-2
+characteristic-requires-2 c κs = search needs
+
+entries-requires-2 : tie.Need-entries-requires-2
+entries-requires-2 c κs = search needs
+
+returns : tie.Need-returns
+returns c =
+    parts _ _ _ _ _ _ _ (c .before .before .before .characteristic .ensures ∙ s-is _ _ _ _ (c .before .before .before .before .before .before .before .terms-of .ensures)) (c .before .before .entries .ensures) (c .before .characteristic2 .ensures ∙ p-is _ _ _ _ (c .before .before .before .before .before .before .before .terms-of .ensures)) (c .entries2 .ensures)
+
+pub film-of-spec : {M : Type 1} → statement M
+film-of-spec = tie.close (tie.spec terms-of-requires characteristic-requires entries-requires characteristic-requires-2 entries-requires-2 returns)
