@@ -1,4 +1,3 @@
 -- laws
 pub mod Triples
-pub mod Listed
 pub mod Plain

@@ -7,13 +7,10 @@ ghost use Prim.Native.Nat.{_+_, _*_};
 ghost use Rattle.sheet.specs.Read.{layer-at, surface-at};
 ghost use Rattle.sheet_values.specs.Values.{film, films, surface-value, layers-at};
 ghost use Rattle.transfer_matrix.specs.Stack.{steps};
-ghost use Rattle.coating.specs.declared.Coating.the-variants as C;
-ghost use Rattle.thin_film.specs.declared.SurfaceCoating.the-variants as S;
 ghost use Rattle.evaluation.specs.Walk.{ordered, outcome};
 ghost use Rattle.thin_film.specs.Evaluate.{evaluate-surface};
 ghost use Rattle.surface.specs.Answers.{answers, powers, returned};
 ghost use Rattle.sheet_answers.specs.Outcome.{outcome-of};
-use coating::Coating;
 use evaluation::Evaluation;
 use limits::Interface;
 use limits::Surface;
@@ -58,51 +55,8 @@ fn through(src: &[u8], at: usize, n: usize, far: bool, start: Stack) -> Stack
     stack
 }
 
-// A surface whose coating is the n LAYERs behind the block at a place. They are read from the far
-// end where light goes from the denser medium to the rarer one.
-fn evaluate_custom(
-    src: &[u8],
-    at: usize,
-    n: usize,
-    surface: Surface,
-    wavelength_nm: f64,
-) -> Evaluation
-    ensures { λ r. ⌜ outcome r ≡ evaluate-surface (S.Custom C.Multilayer) (films (layers-at (now (src .entry)) (at + 7) n)) (surface .«n_incident») (surface .«n_substrate») (surface .«angle_rad») «wavelength_nm» ⌝ }
-{
-    if !before_layers::valid(
-        surface.n_incident,
-        surface.n_substrate,
-        surface.angle_rad,
-        wavelength_nm,
-    ) {
-        return Evaluation::Refused(refusal::INVALID_PARAMETER);
-    }
-    if n > 64 {
-        return Evaluation::Refused(refusal::TOO_MANY_LAYERS);
-    }
-    let start = transfer_matrix::begin(
-        surface.n_incident,
-        surface.n_substrate,
-        surface.angle_rad,
-        wavelength_nm,
-    );
-    let far = surface.n_incident > surface.n_substrate;
-    Evaluation::Response(transfer_matrix::finish(through(src, at, n, far, start)))
-}
-
-// A coated surface with no LAYER behind it.
-fn evaluate_without(coating: SurfaceCoating, surface: Surface, wavelength_nm: f64) -> Evaluation
-    ensures { λ r. ⌜ outcome r ≡ evaluate-surface coating [] (surface .«n_incident») (surface .«n_substrate») (surface .«angle_rad») «wavelength_nm» ⌝ }
-{
-    coating.evaluate_without_layers(
-        surface.n_incident,
-        surface.n_substrate,
-        surface.angle_rad,
-        wavelength_nm,
-    )
-}
-
-// A coated surface. Only Custom(Multilayer) has the LAYERs behind it.
+// A coated surface. Only Custom(Multilayer) has the LAYERs behind it, which are read from the far end
+// where light goes from the denser medium to the rarer one.
 fn evaluate_at(
     src: &[u8],
     at: usize,
@@ -113,12 +67,19 @@ fn evaluate_at(
 ) -> Evaluation
     ensures { λ r. ⌜ outcome r ≡ evaluate-surface coating (films (layers-at (now (src .entry)) (at + 7) n)) (surface .«n_incident») (surface .«n_substrate») (surface .«angle_rad») «wavelength_nm» ⌝ }
 {
-    match coating {
-        SurfaceCoating::Custom(c) => match c {
-            Coating::Multilayer => evaluate_custom(src, at, n, surface, wavelength_nm),
-            _ => evaluate_without(coating, surface, wavelength_nm),
-        },
-        _ => evaluate_without(coating, surface, wavelength_nm),
+    let pending = thin_film::reading::prepare_surface(
+        coating,
+        n,
+        surface.n_incident,
+        surface.n_substrate,
+        surface.angle_rad,
+        wavelength_nm,
+    );
+    if pending.read {
+        let start = pending.stack;
+        Evaluation::Response(transfer_matrix::finish(through(src, at, n, pending.far, start)))
+    } else {
+        evaluation::conclude(pending)
     }
 }
 

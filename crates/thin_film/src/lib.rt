@@ -12,7 +12,7 @@ use evaluation::Evaluation;
 use transfer_matrix::ThinFilmLayer;
 
 mod presets;
-mod reading;
+pub mod reading;
 
 // A coating as it is ordered. The layers of Custom(Multilayer) are the list beside it.
 pub enum SurfaceCoating {

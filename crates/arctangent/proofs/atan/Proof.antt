@@ -6,15 +6,6 @@ use Rattle.ieee.proofs.Signs.{is-nan, not-nan}
 use Rattle.arctangent.proofs.atan.Statement.{statement}
 use Rattle.arctangent.proofs.atan.Tie as tie
 
-abs-requires : tie.Need-abs-requires
-abs-requires c κs = search needs
-
-atan-abs-requires : tie.Need-atan-abs-requires
-atan-abs-requires c κs = search needs
-
-with-sign-requires : tie.Need-with-sign-requires
-with-sign-requires c κs = search needs
-
 returns : tie.Need-returns
 unfolding atan isNan
 returns c = simp (is-nan _ (c .if1 .taken))
@@ -24,4 +15,4 @@ unfolding atan
 returns-2 c = simp (not-nan _ (c .before .before .before .if1 .left), c .with-sign .ensures, c .before .atan-abs .ensures, c .before .before .abs .ensures)
 
 pub atan-spec : {M : Type 1} → statement M
-atan-spec = tie.close (tie.spec abs-requires atan-abs-requires with-sign-requires returns returns-2)
+atan-spec = tie.close (tie.spec (λ c κs. search needs) (λ c κs. search needs) (λ c κs. search needs) returns returns-2)

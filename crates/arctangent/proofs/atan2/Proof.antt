@@ -7,36 +7,6 @@ use Rattle.ieee.proofs.Signs.{is-nan, not-nan}
 use Rattle.arctangent.proofs.atan2.Statement.{statement}
 use Rattle.arctangent.proofs.atan2.Tie as tie
 
-both-infinite-requires : tie.Need-both-infinite-requires
-both-infinite-requires c κs = search needs
-
-by-sign-requires : tie.Need-by-sign-requires
-by-sign-requires c κs = search needs
-
-with-sign-requires : tie.Need-with-sign-requires
-with-sign-requires c κs = search needs
-
-zero-or-infinite-requires : tie.Need-zero-or-infinite-requires
-zero-or-infinite-requires c κs = search needs
-
-by-sign-requires-2 : tie.Need-by-sign-requires-2
-by-sign-requires-2 c κs = search needs
-
-with-sign-requires-2 : tie.Need-with-sign-requires-2
-with-sign-requires-2 c κs = search needs
-
-zero-or-infinite-requires-2 : tie.Need-zero-or-infinite-requires-2
-zero-or-infinite-requires-2 c κs = search needs
-
-with-sign-requires-3 : tie.Need-with-sign-requires-3
-with-sign-requires-3 c κs = search needs
-
-atan-requires : tie.Need-atan-requires
-atan-requires c κs = search needs
-
-turned-requires : tie.Need-turned-requires
-turned-requires c κs = search needs
-
 returns : tie.Need-returns
 unfolding atan2 isNan
 returns c = simp (is-nan _ (c .if1 .taken))
@@ -82,16 +52,16 @@ pub atan2-spec : {M : Type 1} → statement M
 atan2-spec =
     tie.close
     (tie.spec
-    both-infinite-requires
-    by-sign-requires
-    with-sign-requires
-    zero-or-infinite-requires
-    by-sign-requires-2
-    with-sign-requires-2
-    zero-or-infinite-requires-2
-    with-sign-requires-3
-    atan-requires
-    turned-requires
+    (λ c κs. search needs)
+    (λ c κs. search needs)
+    (λ c κs. search needs)
+    (λ c κs. search needs)
+    (λ c κs. search needs)
+    (λ c κs. search needs)
+    (λ c κs. search needs)
+    (λ c κs. search needs)
+    (λ c κs. search needs)
+    (λ c κs. search needs)
     returns
     returns-2
     returns-3

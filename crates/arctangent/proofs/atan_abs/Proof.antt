@@ -4,15 +4,6 @@ use Rattle.arctangent.specs.Atan.{atan-abs}
 use Rattle.arctangent.proofs.atan_abs.Statement.{statement}
 use Rattle.arctangent.proofs.atan_abs.Tie as tie
 
-at-most-one-requires : tie.Need-at-most-one-requires
-at-most-one-requires c κs = search needs
-
-quarter-angle-requires : tie.Need-quarter-angle-requires
-quarter-angle-requires c κs = search needs
-
-atan-poly-requires : tie.Need-atan-poly-requires
-atan-poly-requires c κs = search needs
-
 returns : tie.Need-returns
 unfolding atan-abs
 returns c =
@@ -28,4 +19,4 @@ returns-2 c =
 pub atan-abs-spec : {M : Type 1} → statement M
 atan-abs-spec =
     tie.close
-    (tie.spec at-most-one-requires quarter-angle-requires atan-poly-requires returns returns-2)
+    (tie.spec (λ c κs. search needs) (λ c κs. search needs) (λ c κs. search needs) returns returns-2)

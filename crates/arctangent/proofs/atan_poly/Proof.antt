@@ -4,12 +4,9 @@ use Rattle.arctangent.specs.Atan.{atan-poly}
 use Rattle.arctangent.proofs.atan_poly.Statement.{statement}
 use Rattle.arctangent.proofs.atan_poly.Tie as tie
 
-atan-series-requires : tie.Need-atan-series-requires
-atan-series-requires c κs = search needs
-
 returns : tie.Need-returns
 unfolding atan-poly
 returns c = simp (c .atan-series .ensures)
 
 pub atan-poly-spec : {M : Type 1} → statement M
-atan-poly-spec = tie.close (tie.spec atan-series-requires returns)
+atan-poly-spec = tie.close (tie.spec (λ c κs. search needs) returns)

@@ -4,12 +4,6 @@ use mathlib.Core.Path.{sym, _∙_}
 use Rattle.arctangent.proofs.both_infinite.Statement.{statement}
 use Rattle.arctangent.proofs.both_infinite.Tie as tie
 
-is-infinite-requires : tie.Need-is-infinite-requires
-is-infinite-requires c κs = search needs
-
-is-infinite-requires-2 : tie.Need-is-infinite-requires-2
-is-infinite-requires-2 c κs = search needs
-
 returns : tie.Need-returns
 returns c = simp (sym (c .before .before .is-infinite .ensures) ∙ c .before .if1 .taken, c .is-infinite2 .ensures)
 
@@ -18,4 +12,4 @@ returns-2 c = simp (sym (c .before .is-infinite .ensures) ∙ c .if1 .left)
 
 pub both-infinite-spec : {M : Type 1} → statement M
 both-infinite-spec =
-    tie.close (tie.spec is-infinite-requires is-infinite-requires-2 returns returns-2)
+    tie.close (tie.spec (λ c κs. search needs) (λ c κs. search needs) returns returns-2)

@@ -10,15 +10,6 @@ use Rattle.arctangent.proofs.half_guess.Tie as tie
 float-to-bits-half-piece : tie.Need-float-to-bits-half-piece
 float-to-bits-half-piece c = subst (λ (b : Bool). T (not b)) (sym (not-nan _ (c .if1 .left))) tt
 
-half-piece-requires : tie.Need-half-piece-requires
-half-piece-requires c κs = search needs
-
-returns : tie.Need-returns
-returns c = search needs
-
-returns-2 : tie.Need-returns-2
-returns-2 c = search needs
-
 pub half-guess-spec : {M : Type 1} → statement M
 half-guess-spec =
-    tie.close (tie.spec float-to-bits-half-piece half-piece-requires returns returns-2)
+    tie.close (tie.spec float-to-bits-half-piece (λ c κs. search needs) (λ c. search needs) (λ c. search needs))

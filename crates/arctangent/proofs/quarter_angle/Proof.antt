@@ -4,19 +4,10 @@ use Rattle.arctangent.specs.Atan.{half-angle}
 use Rattle.arctangent.proofs.quarter_angle.Statement.{statement}
 use Rattle.arctangent.proofs.quarter_angle.Tie as tie
 
-sqrt-requires : tie.Need-sqrt-requires
-sqrt-requires c κs = search needs
-
-half-guess-requires : tie.Need-half-guess-requires
-half-guess-requires c κs = search needs
-
-sqrt-near-requires : tie.Need-sqrt-near-requires
-sqrt-near-requires c κs = search needs
-
 returns : tie.Need-returns
 unfolding half-angle
 returns c = simp (c .sqrt-near .ensures, c .before .before .sqrt .ensures)
 
 pub quarter-angle-spec : {M : Type 1} → statement M
 quarter-angle-spec =
-    tie.close (tie.spec sqrt-requires half-guess-requires sqrt-near-requires returns)
+    tie.close (tie.spec (λ c κs. search needs) (λ c κs. search needs) (λ c κs. search needs) returns)

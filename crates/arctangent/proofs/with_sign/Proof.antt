@@ -4,12 +4,9 @@ use Rattle.arctangent.specs.Atan.{with-sign}
 use Rattle.arctangent.proofs.with_sign.Statement.{statement}
 use Rattle.arctangent.proofs.with_sign.Tie as tie
 
-by-sign-requires : tie.Need-by-sign-requires
-by-sign-requires c κs = search needs
-
 returns : tie.Need-returns
 unfolding with-sign
 returns c = c .by-sign .ensures
 
 pub with-sign-spec : {M : Type 1} → statement M
-with-sign-spec = tie.close (tie.spec by-sign-requires returns)
+with-sign-spec = tie.close (tie.spec (λ c κs. search needs) returns)

@@ -5,9 +5,6 @@ use Rattle.arctangent.proofs.Tests.{zero-test}
 use Rattle.arctangent.proofs.zero_or_infinite.Statement.{statement}
 use Rattle.arctangent.proofs.zero_or_infinite.Tie as tie
 
-is-infinite-requires : tie.Need-is-infinite-requires
-is-infinite-requires c κs = search needs
-
 returns : tie.Need-returns
 returns c = simp (sym (zero-test _) ∙ c .if1 .taken)
 
@@ -15,4 +12,4 @@ returns-2 : tie.Need-returns-2
 returns-2 c = simp (sym (zero-test _) ∙ c .before .if1 .left, c .is-infinite .ensures)
 
 pub zero-or-infinite-spec : {M : Type 1} → statement M
-zero-or-infinite-spec = tie.close (tie.spec is-infinite-requires returns returns-2)
+zero-or-infinite-spec = tie.close (tie.spec (λ c κs. search needs) returns returns-2)

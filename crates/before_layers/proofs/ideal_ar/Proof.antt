@@ -3,14 +3,8 @@ use borrow.Author.Needs.{needs}
 use Rattle.before_layers.proofs.ideal_ar.Statement.{statement}
 use Rattle.before_layers.proofs.ideal_ar.Tie as tie
 
-zero-requires : tie.Need-zero-requires
-zero-requires c κs = search needs
-
-real-requires : tie.Need-real-requires
-real-requires c κs = search needs
-
 returns : tie.Need-returns
 returns c = simp (c .real .ensures, c .before .zero .ensures)
 
 pub ideal-ar-spec : {M : Type 1} → statement M
-ideal-ar-spec = tie.close (tie.spec zero-requires real-requires returns)
+ideal-ar-spec = tie.close (tie.spec (λ c κs. search needs) (λ c κs. search needs) returns)

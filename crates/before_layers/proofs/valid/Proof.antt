@@ -21,25 +21,13 @@ module _ (p q f w : Bool) where
   last : p ≡ true → q ≡ true → f ≡ true → w ≡ p && q && f && w
   last a e g = simp (a, e, g)
 
-finite-positive-requires : tie.Need-finite-positive-requires
-finite-positive-requires c κs = search needs
-
 returns : tie.Need-returns
 unfolding valid
 returns c = first _ _ _ _ (sym (c .before .finite-positive .ensures) ∙ not-true _ (c .if1 .taken))
 
-finite-positive-requires-2 : tie.Need-finite-positive-requires-2
-finite-positive-requires-2 c κs = search needs
-
 returns-2 : tie.Need-returns-2
 unfolding valid
 returns-2 c = second _ _ _ _ (sym (c .before .before .before .finite-positive .ensures) ∙ not-false _ (c .before .before .if1 .left)) (sym (c .before .finite-positive2 .ensures) ∙ not-true _ (c .if2 .taken))
-
-is-finite-requires : tie.Need-is-finite-requires
-is-finite-requires c κs = search needs
-
-finite-positive-requires-3 : tie.Need-finite-positive-requires-3
-finite-positive-requires-3 c κs = search needs
 
 returns-3 : tie.Need-returns-3
 unfolding valid
@@ -53,11 +41,11 @@ pub valid-spec : {M : Type 1} → statement M
 valid-spec =
     tie.close
     (tie.spec
-    finite-positive-requires
+    (λ c κs. search needs)
     returns
-    finite-positive-requires-2
+    (λ c κs. search needs)
     returns-2
-    is-finite-requires
-    finite-positive-requires-3
+    (λ c κs. search needs)
+    (λ c κs. search needs)
     returns-3
     returns-4)

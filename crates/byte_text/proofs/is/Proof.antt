@@ -5,9 +5,6 @@ use Rattle.byte_text.specs.Search.{is}
 use Rattle.byte_text.proofs.is.Statement.{statement}
 use Rattle.byte_text.proofs.is.Tie as tie
 
-begins-requires : tie.Need-begins-requires
-begins-requires c κs = search needs
-
 returns : tie.Need-returns
 unfolding is
 returns c = simp (eq-eqb _ _ (c .before .if1 .taken)) (c .begins .ensures)
@@ -17,4 +14,4 @@ unfolding is
 returns-2 c = simp (ne-eqb _ _ (c .if1 .left))
 
 pub is-spec : {M : Type 1} → statement M
-is-spec = tie.close (tie.spec begins-requires returns returns-2)
+is-spec = tie.close (tie.spec (λ c κs. search needs) returns returns-2)

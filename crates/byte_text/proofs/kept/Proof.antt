@@ -18,23 +18,8 @@ abbrev μ-loop : tie.MeasureT-loop
 loop-holds : tie.Need-loop-holds Inv-loop μ-loop
 loop-holds c = (omega arith, left-all (c .before .args .s .now))
 
-sub-blank : tie.Need-sub-blank Inv-loop μ-loop
-sub-blank c = search needs
-
-shared-slice-read-blank : tie.Need-shared-slice-read-blank Inv-loop μ-loop
-shared-slice-read-blank c = search needs
-
-blank-requires : tie.Need-blank-requires Inv-loop μ-loop
-blank-requires c κs = search needs
-
 returns : tie.Need-returns Inv-loop μ-loop
 returns c = left-stop _ _ (c .before .before .before .loop-test .taken) (c .before .before .before .before .loop .inv .0) (c .before .before .before .before .loop .inv .1) (sym (c .before .blank .ensures) ∙ not-true _ (c .if1 .taken))
-
-sub-e : tie.Need-sub-e Inv-loop μ-loop
-sub-e c = search needs
-
-loop-less : tie.Need-loop-less Inv-loop μ-loop
-loop-less c = search needs
 
 loop-again : tie.Need-loop-again Inv-loop μ-loop
 loop-again c = (search needs, left-more (c .before .before .before .before .before .before .args .s .now) (c .before .before .before .before .loop .e) (c .before .before .before .loop-test .taken) (c .before .before .before .before .loop .inv .0) (c .before .before .before .before .loop .inv .1) (sym (c .before .blank .ensures) ∙ not-false _ (c .if1 .left)))
@@ -49,11 +34,11 @@ kept-spec =
     Inv-loop
     μ-loop
     loop-holds
-    sub-blank
-    shared-slice-read-blank
-    blank-requires
+    (λ c. search needs)
+    (λ c. search needs)
+    (λ c κs. search needs)
     returns
-    sub-e
-    loop-less
+    (λ c. search needs)
+    (λ c. search needs)
     loop-again
     returns-2)

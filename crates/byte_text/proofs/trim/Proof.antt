@@ -21,17 +21,8 @@ part s p e = ap (λ (n : ℕ). take n (drop (p .place) s)) (add-sub-cancel-left 
 whole : (at : ℕ × ℕ) (s : List ℕ) (p : Span) → p ≡ span s → ((at .0, p .place + at .1), take (p .place + p .len - p .place) (drop (p .place) s)) ≡ handed at s
 whole at s p e = ap (λ (l : List ℕ). ((at .0, p .place + at .1), l)) (part s p e) ∙ ap (λ (q : Span). ((at .0, q .place + at .1), trimmed s)) e
 
-trim-span-requires : tie.Need-trim-span-requires
-trim-span-requires c κs = search needs
-
 add-e : tie.Need-add-e
 add-e c = omega (arith, fits (c .before .before .before .args .name .now) _ (c .before .trim-span .ensures))
-
-sub-result : tie.Need-sub-result
-sub-result c = search needs
-
-part-result-start : tie.Need-part-result-start
-part-result-start c = search needs
 
 part-result-end : tie.Need-part-result-end
 part-result-end c = fits _ _ (c .before .trim-span .ensures)
@@ -42,4 +33,4 @@ returns c = whole _ _ _ (c .before .before .trim-span .ensures)
 pub trim-spec : {M : Type 1} → statement M
 trim-spec =
     tie.close
-    (tie.spec trim-span-requires add-e sub-result part-result-start part-result-end returns)
+    (tie.spec (λ c κs. search needs) add-e (λ c. search needs) (λ c. search needs) part-result-end returns)

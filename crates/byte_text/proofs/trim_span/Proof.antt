@@ -18,21 +18,6 @@ within s a len e h k =
     let k′ : len ≡ kept (drop a s) = k ∙ ap kept (take-all (length s - a) (drop a s) (le-of-eq (length-drop a s))) in
     simp (k′, e) (inside s h′)
 
-leading-requires : tie.Need-leading-requires
-leading-requires c κs = search needs
-
-sub-kept : tie.Need-sub-kept
-sub-kept c = search needs
-
-part-kept-start : tie.Need-part-kept-start
-part-kept-start c = search needs
-
-part-kept-end : tie.Need-part-kept-end
-part-kept-end c = search needs
-
-kept-requires : tie.Need-kept-requires
-kept-requires c κs = search needs
-
 returns : tie.Need-returns
 returns c =
     within _ _ _ (c .before .before .before .leading .ensures) (c .before .before .if1 .taken) (c .kept .ensures)
@@ -44,10 +29,10 @@ pub trim-span-spec : {M : Type 1} → statement M
 trim-span-spec =
     tie.close
     (tie.spec
-    leading-requires
-    sub-kept
-    part-kept-start
-    part-kept-end
-    kept-requires
+    (λ c κs. search needs)
+    (λ c. search needs)
+    (λ c. search needs)
+    (λ c. search needs)
+    (λ c κs. search needs)
     returns
     returns-2)

@@ -42,27 +42,6 @@ module _ (at : ℕ) (numbers list₀ : List Float) (room : at + length numbers �
 loop-holds : tie.Need-loop-holds Inv-loop μ-loop
 loop-holds c = record { most = omega arith; long = refl; front = paste-zero _ (c .args .at) (c .args .numbers .now) }
 
-mul-list : tie.Need-mul-list Inv-loop μ-loop
-mul-list c = search needs
-
-shared-slice-read-list : tie.Need-shared-slice-read-list Inv-loop μ-loop
-shared-slice-read-list c = search needs
-
-add-list : tie.Need-add-list Inv-loop μ-loop
-add-list c = search needs
-
-mul-list-2 : tie.Need-mul-list-2 Inv-loop μ-loop
-mul-list-2 c = search needs
-
-slice-write-list : tie.Need-slice-write-list Inv-loop μ-loop
-slice-write-list c = search needs
-
-add-i : tie.Need-add-i Inv-loop μ-loop
-add-i c = search needs
-
-loop-less : tie.Need-loop-less Inv-loop μ-loop
-loop-less c = search needs
-
 loop-again : tie.Need-loop-again Inv-loop μ-loop
 loop-again c = further _ _ _ (c .before .before .before .pre) _ _ _ (c .before .before .loop .inv) (c .before .loop-test .taken)
 
@@ -73,4 +52,4 @@ returns : tie.Need-returns Inv-loop μ-loop
 returns c = whole _ _ _ (c .before .before .pre) _ _ (c .before .loop .inv) (c .loop-test .left)
 
 pub place-spec : {M : Type 1} → statement M
-place-spec = tie.close (tie.spec Inv-loop μ-loop loop-holds mul-list shared-slice-read-list add-list mul-list-2 slice-write-list add-i loop-less loop-again same-length returns)
+place-spec = tie.close (tie.spec Inv-loop μ-loop loop-holds (λ c. search needs) (λ c. search needs) (λ c. search needs) (λ c. search needs) (λ c. search needs) (λ c. search needs) (λ c. search needs) loop-again same-length returns)

@@ -25,54 +25,6 @@ module _ (a : Answers) (l₀ l₁ l₂ l₃ l₄ l₅ h j k m t : List Float) (e
       let f₅ = more l₀ l₄ (h ++ j ++ k ++ m) 37 f₄ t 16 (ap length et) l₅ p₅ in
       f₅ .is ∙ rw (eh, ej, ek, em, et)
 
-head-requires : tie.Need-head-requires
-head-requires c κs = search needs
-
-slice-aggregate-place : tie.Need-slice-aggregate-place
-slice-aggregate-place c = search needs
-
-place-requires : tie.Need-place-requires
-place-requires c κs = search needs
-
-jones-requires : tie.Need-jones-requires
-jones-requires c κs = search needs
-
-slice-aggregate-place-2 : tie.Need-slice-aggregate-place-2
-slice-aggregate-place-2 c = search needs
-
-place-requires-2 : tie.Need-place-requires-2
-place-requires-2 c κs = search needs
-
-jones-requires-2 : tie.Need-jones-requires-2
-jones-requires-2 c κs = search needs
-
-slice-aggregate-place-3 : tie.Need-slice-aggregate-place-3
-slice-aggregate-place-3 c = search needs
-
-place-requires-3 : tie.Need-place-requires-3
-place-requires-3 c κs = search needs
-
-mueller-requires : tie.Need-mueller-requires
-mueller-requires c κs = search needs
-
-slice-aggregate-place-4 : tie.Need-slice-aggregate-place-4
-slice-aggregate-place-4 c = search needs
-
-place-requires-4 : tie.Need-place-requires-4
-place-requires-4 c κs = search needs
-
-mueller-requires-2 : tie.Need-mueller-requires-2
-mueller-requires-2 c κs = search needs
-
-slice-aggregate-place-5 : tie.Need-slice-aggregate-place-5
-slice-aggregate-place-5 c = search needs
-
-place-requires-5 : tie.Need-place-requires-5
-place-requires-5 c κs = search needs
-
-same-length : tie.Need-same-length
-same-length c = search needs
-
 returns : tie.Need-returns
 returns c =
     let at₅ = c .before .before in
@@ -88,4 +40,4 @@ returns c =
     all (start .before .before .args .a) _ _ _ _ _ _ _ _ _ _ _ (start .head .ensures) (back .jones .ensures) (through .jones2 .ensures) (first .mueller .ensures) (second .mueller2 .ensures) (at₁ .place .ensures) (at₂ .place2 .ensures) (at₃ .place3 .ensures) (at₄ .place4 .ensures) (at₅ .place5 .ensures)
 
 pub place-common-spec : {M : Type 1} → statement M
-place-common-spec = tie.close (tie.spec head-requires slice-aggregate-place place-requires jones-requires slice-aggregate-place-2 place-requires-2 jones-requires-2 slice-aggregate-place-3 place-requires-3 mueller-requires slice-aggregate-place-4 place-requires-4 mueller-requires-2 slice-aggregate-place-5 place-requires-5 same-length returns)
+place-common-spec = tie.close (tie.spec (λ c κs. search needs) (λ c. search needs) (λ c κs. search needs) (λ c κs. search needs) (λ c. search needs) (λ c κs. search needs) (λ c κs. search needs) (λ c. search needs) (λ c κs. search needs) (λ c κs. search needs) (λ c. search needs) (λ c κs. search needs) (λ c κs. search needs) (λ c. search needs) (λ c κs. search needs) (λ c. search needs) returns)

@@ -18,14 +18,8 @@ whole n numbers list₀ list h e =
 returns : tie.Need-returns
 returns c = simp (lt-leb (length (c .before .before .before .args .numbers .now)) (length (c .before .before .before .args .list .now)) (c .if1 .taken))
 
-place-requires : tie.Need-place-requires
-place-requires c κs = search needs
-
-same-length : tie.Need-same-length
-same-length c = search needs
-
 returns-2 : tie.Need-returns-2
 returns-2 c = whole _ (c .before .before .before .before .before .before .before .args .numbers .now) (c .before .before .before .before .before .before .before .args .list .now) _ (c .before .before .before .before .if1 .left) (c .before .before .place .ensures)
 
 pub put-spec : {M : Type 1} → statement M
-put-spec = tie.close (tie.spec returns place-requires same-length returns-2)
+put-spec = tie.close (tie.spec returns (λ c κs. search needs) (λ c. search needs) returns-2)

@@ -4,24 +4,6 @@ use borrow.Author.Needs.{needs}
 use Rattle.characteristic.proofs.cos_theta.Statement.{statement}
 use Rattle.characteristic.proofs.cos_theta.Tie as tie
 
-real-requires : tie.Need-real-requires
-real-requires c κs = search needs
-
-div-requires : tie.Need-div-requires
-div-requires c κs = search needs
-
-real-requires-2 : tie.Need-real-requires-2
-real-requires-2 c κs = search needs
-
-mul-requires : tie.Need-mul-requires
-mul-requires c κs = search needs
-
-sub-requires : tie.Need-sub-requires
-sub-requires c κs = search needs
-
-sqrt-requires : tie.Need-sqrt-requires
-sqrt-requires c κs = search needs
-
 returns : tie.Need-returns
 unfolding sin-theta cos-theta
 returns c = cc
@@ -30,10 +12,10 @@ pub cos-theta-spec : {M : Type 1} → statement M
 cos-theta-spec =
     tie.close
     (tie.spec
-    real-requires
-    div-requires
-    real-requires-2
-    mul-requires
-    sub-requires
-    sqrt-requires
+    (λ c κs. search needs)
+    (λ c κs. search needs)
+    (λ c κs. search needs)
+    (λ c κs. search needs)
+    (λ c κs. search needs)
+    (λ c κs. search needs)
     returns)

@@ -7,9 +7,6 @@ use borrow.Author.Needs.{needs}
 use Rattle.characteristic.proofs.exp_of.Statement.{statement}
 use Rattle.characteristic.proofs.exp_of.Tie as tie
 
-exp-requires : tie.Need-exp-requires
-exp-requires c κs = search needs
-
 returns : tie.Need-returns
 returns c = sym (exp-zero _ (equals-zero _ (of-true _ (c .if1 .taken))))
 
@@ -17,4 +14,4 @@ returns-2 : tie.Need-returns-2
 returns-2 c = c .exp .ensures
 
 pub exp-of-spec : {M : Type 1} → statement M
-exp-of-spec = tie.close (tie.spec exp-requires returns returns-2)
+exp-of-spec = tie.close (tie.spec (λ c κs. search needs) returns returns-2)

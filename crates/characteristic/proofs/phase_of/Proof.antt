@@ -45,39 +45,6 @@ module _ (d : Complex) where
   unfolding cos-delta sin-delta i-sin-delta
   parts y g h p n s x u w m i h1 h2 h3 h4 h5 h6 h7 h8 h9 h10 h11 = simp (h11, h10, h9, h8, h7, h6, h5, h4, h3, h2, h1, sums, differences)
 
-sin-cos-requires : tie.Need-sin-cos-requires
-sin-cos-requires c κs = search needs
-
-exp-of-requires : tie.Need-exp-of-requires
-exp-of-requires c κs = search needs
-
-exp-of-requires-2 : tie.Need-exp-of-requires-2
-exp-of-requires-2 c κs = search needs
-
-new-requires : tie.Need-new-requires
-new-requires c κs = search needs
-
-new-requires-2 : tie.Need-new-requires-2
-new-requires-2 c κs = search needs
-
-add-requires : tie.Need-add-requires
-add-requires c κs = search needs
-
-scale-requires : tie.Need-scale-requires
-scale-requires c κs = search needs
-
-sub-requires : tie.Need-sub-requires
-sub-requires c κs = search needs
-
-new-requires-3 : tie.Need-new-requires-3
-new-requires-3 c κs = search needs
-
-mul-requires : tie.Need-mul-requires
-mul-requires c κs = search needs
-
-new-requires-4 : tie.Need-new-requires-4
-new-requires-4 c κs = search needs
-
 returns : tie.Need-returns
 returns c =
     parts _ _ _ _ _ _ _ _ _ _ _ _ (c .before .before .before .before .before .before .before .before .before .before .before .before .before .before .before .before .sin-cos .ensures) (c .before .before .before .before .before .before .before .before .before .before .before .before .before .before .exp-of .ensures) (c .before .before .before .before .before .before .before .before .before .before .before .before .before .exp-of2 .ensures) (c .before .before .before .before .before .before .before .before .before .before .new .ensures) (c .before .before .before .before .before .before .before .new2 .ensures) (c .before .before .before .before .before .before .add .ensures) (c .before .before .before .before .before .scale .ensures) (c .before .before .before .before .sub .ensures) (c .before .before .before .new3 .ensures) (c .before .before .mul .ensures) (c .new4 .ensures)
@@ -86,15 +53,15 @@ pub phase-of-spec : {M : Type 1} → statement M
 phase-of-spec =
     tie.close
     (tie.spec
-    sin-cos-requires
-    exp-of-requires
-    exp-of-requires-2
-    new-requires
-    new-requires-2
-    add-requires
-    scale-requires
-    sub-requires
-    new-requires-3
-    mul-requires
-    new-requires-4
+    (λ c κs. search needs)
+    (λ c κs. search needs)
+    (λ c κs. search needs)
+    (λ c κs. search needs)
+    (λ c κs. search needs)
+    (λ c κs. search needs)
+    (λ c κs. search needs)
+    (λ c κs. search needs)
+    (λ c κs. search needs)
+    (λ c κs. search needs)
+    (λ c κs. search needs)
     returns)

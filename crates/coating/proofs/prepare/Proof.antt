@@ -6,55 +6,13 @@ use borrow.Author.Needs.{needs}
 use Rattle.coating.proofs.prepare.Statement.{statement}
 use Rattle.coating.proofs.prepare.Tie as tie
 
-valid-requires : tie.Need-valid-requires
-valid-requires c κs = search needs
-
-settled-requires : tie.Need-settled-requires
-settled-requires c κs = search needs
-
 returns : tie.Need-returns
 unfolding prepare
 returns c = c .settled .ensures ∙ simp (sym (c .before .before .valid .ensures) ∙ not-true _ (c .before .if1 .taken))
 
-enum-told : tie.Need-enum-told
-enum-told c = search needs
-
-ideal-ar-requires : tie.Need-ideal-ar-requires
-ideal-ar-requires c κs = search needs
-
-settled-requires-2 : tie.Need-settled-requires-2
-settled-requires-2 c κs = search needs
-
-enum-told-2 : tie.Need-enum-told-2
-enum-told-2 c = search needs
-
-ideal-mirror-requires : tie.Need-ideal-mirror-requires
-ideal-mirror-requires c κs = search needs
-
-settled-requires-3 : tie.Need-settled-requires-3
-settled-requires-3 c κs = search needs
-
-enum-told-3 : tie.Need-enum-told-3
-enum-told-3 c = search needs
-
-ideal-beamsplitter-requires : tie.Need-ideal-beamsplitter-requires
-ideal-beamsplitter-requires c κs = search needs
-
-settled-requires-4 : tie.Need-settled-requires-4
-settled-requires-4 c κs = search needs
-
-enum-told-4 : tie.Need-enum-told-4
-enum-told-4 c = search needs
-
-settled-requires-5 : tie.Need-settled-requires-5
-settled-requires-5 c κs = search needs
-
 returns-2 : tie.Need-returns-2
 unfolding prepare start
 returns-2 c = c .settled5 .ensures ∙ simp (c .before .before .enum-told4 .given .1, sym (c .before .before .before .before .before .valid .ensures) ∙ not-false _ (c .before .before .before .before .if1 .left), lt-leb _ _ (c .before .if2 .taken))
-
-begin-requires : tie.Need-begin-requires
-begin-requires c κs = search needs
 
 returns-3 : tie.Need-returns-3
 unfolding prepare start
@@ -76,22 +34,22 @@ pub prepare-spec : {M : Type 1} → statement M
 prepare-spec =
     tie.close
     (tie.spec
-    valid-requires
-    settled-requires
+    (λ c κs. search needs)
+    (λ c κs. search needs)
     returns
-    enum-told
-    ideal-ar-requires
-    settled-requires-2
-    enum-told-2
-    ideal-mirror-requires
-    settled-requires-3
-    enum-told-3
-    ideal-beamsplitter-requires
-    settled-requires-4
-    enum-told-4
-    settled-requires-5
+    (λ c. search needs)
+    (λ c κs. search needs)
+    (λ c κs. search needs)
+    (λ c. search needs)
+    (λ c κs. search needs)
+    (λ c κs. search needs)
+    (λ c. search needs)
+    (λ c κs. search needs)
+    (λ c κs. search needs)
+    (λ c. search needs)
+    (λ c κs. search needs)
     returns-2
-    begin-requires
+    (λ c κs. search needs)
     returns-3
     returns-4
     returns-5

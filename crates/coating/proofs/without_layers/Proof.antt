@@ -3,11 +3,8 @@ use borrow.Author.Needs.{needs}
 use Rattle.coating.proofs.without_layers.Statement.{statement}
 use Rattle.coating.proofs.without_layers.Tie as tie
 
-no-layers-requires : tie.Need-no-layers-requires
-no-layers-requires c κs = search needs
-
 returns : tie.Need-returns
 returns c = simp (c .no-layers .ensures)
 
 pub without-layers-spec : {M : Type 1} → statement M
-without-layers-spec = tie.close (tie.spec no-layers-requires returns)
+without-layers-spec = tie.close (tie.spec (λ c κs. search needs) returns)

@@ -9,17 +9,11 @@ use Rattle.coating_name.proofs.UpperCase.{clean-is, clean-fits, clean-s
 use Rattle.coating_name.proofs.coating_in.Statement.{statement}
 use Rattle.coating_name.proofs.coating_in.Tie as tie
 
-upper-requires : tie.Need-upper-requires
-upper-requires c κs = search needs
-
 array-share-prefix-bytes : tie.Need-array-share-prefix-bytes
 array-share-prefix-bytes c = clean-fits _ _ (c .before .upper .ensures)
 
 slice-aggregate-coating-of : tie.Need-slice-aggregate-coating-of
 slice-aggregate-coating-of c = clean-size _ _ (c .before .before .upper .ensures)
-
-coating-of-requires : tie.Need-coating-of-requires
-coating-of-requires c κs = search needs
 
 returns : tie.Need-returns
 returns c = c .coating-of .ensures ∙ ap (λ (l : List ℕ). answer (coating-of l)) (clean-is _ _ (c .before .before .before .upper .ensures))
@@ -28,8 +22,8 @@ pub coating-in-spec : {M : Type 1} → statement M
 coating-in-spec =
     tie.close
     (tie.spec
-    upper-requires
+    (λ c κs. search needs)
     array-share-prefix-bytes
     slice-aggregate-coating-of
-    coating-of-requires
+    (λ c κs. search needs)
     returns)

@@ -5,24 +5,6 @@ use borrow.Author.Needs.{needs}
 use Rattle.coating_name.proofs.coating_of.Statement.{statement}
 use Rattle.coating_name.proofs.coating_of.Tie as tie
 
-names-none-requires : tie.Need-names-none-requires
-names-none-requires c κs = search needs
-
-names-mgf2-requires : tie.Need-names-mgf2-requires
-names-mgf2-requires c κs = search needs
-
-mgf2-default-requires : tie.Need-mgf2-default-requires
-mgf2-default-requires c κs = search needs
-
-names-bbar-requires : tie.Need-names-bbar-requires
-names-bbar-requires c κs = search needs
-
-names-mirror-requires : tie.Need-names-mirror-requires
-names-mirror-requires c κs = search needs
-
-names-ar-requires : tie.Need-names-ar-requires
-names-ar-requires c κs = search needs
-
 returns : tie.Need-returns
 unfolding coating-of
 returns c = simp (sym (c .before .names-none .ensures), c .if1 .taken)
@@ -51,12 +33,12 @@ pub coating-of-spec : {M : Type 1} → statement M
 coating-of-spec =
     tie.close
     (tie.spec
-    names-none-requires
-    names-mgf2-requires
-    mgf2-default-requires
-    names-bbar-requires
-    names-mirror-requires
-    names-ar-requires
+    (λ c κs. search needs)
+    (λ c κs. search needs)
+    (λ c κs. search needs)
+    (λ c κs. search needs)
+    (λ c κs. search needs)
+    (λ c κs. search needs)
     returns
     returns-2
     returns-3

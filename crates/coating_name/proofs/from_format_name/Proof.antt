@@ -40,14 +40,8 @@ module _ (s : List ℕ) (few : length s ≤ 32) where
 returns : tie.Need-returns
 returns c = long (c .before .before .args .name .now) (omega arith)
 
-first-over-requires : tie.Need-first-over-requires
-first-over-requires c κs = search needs
-
 returns-2 : tie.Need-returns-2
 returns-2 c = over _ (c .before .before .if1 .left) _ (c .before .first-over .ensures) (c .if2 .taken)
-
-trim-requires : tie.Need-trim-requires
-trim-requires c κs = search needs
 
 coating-in-requires : tie.Need-coating-in-requires
 coating-in-requires c κs = omega (arith, short _ (c .before .before .before .if1 .left) _ (bytes (c .trim .ensures)))
@@ -58,4 +52,4 @@ returns-3 c = c .coating-in .ensures ∙ named _ (c .before .before .before .bef
 pub from-format-name-spec : {M : Type 1} → statement M
 from-format-name-spec =
     tie.close
-    (tie.spec returns first-over-requires returns-2 trim-requires coating-in-requires returns-3)
+    (tie.spec returns (λ c κs. search needs) returns-2 (λ c κs. search needs) coating-in-requires returns-3)

@@ -5,31 +5,13 @@ use borrow.Author.Needs.{needs}
 use Rattle.coating_name.proofs.names_ar.Statement.{statement}
 use Rattle.coating_name.proofs.names_ar.Tie as tie
 
-slice-aggregate-is : tie.Need-slice-aggregate-is
-slice-aggregate-is c = search needs
-
-is-requires : tie.Need-is-requires
-is-requires c κs = search needs
-
 returns : tie.Need-returns
 unfolding names-ar
 returns c = simp (sym (c .before .is .ensures), c .if1 .taken)
 
-slice-aggregate-contains : tie.Need-slice-aggregate-contains
-slice-aggregate-contains c = search needs
-
-contains-requires : tie.Need-contains-requires
-contains-requires c κs = search needs
-
 returns-2 : tie.Need-returns-2
 unfolding names-ar
 returns-2 c = simp (sym (c .before .before .before .before .is .ensures), sym (c .before .contains .ensures), c .before .before .before .if1 .left, c .if2 .taken)
-
-slice-aggregate-contains-2 : tie.Need-slice-aggregate-contains-2
-slice-aggregate-contains-2 c = search needs
-
-contains-requires-2 : tie.Need-contains-requires-2
-contains-requires-2 c κs = search needs
 
 returns-3 : tie.Need-returns-3
 unfolding names-ar
@@ -39,12 +21,12 @@ pub names-ar-spec : {M : Type 1} → statement M
 names-ar-spec =
     tie.close
     (tie.spec
-    slice-aggregate-is
-    is-requires
+    (λ c. search needs)
+    (λ c κs. search needs)
     returns
-    slice-aggregate-contains
-    contains-requires
+    (λ c. search needs)
+    (λ c κs. search needs)
     returns-2
-    slice-aggregate-contains-2
-    contains-requires-2
+    (λ c. search needs)
+    (λ c κs. search needs)
     returns-3)

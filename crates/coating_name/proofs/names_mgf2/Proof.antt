@@ -5,21 +5,9 @@ use borrow.Author.Needs.{needs}
 use Rattle.coating_name.proofs.names_mgf2.Statement.{statement}
 use Rattle.coating_name.proofs.names_mgf2.Tie as tie
 
-slice-aggregate-is : tie.Need-slice-aggregate-is
-slice-aggregate-is c = search needs
-
-is-requires : tie.Need-is-requires
-is-requires c κs = search needs
-
 returns : tie.Need-returns
 unfolding names-mgf2
 returns c = simp (sym (c .before .is .ensures), c .if1 .taken)
-
-slice-aggregate-contains : tie.Need-slice-aggregate-contains
-slice-aggregate-contains c = search needs
-
-contains-requires : tie.Need-contains-requires
-contains-requires c κs = search needs
 
 returns-2 : tie.Need-returns-2
 unfolding names-mgf2
@@ -29,9 +17,9 @@ pub names-mgf2-spec : {M : Type 1} → statement M
 names-mgf2-spec =
     tie.close
     (tie.spec
-    slice-aggregate-is
-    is-requires
+    (λ c. search needs)
+    (λ c κs. search needs)
     returns
-    slice-aggregate-contains
-    contains-requires
+    (λ c. search needs)
+    (λ c κs. search needs)
     returns-2)

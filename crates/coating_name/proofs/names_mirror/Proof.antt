@@ -5,31 +5,13 @@ use borrow.Author.Needs.{needs}
 use Rattle.coating_name.proofs.names_mirror.Statement.{statement}
 use Rattle.coating_name.proofs.names_mirror.Tie as tie
 
-slice-aggregate-is : tie.Need-slice-aggregate-is
-slice-aggregate-is c = search needs
-
-is-requires : tie.Need-is-requires
-is-requires c κs = search needs
-
 returns : tie.Need-returns
 unfolding names-mirror
 returns c = simp (sym (c .before .is .ensures), c .if1 .taken)
 
-slice-aggregate-contains : tie.Need-slice-aggregate-contains
-slice-aggregate-contains c = search needs
-
-contains-requires : tie.Need-contains-requires
-contains-requires c κs = search needs
-
 returns-2 : tie.Need-returns-2
 unfolding names-mirror
 returns-2 c = simp (sym (c .before .before .before .before .is .ensures), sym (c .before .contains .ensures), c .before .before .before .if1 .left, c .if2 .taken)
-
-slice-aggregate-is-2 : tie.Need-slice-aggregate-is-2
-slice-aggregate-is-2 c = search needs
-
-is-requires-2 : tie.Need-is-requires-2
-is-requires-2 c κs = search needs
 
 returns-3 : tie.Need-returns-3
 unfolding names-mirror
@@ -39,12 +21,12 @@ pub names-mirror-spec : {M : Type 1} → statement M
 names-mirror-spec =
     tie.close
     (tie.spec
-    slice-aggregate-is
-    is-requires
+    (λ c. search needs)
+    (λ c κs. search needs)
     returns
-    slice-aggregate-contains
-    contains-requires
+    (λ c. search needs)
+    (λ c κs. search needs)
     returns-2
-    slice-aggregate-is-2
-    is-requires-2
+    (λ c. search needs)
+    (λ c κs. search needs)
     returns-3)

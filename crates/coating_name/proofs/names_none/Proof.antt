@@ -5,31 +5,13 @@ use borrow.Author.Needs.{needs}
 use Rattle.coating_name.proofs.names_none.Statement.{statement}
 use Rattle.coating_name.proofs.names_none.Tie as tie
 
-slice-aggregate-is : tie.Need-slice-aggregate-is
-slice-aggregate-is c = search needs
-
-is-requires : tie.Need-is-requires
-is-requires c κs = search needs
-
 returns : tie.Need-returns
 unfolding names-none
 returns c = simp (sym (c .before .is .ensures), c .if1 .taken)
 
-slice-aggregate-is-2 : tie.Need-slice-aggregate-is-2
-slice-aggregate-is-2 c = search needs
-
-is-requires-2 : tie.Need-is-requires-2
-is-requires-2 c κs = search needs
-
 returns-2 : tie.Need-returns-2
 unfolding names-none
 returns-2 c = simp (sym (c .before .before .before .before .is .ensures), sym (c .before .is2 .ensures), c .before .before .before .if1 .left, c .if2 .taken)
-
-slice-aggregate-is-3 : tie.Need-slice-aggregate-is-3
-slice-aggregate-is-3 c = search needs
-
-is-requires-3 : tie.Need-is-requires-3
-is-requires-3 c κs = search needs
 
 returns-3 : tie.Need-returns-3
 unfolding names-none
@@ -39,12 +21,12 @@ pub names-none-spec : {M : Type 1} → statement M
 names-none-spec =
     tie.close
     (tie.spec
-    slice-aggregate-is
-    is-requires
+    (λ c. search needs)
+    (λ c κs. search needs)
     returns
-    slice-aggregate-is-2
-    is-requires-2
+    (λ c. search needs)
+    (λ c κs. search needs)
     returns-2
-    slice-aggregate-is-3
-    is-requires-3
+    (λ c. search needs)
+    (λ c κs. search needs)
     returns-3)

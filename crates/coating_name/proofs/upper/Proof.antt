@@ -25,21 +25,6 @@ abbrev μ-loop : tie.MeasureT-loop
 loop-holds : tie.Need-loop-holds Inv-loop μ-loop
 loop-holds c = (omega arith, filled-none (c .before .args .s .now))
 
-shared-slice-read-upper-byte : tie.Need-shared-slice-read-upper-byte Inv-loop μ-loop
-shared-slice-read-upper-byte c = search needs
-
-upper-byte-requires : tie.Need-upper-byte-requires Inv-loop μ-loop
-upper-byte-requires c κs = search needs
-
-array-write-bytes : tie.Need-array-write-bytes Inv-loop μ-loop
-array-write-bytes c = search needs
-
-add-i : tie.Need-add-i Inv-loop μ-loop
-add-i c = search needs
-
-loop-less : tie.Need-loop-less Inv-loop μ-loop
-loop-less c = search needs
-
 loop-again : tie.Need-loop-again Inv-loop μ-loop
 loop-again c = (search needs, simp (c .before .before .before .loop .inv .1, c .upper-byte .ensures) (filled-more _ _ (c .before .before .loop-test .taken) (c .before .before .before .before .before .pre)))
 
@@ -53,10 +38,10 @@ upper-spec =
     Inv-loop
     μ-loop
     loop-holds
-    shared-slice-read-upper-byte
-    upper-byte-requires
-    array-write-bytes
-    add-i
-    loop-less
+    (λ c. search needs)
+    (λ c κs. search needs)
+    (λ c. search needs)
+    (λ c. search needs)
+    (λ c. search needs)
     loop-again
     returns)

@@ -7,15 +7,9 @@ use borrow.Author.Needs.{needs}
 use Rattle.complex.proofs.half_root.Statement.{statement}
 use Rattle.complex.proofs.half_root.Tie as tie
 
-max-requires : tie.Need-max-requires
-max-requires c κs = search needs
-
-sqrt-requires : tie.Need-sqrt-requires
-sqrt-requires c κs = search needs
-
 returns : tie.Need-returns
 unfolding half-root
 returns c = c .sqrt .ensures ∙ ap (squareRoot binary64) (c .before .max .ensures)
 
 pub half-root-spec : {M : Type 1} → statement M
-half-root-spec = tie.close (tie.spec max-requires sqrt-requires returns)
+half-root-spec = tie.close (tie.spec (λ c κs. search needs) (λ c κs. search needs) returns)

@@ -21,23 +21,11 @@ module _ (src : List ℕ) (i : ℕ) (r : SurfaceReply) (e : r ≡ given (surface
   is-answered : r .refusal .number ≡ 0 → (d : Done) (list : List Float) → d ≡ written (surface-answered (r .answers)) list → d ≡ answered surface-answered (surface-answers src i) list
   is-answered h d list is = let o = surface-answers src i in answers surface-answered (r .answers) o d list (Answered.answered o r (answers-sound src i) e h) is
 
-surface-answers-requires : tie.Need-surface-answers-requires
-surface-answers-requires c κs = search needs
-
-packed-requires : tie.Need-packed-requires
-packed-requires c κs = search needs
-
 returns : tie.Need-returns
 returns c = not-answered _ _ _ (c .before .before .before .before .surface-answers .ensures) (c .before .if1 .taken) _ _ (c .packed .ensures)
-
-put-answers-requires : tie.Need-put-answers-requires
-put-answers-requires c κs = search needs
-
-same-length : tie.Need-same-length
-same-length c = search needs
 
 returns-2 : tie.Need-returns-2
 returns-2 c = is-answered _ _ _ (c .before .before .before .before .before .before .before .before .surface-answers .ensures) (c .before .before .before .before .before .if1 .left) _ _ (c .before .before .put-answers .ensures)
 
 pub dihkelu-answers-spec : {M : Type 1} → statement M
-dihkelu-answers-spec = tie.close (tie.spec surface-answers-requires packed-requires returns put-answers-requires same-length returns-2)
+dihkelu-answers-spec = tie.close (tie.spec (λ c κs. search needs) (λ c κs. search needs) returns (λ c κs. search needs) (λ c. search needs) returns-2)

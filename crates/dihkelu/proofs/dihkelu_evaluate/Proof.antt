@@ -21,24 +21,6 @@ refused code design n-incident n-substrate angle wavelength flat r n list e is =
     let o = evaluate code design n-incident n-substrate angle wavelength flat in
     refuses evaluated r _ n list e (sound-apart o (plain-sound o (of-code n-incident n-substrate angle wavelength code design flat))) is
 
-evaluate-requires : tie.Need-evaluate-requires
-evaluate-requires c κs = search needs
-
-enum-known-evaluation : tie.Need-enum-known-evaluation
-enum-known-evaluation c = search needs
-
-put-response-requires : tie.Need-put-response-requires
-put-response-requires c κs = search needs
-
-enum-known-evaluation-2 : tie.Need-enum-known-evaluation-2
-enum-known-evaluation-2 c = search needs
-
-packed-requires : tie.Need-packed-requires
-packed-requires c κs = search needs
-
-same-length : tie.Need-same-length
-same-length c = search needs
-
 returns : tie.Need-returns
 returns c = answers evaluated _ _ _ _ (sym (ap outcome (c .before .before .before .before .before .evaluation .given .1)) ∙ c .before .before .before .before .before .before .before .evaluate .ensures) (c .before .before .put-response .ensures)
 
@@ -46,4 +28,4 @@ returns-2 : tie.Need-returns-2
 returns-2 c = refused _ _ _ _ _ _ _ _ _ _ (sym (ap outcome (c .before .before .evaluation2 .given .1)) ∙ c .before .before .before .before .evaluate .ensures) (c .packed .ensures)
 
 pub dihkelu-evaluate-spec : {M : Type 1} → statement M
-dihkelu-evaluate-spec = tie.close (tie.spec evaluate-requires enum-known-evaluation put-response-requires enum-known-evaluation-2 packed-requires same-length returns returns-2)
+dihkelu-evaluate-spec = tie.close (tie.spec (λ c κs. search needs) (λ c. search needs) (λ c κs. search needs) (λ c. search needs) (λ c κs. search needs) (λ c. search needs) returns returns-2)

@@ -11,9 +11,6 @@ use Rattle.dihkelu.proofs.Returned.{apart-map}
 use Rattle.dihkelu.proofs.dihkelu_gate.Statement.{statement}
 use Rattle.dihkelu.proofs.dihkelu_gate.Tie as tie
 
-gate-requires : tie.Need-gate-requires
-gate-requires c κs = search needs
-
 apart : (src : List ℕ) (o : Outcome ℕ) → o ≡ gate src → Apart o
 unfolding gate
 apart src o e = subst Apart (sym e) (apart-map surfaces-of (gated src) (gate-apart src))
@@ -25,4 +22,4 @@ returns : tie.Need-returns
 returns c = c .number-of .ensures ∙ ap returned (c .before .gate .ensures)
 
 pub dihkelu-gate-spec : {M : Type 1} → statement M
-dihkelu-gate-spec = tie.close (tie.spec gate-requires number-of-requires returns)
+dihkelu-gate-spec = tie.close (tie.spec (λ c κs. search needs) number-of-requires returns)

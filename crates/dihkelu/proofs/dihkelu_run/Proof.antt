@@ -34,17 +34,11 @@ module _ (src : List ℕ) (list out : List Float) (o : Outcome ℕ) (e : record 
   whole : (n : ℕ) → n ≡ returned o → done n out ≡ run-done (run src list)
   whole n is = ap (λ (k : ℕ). done k out) is ∙ ap run-done e
 
-run-requires : tie.Need-run-requires
-run-requires c κs = search needs
-
 number-of-requires : tie.Need-number-of-requires
 number-of-requires c κs = apart _ _ _ _ (c .before .before .run .ensures)
-
-same-length : tie.Need-same-length
-same-length c = search needs
 
 returns : tie.Need-returns
 returns c = whole _ _ _ _ (c .before .before .before .run .ensures) _ (c .number-of .ensures)
 
 pub dihkelu-run-spec : {M : Type 1} → statement M
-dihkelu-run-spec = tie.close (tie.spec run-requires number-of-requires same-length returns)
+dihkelu-run-spec = tie.close (tie.spec (λ c κs. search needs) number-of-requires (λ c. search needs) returns)

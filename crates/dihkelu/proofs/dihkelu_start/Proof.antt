@@ -27,33 +27,6 @@ started src n s p list e f g =
     ∙ ap (λ (st : State). written (state-layout (surfaces-of (a .sheet)) st) list) (fresh-is src (a .sheet) s p (a .reads) f g)
     ∙ ap (λ (o : Outcome Sheet). answered start-layout o list) (sym (a .is))
 
-gate-requires : tie.Need-gate-requires
-gate-requires c κs = search needs
-
-enum-known-count : tie.Need-enum-known-count
-enum-known-count c = search needs
-
-cast-put-powers : tie.Need-cast-put-powers
-cast-put-powers c = search needs
-
-float-from-requires : tie.Need-float-from-requires
-float-from-requires c κs = search needs
-
-float-from-requires-2 : tie.Need-float-from-requires-2
-float-from-requires-2 c κs = search needs
-
-put-powers-requires : tie.Need-put-powers-requires
-put-powers-requires c κs = search needs
-
-enum-known-r : tie.Need-enum-known-r
-enum-known-r c = search needs
-
-packed-requires : tie.Need-packed-requires
-packed-requires c κs = search needs
-
-same-length : tie.Need-same-length
-same-length c = search needs
-
 returns : tie.Need-returns
 returns c =
     let at-gate = c .before .before .before .before .before .before .before in
@@ -64,4 +37,4 @@ returns-2 : tie.Need-returns-2
 returns-2 c = refuses start-layout _ _ _ _ (sym (turned-back _ _ _ (sym (ap Gate.outcome (c .before .before .r .given .1)) ∙ c .before .before .before .before .gate .ensures))) (gate-apart _) (c .packed .ensures)
 
 pub dihkelu-start-spec : {M : Type 1} → statement M
-dihkelu-start-spec = tie.close (tie.spec gate-requires enum-known-count cast-put-powers float-from-requires float-from-requires-2 put-powers-requires enum-known-r packed-requires same-length returns returns-2)
+dihkelu-start-spec = tie.close (tie.spec (λ c κs. search needs) (λ c. search needs) (λ c. search needs) (λ c κs. search needs) (λ c κs. search needs) (λ c κs. search needs) (λ c. search needs) (λ c κs. search needs) (λ c. search needs) returns returns-2)

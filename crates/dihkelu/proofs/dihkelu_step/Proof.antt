@@ -50,26 +50,11 @@ module _ (src : List ℕ) (st : State) where
         let r : answer (q .state) ≡ step-outcome q = simp (eq-eqb (q .refusal .number) 0 h) in
         answers step-layout (q .state) (step-outcome (step src st)) d list (r ∙ ap step-outcome e) is
 
-step-requires : tie.Need-step-requires
-step-requires c κs = search needs
-
-packed-requires : tie.Need-packed-requires
-packed-requires c κs = search needs
-
 returns : tie.Need-returns
 returns c = not-taken _ _ _ (c .before .before .before .before .step .ensures) (c .before .if1 .taken) _ _ (c .packed .ensures)
-
-cast-put-powers : tie.Need-cast-put-powers
-cast-put-powers c = search needs
-
-put-powers-requires : tie.Need-put-powers-requires
-put-powers-requires c κs = search needs
-
-same-length : tie.Need-same-length
-same-length c = search needs
 
 returns-2 : tie.Need-returns-2
 returns-2 c = is-taken _ _ _ (c .before .before .before .before .before .before .before .before .before .step .ensures) (c .before .before .before .before .before .before .if1 .left) _ _ (c .before .before .put-powers .ensures)
 
 pub dihkelu-step-spec : {M : Type 1} → statement M
-dihkelu-step-spec = tie.close (tie.spec step-requires packed-requires returns cast-put-powers put-powers-requires same-length returns-2)
+dihkelu-step-spec = tie.close (tie.spec (λ c κs. search needs) (λ c κs. search needs) returns (λ c. search needs) (λ c κs. search needs) (λ c. search needs) returns-2)

@@ -14,23 +14,8 @@ use Rattle.dihkelu.proofs.number_of.Tie as tie
 refused : (g : Gated) (r : Refusal) (n : ℕ) → g ≡ G.Refused r → Apart (Gate.outcome g) → n ≡ packed (r .number) (r .place % 2 ^ 32) → n ≡ returned (Gate.outcome g)
 refused g r n e h is = is ∙ whole-place r (Gate.outcome g) (ap Gate.outcome (sym e)) h ∙ ap (λ (z : Gated). returned (Gate.outcome z)) (sym e)
 
-enum-known-g : tie.Need-enum-known-g
-enum-known-g c = search needs
-
-cast-result : tie.Need-cast-result
-cast-result c = search needs
-
-enum-known-g-2 : tie.Need-enum-known-g-2
-enum-known-g-2 c = search needs
-
-packed-requires : tie.Need-packed-requires
-packed-requires c κs = search needs
-
-returns : tie.Need-returns
-returns c = search needs
-
 returns-2 : tie.Need-returns-2
 returns-2 c = refused _ _ _ (c .before .before .g2 .given .1) (c .before .before .before .before .pre) (c .packed .ensures)
 
 pub number-of-spec : {M : Type 1} → statement M
-number-of-spec = tie.close (tie.spec enum-known-g cast-result enum-known-g-2 packed-requires returns returns-2)
+number-of-spec = tie.close (tie.spec (λ c. search needs) (λ c. search needs) (λ c. search needs) (λ c κs. search needs) (λ c. search needs) returns-2)

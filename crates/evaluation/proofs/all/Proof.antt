@@ -3,11 +3,8 @@ use borrow.Author.Needs.{needs}
 use Rattle.evaluation.proofs.all.Statement.{statement}
 use Rattle.evaluation.proofs.all.Tie as tie
 
-begin-requires : tie.Need-begin-requires
-begin-requires c κs = search needs
-
 returns : tie.Need-returns
 returns c = simp (c .begin .ensures)
 
 pub all-spec : {M : Type 1} → statement M
-all-spec = tie.close (tie.spec begin-requires returns)
+all-spec = tie.close (tie.spec (λ c κs. search needs) returns)

@@ -4,9 +4,6 @@ use borrow.Author.Needs.{needs}
 use Rattle.evaluation.proofs.conclude.Statement.{statement}
 use Rattle.evaluation.proofs.conclude.Tie as tie
 
-finish-requires : tie.Need-finish-requires
-finish-requires c κs = search needs
-
 returns : tie.Need-returns
 unfolding conclude
 returns c = simp (c .finish .ensures, c .before .if1 .taken)
@@ -16,4 +13,4 @@ unfolding conclude
 returns-2 c = simp (c .if1 .left)
 
 pub conclude-spec : {M : Type 1} → statement M
-conclude-spec = tie.close (tie.spec finish-requires returns returns-2)
+conclude-spec = tie.close (tie.spec (λ c κs. search needs) returns returns-2)

@@ -10,12 +10,6 @@ use Rattle.evaluation.proofs.nth_index.Tie as tie
 past : (n i : ℕ) → n ≤ i → 0 ≡ n - 1 - i
 past n i h = omega arith
 
-sub-result : tie.Need-sub-result
-sub-result c = search needs
-
-sub-result-2 : tie.Need-sub-result-2
-sub-result-2 c = search needs
-
 returns : tie.Need-returns
 returns c = simp (c .before .if1 .taken)
 
@@ -26,4 +20,4 @@ returns-3 : tie.Need-returns-3
 returns-3 c = simp (c .if1 .left)
 
 pub nth-index-spec : {M : Type 1} → statement M
-nth-index-spec = tie.close (tie.spec sub-result sub-result-2 returns returns-2 returns-3)
+nth-index-spec = tie.close (tie.spec (λ c. search needs) (λ c. search needs) returns returns-2 returns-3)

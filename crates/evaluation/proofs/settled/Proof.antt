@@ -3,11 +3,8 @@ use borrow.Author.Needs.{needs}
 use Rattle.evaluation.proofs.settled.Statement.{statement}
 use Rattle.evaluation.proofs.settled.Tie as tie
 
-zero-requires : tie.Need-zero-requires
-zero-requires c κs = search needs
-
 returns : tie.Need-returns
 returns c = simp (c .zero .ensures)
 
 pub settled-spec : {M : Type 1} → statement M
-settled-spec = tie.close (tie.spec zero-requires returns)
+settled-spec = tie.close (tie.spec (λ c κs. search needs) returns)

@@ -4,12 +4,9 @@ use borrow.Author.Needs.{needs}
 use Rattle.evaluation.proofs.step.Statement.{statement}
 use Rattle.evaluation.proofs.step.Tie as tie
 
-step-requires : tie.Need-step-requires
-step-requires c κs = search needs
-
 returns : tie.Need-returns
 unfolding step
 returns c = simp (c .step .ensures)
 
 pub step-spec : {M : Type 1} → statement M
-step-spec = tie.close (tie.spec step-requires returns)
+step-spec = tie.close (tie.spec (λ c κs. search needs) returns)

@@ -7,12 +7,6 @@ use Rattle.exponential.proofs.Constants.{exp-least-is}
 use Rattle.exponential.proofs.exp.Statement.{statement}
 use Rattle.exponential.proofs.exp.Tie as tie
 
-exp-series-requires : tie.Need-exp-series-requires
-exp-series-requires c κs = search needs
-
-squares-requires : tie.Need-squares-requires
-squares-requires c κs = search needs
-
 returns : tie.Need-returns
 unfolding exp isNan
 returns c = simp (is-nan _ (c .if1 .taken))
@@ -33,4 +27,4 @@ returns-4 c =
 
 pub exp-spec : {M : Type 1} → statement M
 exp-spec =
-    tie.close (tie.spec exp-series-requires squares-requires returns returns-2 returns-3 returns-4)
+    tie.close (tie.spec (λ c κs. search needs) (λ c κs. search needs) returns returns-2 returns-3 returns-4)

@@ -1,33 +1,43 @@
 -- `flat_layers::evaluate` meets its contract. Assumes nothing.
-use Prim.Native.Nat.{ℕ, _%_}
-use mathlib.Core.Path.{_≡_, _∙_, ap}
-use mathlib.Core.Bool.{cond}
+use Prim.Native.Nat.{ℕ, _%_, _/_}
+use mathlib.Core.Path.{_≡_, sym, _∙_, ap}
 use mathlib.Core.List.{List}
-use lib.Dec.{eqb}
 use lib.ListN.{length}
 use lib.Ieee.{Float}
 use borrow.Author.Needs.{needs}
-use Rattle.refusal.specs.Outcome.{Outcome, invalid-parameter}
-use Rattle.transfer_matrix.specs.declared.CoatingResponse.{CoatingResponse}
+use borrow.Author.Tests.{eq-eqb, ne-eqb}
+use Rattle.refusal.specs.Outcome.{invalid-parameter}
+use Rattle.thin_film.specs.declared.SurfaceCoating.{SurfaceCoating}
+use Rattle.thin_film.specs.Evaluate.{evaluate-surface}
 use Rattle.limits.specs.declared.Interface.{Interface}
+use Rattle.limits.specs.declared.Interface.the-variants.{Bare, Coated}
 use Rattle.limits.specs.Coating.{coded}
-use Rattle.flat_layers.specs.Evaluate.{evaluate-coded, evaluate}
+use Rattle.flat_layers.specs.Evaluate.{layers, evaluate-coded, evaluate}
 use Rattle.flat_layers.proofs.evaluate.Statement.{statement}
 use Rattle.flat_layers.proofs.evaluate.Tie as tie
 
-asked : (code : ℕ) (design n-incident n-substrate angle wavelength : Float) (flat : List Float) (k : Interface) (o : Outcome CoatingResponse) → k ≡ coded code design
-    → o ≡ cond (eqb (length flat % 3) 0) (evaluate-coded k flat n-incident n-substrate angle wavelength) invalid-parameter → o ≡ evaluate code design n-incident n-substrate angle wavelength flat
-unfolding evaluate
-asked code design n-incident n-substrate angle wavelength flat k o k-is o-is = o-is ∙ ap (λ (z : Interface). cond (eqb (length flat % 3) 0) (evaluate-coded z flat n-incident n-substrate angle wavelength) invalid-parameter) k-is
+module _ (code : ℕ) (design n-incident n-substrate angle wavelength : Float) (flat : List Float) where
+  ragged : (length flat % 3 ≡ 0 → ⊥) → invalid-parameter ≡ evaluate code design n-incident n-substrate angle wavelength flat
+  unfolding evaluate
+  ragged h = simp (ne-eqb _ _ h)
 
-coded-requires : tie.Need-coded-requires
-coded-requires c κs = search needs
+  module _ (whole : length flat % 3 ≡ 0) (k : Interface) (k-is : k ≡ coded code design) where
+    unknown : k ≡ Bare → invalid-parameter ≡ evaluate code design n-incident n-substrate angle wavelength flat
+    unfolding evaluate evaluate-coded
+    unknown e = simp (eq-eqb _ _ whole, sym k-is, e)
 
-evaluate-coded-requires : tie.Need-evaluate-coded-requires
-evaluate-coded-requires c κs = search needs
+    known : (s : SurfaceCoating) → k ≡ Coated s → evaluate-surface s (layers flat) n-incident n-substrate angle wavelength ≡ evaluate code design n-incident n-substrate angle wavelength flat
+    unfolding evaluate evaluate-coded
+    known s e = simp (eq-eqb _ _ whole, sym k-is, e)
 
 returns : tie.Need-returns
-returns c = asked _ _ _ _ _ _ _ _ _ (c .before .coded .ensures) (c .evaluate-coded .ensures)
+returns c = ragged _ _ _ _ _ _ _ (c .if1 .taken)
+
+returns-2 : tie.Need-returns-2
+returns-2 c = c .evaluate-known .ensures ∙ known _ _ _ _ _ _ _ (c .before .before .before .before .before .if1 .left) _ (c .before .before .before .before .coded .ensures) _ (c .before .before .coating .given .1)
+
+returns-3 : tie.Need-returns-3
+returns-3 c = unknown _ _ _ _ _ _ _ (c .before .before .before .if1 .left) _ (c .before .before .coded .ensures) (c .enum-told .given .1)
 
 pub evaluate-spec : {M : Type 1} → statement M
-evaluate-spec = tie.close (tie.spec coded-requires evaluate-coded-requires returns)
+evaluate-spec = tie.close (tie.spec returns (λ c κs. search needs) (λ c. search needs) (λ c κs. search needs) (λ c. search needs) returns-2 returns-3)

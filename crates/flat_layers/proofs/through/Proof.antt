@@ -26,22 +26,10 @@ abbrev μ-loop : tie.MeasureT-loop
 loop-holds : tie.Need-loop-holds Inv-loop μ-loop
 loop-holds c = (search needs, refl)
 
-nth-index-requires : tie.Need-nth-index-requires Inv-loop μ-loop
-nth-index-requires c κs = search needs
-
 layer-at-requires : tie.Need-layer-at-requires Inv-loop μ-loop
 layer-at-requires c κs =
     let n : ℕ = length (c .before .before .before .before .args .flat .now) / 3 in
     omega (arith, c .nth-index .ensures, within (c .before .before .before .before .args .far) n (c .before .before .loop .i) (omega arith))
-
-step-requires : tie.Need-step-requires Inv-loop μ-loop
-step-requires c κs = search needs
-
-add-i : tie.Need-add-i Inv-loop μ-loop
-add-i c = search needs
-
-loop-less : tie.Need-loop-less Inv-loop μ-loop
-loop-less c = search needs
 
 loop-again : tie.Need-loop-again Inv-loop μ-loop
 loop-again c =
@@ -69,10 +57,10 @@ through-spec =
     Inv-loop
     μ-loop
     loop-holds
-    nth-index-requires
+    (λ c κs. search needs)
     layer-at-requires
-    step-requires
-    add-i
-    loop-less
+    (λ c κs. search needs)
+    (λ c. search needs)
+    (λ c. search needs)
     loop-again
     returns)

@@ -5,21 +5,9 @@ use borrow.Author.Needs.{needs}
 use Rattle.fresnel.proofs.fresnel_dielectric.Statement.{statement}
 use Rattle.fresnel.proofs.fresnel_dielectric.Tie as tie
 
-clamp-requires : tie.Need-clamp-requires
-clamp-requires c κs = search needs
-
-sin2-t-requires : tie.Need-sin2-t-requires
-sin2-t-requires c κs = search needs
-
 returns : tie.Need-returns
 unfolding fresnel-dielectric
 returns c = simp (sym (c .before .before .clamp .ensures), sym (c .before .sin2-t .ensures), c .if1 .taken)
-
-cos-t-requires : tie.Need-cos-t-requires
-cos-t-requires c κs = search needs
-
-refracted-requires : tie.Need-refracted-requires
-refracted-requires c κs = search needs
 
 returns-2 : tie.Need-returns-2
 unfolding fresnel-dielectric
@@ -28,4 +16,4 @@ returns-2 c = simp (c .refracted .ensures, c .before .cos-t .ensures, sym (c .be
 pub fresnel-dielectric-spec : {M : Type 1} → statement M
 fresnel-dielectric-spec =
     tie.close
-    (tie.spec clamp-requires sin2-t-requires returns cos-t-requires refracted-requires returns-2)
+    (tie.spec (λ c κs. search needs) (λ c κs. search needs) returns (λ c κs. search needs) (λ c κs. search needs) returns-2)

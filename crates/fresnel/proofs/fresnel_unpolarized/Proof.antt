@@ -4,15 +4,9 @@ use borrow.Author.Needs.{needs}
 use Rattle.fresnel.proofs.fresnel_unpolarized.Statement.{statement}
 use Rattle.fresnel.proofs.fresnel_unpolarized.Tie as tie
 
-fresnel-dielectric-requires : tie.Need-fresnel-dielectric-requires
-fresnel-dielectric-requires c κs = search needs
-
-clamp-requires : tie.Need-clamp-requires
-clamp-requires c κs = search needs
-
 returns : tie.Need-returns
 unfolding r-total fresnel-unpolarized
 returns c = simp (c .clamp .ensures, c .before .before .fresnel-dielectric .ensures)
 
 pub fresnel-unpolarized-spec : {M : Type 1} → statement M
-fresnel-unpolarized-spec = tie.close (tie.spec fresnel-dielectric-requires clamp-requires returns)
+fresnel-unpolarized-spec = tie.close (tie.spec (λ c κs. search needs) (λ c κs. search needs) returns)

@@ -5,15 +5,6 @@ use borrow.Author.Needs.{needs}
 use Rattle.fresnel.proofs.power.Statement.{statement}
 use Rattle.fresnel.proofs.power.Tie as tie
 
-abs-requires : tie.Need-abs-requires
-abs-requires c κs = search needs
-
-powi2-requires : tie.Need-powi2-requires
-powi2-requires c κs = search needs
-
-clamp-requires : tie.Need-clamp-requires
-clamp-requires c κs = search needs
-
 returns : tie.Need-returns
 unfolding power
 returns c = simp (sym (c .before .abs .ensures), c .if1 .taken)
@@ -23,4 +14,4 @@ unfolding power
 returns-2 c = simp (c .clamp .ensures, c .before .powi2 .ensures, sym (c .before .before .before .abs .ensures), c .before .before .if1 .left)
 
 pub power-spec : {M : Type 1} → statement M
-power-spec = tie.close (tie.spec abs-requires powi2-requires clamp-requires returns returns-2)
+power-spec = tie.close (tie.spec (λ c κs. search needs) (λ c κs. search needs) (λ c κs. search needs) returns returns-2)

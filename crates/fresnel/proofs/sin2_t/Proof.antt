@@ -4,12 +4,9 @@ use borrow.Author.Needs.{needs}
 use Rattle.fresnel.proofs.sin2_t.Statement.{statement}
 use Rattle.fresnel.proofs.sin2_t.Tie as tie
 
-max-requires : tie.Need-max-requires
-max-requires c κs = search needs
-
 returns : tie.Need-returns
 unfolding sin2-t
 returns c = simp (c .max .ensures)
 
 pub sin2-t-spec : {M : Type 1} → statement M
-sin2-t-spec = tie.close (tie.spec max-requires returns)
+sin2-t-spec = tie.close (tie.spec (λ c κs. search needs) returns)

@@ -30,23 +30,11 @@ out-of-grammar src place e f = go (decode src) f ∙ right-length src e
     go (read x) f = never (cc)
     go (fault q) f = cc
 
-length-fits-requires : tie.Need-length-fits-requires
-length-fits-requires c κs = search needs
-
 returns : tie.Need-returns
 returns c = wrong-length _ (sym (c .before .length-fits .ensures) ∙ not-true _ (c .if1 .taken))
 
-grammar-requires : tie.Need-grammar-requires
-grammar-requires c κs = search needs
-
-enum-known-count : tie.Need-enum-known-count
-enum-known-count c = search needs
-
 limits-requires : tie.Need-limits-requires
 limits-requires c κs = sym (c .before .before .before .grammar .ensures) ∙ ap verdict-of (c .before .count .given .1)
-
-enum-known-place : tie.Need-enum-known-place
-enum-known-place c = search needs
 
 returns-2 : tie.Need-returns-2
 returns-2 c = c .limits .ensures ∙ right-length _ (sym (c .before .before .before .before .before .before .length-fits .ensures) ∙ not-false _ (c .before .before .before .before .before .if1 .left))
@@ -55,4 +43,4 @@ returns-3 : tie.Need-returns-3
 returns-3 c = out-of-grammar _ _ (sym (c .before .before .before .before .before .length-fits .ensures) ∙ not-false _ (c .before .before .before .before .if1 .left)) (sym (c .before .before .before .grammar .ensures) ∙ ap verdict-of (c .before .place .given .1))
 
 pub gate-spec : {M : Type 1} → statement M
-gate-spec = tie.close (tie.spec length-fits-requires returns grammar-requires enum-known-count limits-requires enum-known-place returns-2 returns-3)
+gate-spec = tie.close (tie.spec (λ c κs. search needs) returns (λ c κs. search needs) (λ c. search needs) limits-requires (λ c. search needs) returns-2 returns-3)

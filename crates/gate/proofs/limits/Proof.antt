@@ -26,38 +26,11 @@ Inv-loop src n at₀ snell₀ at b = Left src n at b
 abbrev μ-loop : tie.MeasureT-loop
 μ-loop src n at₀ snell₀ at b = count src + 8 - at
 
-float-from-requires : tie.Need-float-from-requires Inv-loop μ-loop
-float-from-requires c κs = search needs
-
-float-from-requires-2 : tie.Need-float-from-requires-2 Inv-loop μ-loop
-float-from-requires-2 c κs = search needs
-
-float-from-requires-3 : tie.Need-float-from-requires-3 Inv-loop μ-loop
-float-from-requires-3 c κs = search needs
-
-beam-passes-requires : tie.Need-beam-passes-requires Inv-loop μ-loop
-beam-passes-requires c κs = search needs
-
-outside-requires : tie.Need-outside-requires Inv-loop μ-loop
-outside-requires c κs = search needs
-
 returns : tie.Need-returns Inv-loop μ-loop
 returns c = c .outside .ensures ∙ beam-fails _ _ (c .before .before .before .before .before .before .before .pre) _ _ _ (c .before .before .before .before .before .float-from .ensures) (c .before .before .before .before .float-from2 .ensures) (c .before .before .before .float-from3 .ensures) _ (c .before .before .beam-passes .ensures) (not-true _ (c .before .if1 .taken))
 
 loop-holds : tie.Need-loop-holds Inv-loop μ-loop
 loop-holds c = beam-holds _ _ (c .before .before .before .before .before .before .pre) _ _ _ (c .before .before .before .before .float-from .ensures) (c .before .before .before .float-from2 .ensures) (c .before .before .float-from3 .ensures) _ (c .before .beam-passes .ensures) (not-false _ (c .if1 .left)) _
-
-word-from-requires : tie.Need-word-from-requires Inv-loop μ-loop
-word-from-requires c κs = search needs
-
-surface-at-requires : tie.Need-surface-at-requires Inv-loop μ-loop
-surface-at-requires c κs = search needs
-
-judge-surface-requires : tie.Need-judge-surface-requires Inv-loop μ-loop
-judge-surface-requires c κs = search needs
-
-outside-requires-2 : tie.Need-outside-requires-2 Inv-loop μ-loop
-outside-requires-2 c κs = search needs
 
 returns-2 : tie.Need-returns-2 Inv-loop μ-loop
 returns-2 c = c .outside2 .ensures ∙ surface-fails _ _ _ _ (c .before .before .before .before .before .before .before .loop .inv) _ (c .before .before .before .before .before .before .word-from .ensures) (c .before .before .before .before .before .if2 .taken) _ (c .before .before .before .before .surface-at .ensures) _ (passes-of _ _ (c .before .before .before .judge-surface .ensures)) (not-true _ (c .before .if3 .taken))
@@ -70,15 +43,6 @@ loop-less c = omega (arith, surface-inside _ _ _ _ (c .before .before .before .b
 
 loop-again : tie.Need-loop-again Inv-loop μ-loop
 loop-again c = surface-holds _ _ _ _ (c .before .before .before .before .before .before .loop .inv) _ (c .before .before .before .before .before .word-from .ensures) (c .before .before .before .before .if2 .taken) _ (c .before .before .before .surface-at .ensures) _ (passes-of _ _ (c .before .before .judge-surface .ensures)) (not-false _ (c .if3 .left)) _ (snell-of _ _ (c .before .before .judge-surface .ensures))
-
-layer-at-requires : tie.Need-layer-at-requires Inv-loop μ-loop
-layer-at-requires c κs = search needs
-
-layer-within-requires : tie.Need-layer-within-requires Inv-loop μ-loop
-layer-within-requires c κs = search needs
-
-outside-requires-3 : tie.Need-outside-requires-3 Inv-loop μ-loop
-outside-requires-3 c κs = search needs
 
 returns-3 : tie.Need-returns-3 Inv-loop μ-loop
 returns-3 c = c .outside3 .ensures ∙ layer-fails _ _ _ _ (c .before .before .before .before .before .before .before .loop .inv) _ (c .before .before .before .before .before .before .word-from .ensures) (c .before .before .before .before .if4 .taken) _ (c .before .before .before .layer-at .ensures) _ (c .before .before .layer-within .ensures) (not-true _ (c .before .if5 .taken))
@@ -96,4 +60,4 @@ returns-4 : tie.Need-returns-4 Inv-loop μ-loop
 returns-4 c = all-within _ _ _ _ (c .before .before .before .loop .inv) _ (c .before .before .word-from .ensures) (c .before .if2 .left) (c .if4 .left)
 
 pub limits-spec : {M : Type 1} → statement M
-limits-spec = tie.close (tie.spec Inv-loop μ-loop float-from-requires float-from-requires-2 float-from-requires-3 beam-passes-requires outside-requires returns loop-holds word-from-requires surface-at-requires judge-surface-requires outside-requires-2 returns-2 add-at loop-less loop-again layer-at-requires layer-within-requires outside-requires-3 returns-3 add-at-2 loop-less-2 loop-again-2 returns-4)
+limits-spec = tie.close (tie.spec Inv-loop μ-loop (λ c κs. search needs) (λ c κs. search needs) (λ c κs. search needs) (λ c κs. search needs) (λ c κs. search needs) returns loop-holds (λ c κs. search needs) (λ c κs. search needs) (λ c κs. search needs) (λ c κs. search needs) returns-2 add-at loop-less loop-again (λ c κs. search needs) (λ c κs. search needs) (λ c κs. search needs) returns-3 add-at-2 loop-less-2 loop-again-2 returns-4)

@@ -5,9 +5,6 @@ use borrow.Author.Needs.{needs}
 use Rattle.ieee.proofs.finite_positive.Statement.{statement}
 use Rattle.ieee.proofs.finite_positive.Tie as tie
 
-is-finite-requires : tie.Need-is-finite-requires
-is-finite-requires c κs = search needs
-
 returns : tie.Need-returns
 unfolding finite-positive
 returns c = simp (sym (c .before .is-finite .ensures) ∙ c .if1 .taken)
@@ -17,4 +14,4 @@ unfolding finite-positive
 returns-2 c = c .if1 .left ∙ simp (sym (c .before .is-finite .ensures) ∙ c .if1 .left)
 
 pub finite-positive-spec : {M : Type 1} → statement M
-finite-positive-spec = tie.close (tie.spec is-finite-requires returns returns-2)
+finite-positive-spec = tie.close (tie.spec (λ c κs. search needs) returns returns-2)

@@ -6,9 +6,6 @@ use Rattle.lent_layers.proofs.Places.{at-most, same}
 use Rattle.lent_layers.proofs.evaluate_coating.Statement.{statement}
 use Rattle.lent_layers.proofs.evaluate_coating.Tie as tie
 
-within-requires : tie.Need-within-requires
-within-requires c κs = search needs
-
 coating-requires : tie.Need-coating-requires
 coating-requires c κs = omega (arith, c .within .ensures, at-most (c .before .args .count))
 
@@ -19,4 +16,4 @@ returns c =
     c .coating .ensures ∙ simp (c .before .within .ensures, same count items (omega arith))
 
 pub evaluate-coating-spec : {M : Type 1} → statement M
-evaluate-coating-spec = tie.close (tie.spec within-requires coating-requires returns)
+evaluate-coating-spec = tie.close (tie.spec (λ c κs. search needs) coating-requires returns)

@@ -6,9 +6,6 @@ use Rattle.lent_layers.proofs.Places.{at-most, same}
 use Rattle.lent_layers.proofs.evaluate_multilayer.Statement.{statement}
 use Rattle.lent_layers.proofs.evaluate_multilayer.Tie as tie
 
-within-requires : tie.Need-within-requires
-within-requires c κs = search needs
-
 multilayer-requires : tie.Need-multilayer-requires
 multilayer-requires c κs = omega (arith, c .within .ensures, at-most (c .before .args .count))
 
@@ -19,4 +16,4 @@ returns c =
     c .multilayer .ensures ∙ simp (c .before .within .ensures, same count items (omega arith))
 
 pub evaluate-multilayer-spec : {M : Type 1} → statement M
-evaluate-multilayer-spec = tie.close (tie.spec within-requires multilayer-requires returns)
+evaluate-multilayer-spec = tie.close (tie.spec (λ c κs. search needs) multilayer-requires returns)

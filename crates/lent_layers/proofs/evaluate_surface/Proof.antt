@@ -6,9 +6,6 @@ use Rattle.lent_layers.proofs.Places.{at-most, same}
 use Rattle.lent_layers.proofs.evaluate_surface.Statement.{statement}
 use Rattle.lent_layers.proofs.evaluate_surface.Tie as tie
 
-within-requires : tie.Need-within-requires
-within-requires c κs = search needs
-
 surface-requires : tie.Need-surface-requires
 surface-requires c κs = omega (arith, c .within .ensures, at-most (c .before .args .count))
 
@@ -19,4 +16,4 @@ returns c =
     c .surface .ensures ∙ simp (c .before .within .ensures, same count items (omega arith))
 
 pub evaluate-surface-spec : {M : Type 1} → statement M
-evaluate-surface-spec = tie.close (tie.spec within-requires surface-requires returns)
+evaluate-surface-spec = tie.close (tie.spec (λ c κs. search needs) surface-requires returns)

@@ -4,9 +4,6 @@ use borrow.Author.Needs.{needs}
 use Rattle.limits.proofs.angle_within.Statement.{statement}
 use Rattle.limits.proofs.angle_within.Tie as tie
 
-presets-within-requires : tie.Need-presets-within-requires
-presets-within-requires c κs = search needs
-
 returns : tie.Need-returns
 returns c = simp (c .before .before .before .if1 .taken, c .before .if2 .taken, sym (c .presets-within .ensures))
 
@@ -17,4 +14,4 @@ returns-3 : tie.Need-returns-3
 returns-3 c = simp (c .if1 .left)
 
 pub angle-within-spec : {M : Type 1} → statement M
-angle-within-spec = tie.close (tie.spec presets-within-requires returns returns-2 returns-3)
+angle-within-spec = tie.close (tie.spec (λ c κs. search needs) returns returns-2 returns-3)

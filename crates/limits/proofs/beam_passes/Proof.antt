@@ -5,15 +5,6 @@ use borrow.Author.Needs.{needs}
 use Rattle.limits.proofs.beam_passes.Statement.{statement}
 use Rattle.limits.proofs.beam_passes.Tie as tie
 
-within-requires : tie.Need-within-requires
-within-requires c κs = search needs
-
-within-requires-2 : tie.Need-within-requires-2
-within-requires-2 c κs = search needs
-
-within-requires-3 : tie.Need-within-requires-3
-within-requires-3 c κs = search needs
-
 returns : tie.Need-returns
 unfolding beam-passes
 returns c = simp (sym (c .before .before .before .before .within .ensures), c .before .before .before .if1 .taken, sym (c .before .before .within2 .ensures), c .before .if2 .taken, sym (c .within3 .ensures))
@@ -29,4 +20,4 @@ returns-3 c = simp (sym (c .before .within .ensures), c .if1 .left)
 pub beam-passes-spec : {M : Type 1} → statement M
 beam-passes-spec =
     tie.close
-    (tie.spec within-requires within-requires-2 within-requires-3 returns returns-2 returns-3)
+    (tie.spec (λ c κs. search needs) (λ c κs. search needs) (λ c κs. search needs) returns returns-2 returns-3)

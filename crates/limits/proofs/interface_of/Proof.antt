@@ -4,12 +4,9 @@ use borrow.Author.Needs.{needs}
 use Rattle.limits.proofs.interface_of.Statement.{statement}
 use Rattle.limits.proofs.interface_of.Tie as tie
 
-coded-requires : tie.Need-coded-requires
-coded-requires c κs = search needs
-
 returns : tie.Need-returns
 unfolding interface
 returns c = c .coded .ensures
 
 pub interface-of-spec : {M : Type 1} → statement M
-interface-of-spec = tie.close (tie.spec coded-requires returns)
+interface-of-spec = tie.close (tie.spec (λ c κs. search needs) returns)

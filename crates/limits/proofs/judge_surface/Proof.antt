@@ -18,17 +18,8 @@ judges : (s : Surface) (t : SinCos) (a : Float) (p : Bool) → t ≡ sin-cos (s 
 unfolding surface-passes angle-passes
 judges s t a p e f g = rw (g, f, e)
 
-sin-cos-requires : tie.Need-sin-cos-requires
-sin-cos-requires c κs = search needs
-
-abs-requires : tie.Need-abs-requires
-abs-requires c κs = search needs
-
-surface-within-requires : tie.Need-surface-within-requires
-surface-within-requires c κs = search needs
-
 returns : tie.Need-returns
 returns c = judges _ _ _ _ (c .before .before .before .sin-cos .ensures) (c .before .before .abs .ensures) (c .surface-within .ensures)
 
 pub judge-surface-spec : {M : Type 1} → statement M
-judge-surface-spec = tie.close (tie.spec sin-cos-requires abs-requires surface-within-requires returns)
+judge-surface-spec = tie.close (tie.spec (λ c κs. search needs) (λ c κs. search needs) (λ c κs. search needs) returns)

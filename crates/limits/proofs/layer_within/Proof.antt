@@ -5,12 +5,6 @@ use borrow.Author.Needs.{needs}
 use Rattle.limits.proofs.layer_within.Statement.{statement}
 use Rattle.limits.proofs.layer_within.Tie as tie
 
-within-requires : tie.Need-within-requires
-within-requires c κs = search needs
-
-within-requires-2 : tie.Need-within-requires-2
-within-requires-2 c κs = search needs
-
 returns : tie.Need-returns
 unfolding layer-within
 returns c = simp (sym (c .before .before .before .before .before .before .within .ensures), c .before .before .before .before .before .if1 .taken, c .before .before .before .if2 .taken, sym (c .before .before .within2 .ensures), c .before .if3 .taken)
@@ -29,4 +23,4 @@ returns-4 c = simp (sym (c .before .within .ensures), c .if1 .left)
 
 pub layer-within-spec : {M : Type 1} → statement M
 layer-within-spec =
-    tie.close (tie.spec within-requires within-requires-2 returns returns-2 returns-3 returns-4)
+    tie.close (tie.spec (λ c κs. search needs) (λ c κs. search needs) returns returns-2 returns-3 returns-4)

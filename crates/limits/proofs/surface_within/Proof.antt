@@ -4,18 +4,6 @@ use borrow.Author.Needs.{needs}
 use Rattle.limits.proofs.surface_within.Statement.{statement}
 use Rattle.limits.proofs.surface_within.Tie as tie
 
-within-requires : tie.Need-within-requires
-within-requires c κs = search needs
-
-within-requires-2 : tie.Need-within-requires-2
-within-requires-2 c κs = search needs
-
-is-finite-requires : tie.Need-is-finite-requires
-is-finite-requires c κs = search needs
-
-angle-within-requires : tie.Need-angle-within-requires
-angle-within-requires c κs = search needs
-
 returns : tie.Need-returns
 returns c = simp (sym (c .before .before .before .before .before .before .within .ensures), c .before .before .before .before .before .if1 .taken, sym (c .before .before .before .before .within2 .ensures), c .before .before .before .if2 .taken, sym (c .before .before .is-finite .ensures), c .before .if3 .taken, sym (c .angle-within .ensures))
 
@@ -32,10 +20,10 @@ pub surface-within-spec : {M : Type 1} → statement M
 surface-within-spec =
     tie.close
     (tie.spec
-    within-requires
-    within-requires-2
-    is-finite-requires
-    angle-within-requires
+    (λ c κs. search needs)
+    (λ c κs. search needs)
+    (λ c κs. search needs)
+    (λ c κs. search needs)
     returns
     returns-2
     returns-3

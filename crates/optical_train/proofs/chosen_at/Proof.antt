@@ -31,21 +31,6 @@ module _ (src : List ℕ) (at n : ℕ) (w : Float) (reply : PowersReply) (h : ou
   unfolding chosen-powers
   unanswered r x e g = rw e (ap (chosen-of (surface-value (surface-at src at []) .reflected)) (sym (ap outcome-of g) ∙ h))
 
-powers-at-requires : tie.Need-powers-at-requires
-powers-at-requires c κs = search needs
-
-enum-known-r : tie.Need-enum-known-r
-enum-known-r c = search needs
-
-surface-at-requires : tie.Need-surface-at-requires
-surface-at-requires c κs = search needs
-
-choose-requires : tie.Need-choose-requires
-choose-requires c κs = search needs
-
-enum-told : tie.Need-enum-told
-enum-told c = search needs
-
 returns : tie.Need-returns
 returns c = picked _ _ _ _ _ (c .before .before .before .before .before .powers-at .ensures) _ _ _ (c .choose .ensures) (c .before .surface-at .ensures) (c .before .before .before .r .given .1)
 
@@ -53,4 +38,4 @@ returns-2 : tie.Need-returns-2
 returns-2 c = unanswered _ _ _ _ _ (c .before .before .powers-at .ensures) _ _ nan-is (c .enum-told .given .1)
 
 pub chosen-at-spec : {M : Type 1} → statement M
-chosen-at-spec = tie.close (tie.spec powers-at-requires enum-known-r surface-at-requires choose-requires enum-told returns returns-2)
+chosen-at-spec = tie.close (tie.spec (λ c κs. search needs) (λ c. search needs) (λ c κs. search needs) (λ c κs. search needs) (λ c. search needs) returns returns-2)

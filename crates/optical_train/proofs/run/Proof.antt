@@ -44,32 +44,11 @@ module _ (src : List ℕ) (list : List Float) where
   unfolding run
   not-run r e = sym (ap (ran list) (turned-back src (r .number) (r .place) e))
 
-gate-requires : tie.Need-gate-requires
-gate-requires c κs = search needs
-
-enum-known-count : tie.Need-enum-known-count
-enum-known-count c = search needs
-
-cast-n : tie.Need-cast-n
-cast-n c = search needs
-
-mul-if1 : tie.Need-mul-if1
-mul-if1 c = search needs
-
 returns : tie.Need-returns
 returns c = too-short _ _ _ (sym (ap Gate.outcome (c .before .before .count .given .1)) ∙ c .before .before .before .before .gate .ensures) (c .if1 .taken)
 
-float-from-requires : tie.Need-float-from-requires
-float-from-requires c κs = search needs
-
 write-each-requires : tie.Need-write-each-requires
 write-each-requires c κs = (search needs, c .before .before .if1 .left)
-
-enum-known-r : tie.Need-enum-known-r
-enum-known-r c = search needs
-
-same-length : tie.Need-same-length
-same-length c = search needs
 
 returns-2 : tie.Need-returns-2
 returns-2 c = whole _ _ _ (sym (ap Gate.outcome (c .before .before .before .before .before .before .before .count .given .1)) ∙ c .before .before .before .before .before .before .before .before .before .gate .ensures) (c .before .before .before .before .before .if1 .left) _ (c .before .before .before .before .float-from .ensures) _ (c .before .before .write-each .ensures)
@@ -78,4 +57,4 @@ returns-3 : tie.Need-returns-3
 returns-3 c = not-run _ _ _ (sym (ap Gate.outcome (c .before .r .given .1)) ∙ c .before .before .before .gate .ensures)
 
 pub run-spec : {M : Type 1} → statement M
-run-spec = tie.close (tie.spec gate-requires enum-known-count cast-n mul-if1 returns float-from-requires write-each-requires enum-known-r same-length returns-2 returns-3)
+run-spec = tie.close (tie.spec (λ c κs. search needs) (λ c. search needs) (λ c. search needs) (λ c. search needs) returns (λ c κs. search needs) write-each-requires (λ c. search needs) (λ c. search needs) returns-2 returns-3)

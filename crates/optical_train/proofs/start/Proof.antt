@@ -26,21 +26,6 @@ not-begun : (src : List ℕ) (r : Refusal) → refused r ≡ gate src → refuse
 unfolding start
 not-begun src r e = sym (ap (map fresh) (turned-back src (r .number) (r .place) e))
 
-gate-requires : tie.Need-gate-requires
-gate-requires c κs = search needs
-
-enum-told : tie.Need-enum-told
-enum-told c = search needs
-
-float-from-requires : tie.Need-float-from-requires
-float-from-requires c κs = search needs
-
-float-from-requires-2 : tie.Need-float-from-requires-2
-float-from-requires-2 c κs = search needs
-
-enum-known-r : tie.Need-enum-known-r
-enum-known-r c = search needs
-
 returns : tie.Need-returns
 returns c = begun _ _ _ _ (sym (ap Gate.outcome (c .before .before .enum-told .given .1)) ∙ c .before .before .before .before .gate .ensures) (c .before .float-from .ensures) (c .float-from2 .ensures)
 
@@ -48,4 +33,4 @@ returns-2 : tie.Need-returns-2
 returns-2 c = not-begun _ _ (sym (ap Gate.outcome (c .before .r .given .1)) ∙ c .before .before .before .gate .ensures)
 
 pub start-spec : {M : Type 1} → statement M
-start-spec = tie.close (tie.spec gate-requires enum-told float-from-requires float-from-requires-2 enum-known-r returns returns-2)
+start-spec = tie.close (tie.spec (λ c κs. search needs) (λ c. search needs) (λ c κs. search needs) (λ c κs. search needs) (λ c. search needs) returns returns-2)

@@ -47,26 +47,8 @@ module _ (src : List ℕ) (st : State) where
   unfolding step
   not-taken r e = sym (ap (stepped st) (turned-back src (r .number) (r .place) e))
 
-gate-requires : tie.Need-gate-requires
-gate-requires c κs = search needs
-
-enum-known-count : tie.Need-enum-known-count
-enum-known-count c = search needs
-
 returns : tie.Need-returns
 returns c = no-more _ _ _ (sym (ap Gate.outcome (c .before .before .before .count .given .1)) ∙ c .before .before .before .before .before .gate .ensures) (c .if1 .taken)
-
-place-of-requires : tie.Need-place-of-requires
-place-of-requires c κs = search needs
-
-float-from-requires : tie.Need-float-from-requires
-float-from-requires c κs = search needs
-
-after-one-requires : tie.Need-after-one-requires
-after-one-requires c κs = search needs
-
-enum-known-refusal : tie.Need-enum-known-refusal
-enum-known-refusal c = search needs
 
 returns-2 : tie.Need-returns-2
 returns-2 c = one-more _ _ _ (sym (ap Gate.outcome (c .before .before .before .before .before .before .count .given .1)) ∙ c .before .before .before .before .before .before .before .before .gate .ensures) (c .before .before .before .if1 .left) _ (c .before .before .place-of .ensures) _ (c .before .float-from .ensures) _ (c .after-one .ensures)
@@ -75,4 +57,4 @@ returns-3 : tie.Need-returns-3
 returns-3 c = not-taken _ _ _ (sym (ap Gate.outcome (c .before .refusal .given .1)) ∙ c .before .before .before .gate .ensures)
 
 pub step-spec : {M : Type 1} → statement M
-step-spec = tie.close (tie.spec gate-requires enum-known-count returns place-of-requires float-from-requires after-one-requires enum-known-refusal returns-2 returns-3)
+step-spec = tie.close (tie.spec (λ c κs. search needs) (λ c. search needs) returns (λ c κs. search needs) (λ c κs. search needs) (λ c κs. search needs) (λ c. search needs) returns-2 returns-3)

@@ -60,38 +60,8 @@ module _ (src : List ℕ) (n : ℕ) (w : Float) (list₀ list : List Float) (s p
   done : n ≤ i → (x : Sheet) → decode src ≡ read x → length (x .surfaces) ≡ n → list ≡ after-each w (fresh x) (x .surfaces) ++ drop (2 * n) list₀
   done h x e q = whole w (x .surfaces) list₀ list i s p _ (b .half x e q) (omega (arith, b .most)) ∙ ap (λ (k : ℕ). after-each w (fresh x) (x .surfaces) ++ drop (2 * k) list₀) q
 
-float-from-requires : tie.Need-float-from-requires Inv-loop μ-loop
-float-from-requires c κs = search needs
-
-float-from-requires-2 : tie.Need-float-from-requires-2 Inv-loop μ-loop
-float-from-requires-2 c κs = search needs
-
 loop-holds : tie.Need-loop-holds Inv-loop μ-loop
 loop-holds c = begun _ _ _ _ _ _ (c .before .float-from .ensures) (c .float-from2 .ensures)
-
-layer-run-requires : tie.Need-layer-run-requires Inv-loop μ-loop
-layer-run-requires c κs = search needs
-
-chosen-at-requires : tie.Need-chosen-at-requires Inv-loop μ-loop
-chosen-at-requires c κs = search needs
-
-mul-list : tie.Need-mul-list Inv-loop μ-loop
-mul-list c = search needs
-
-mul-list-2 : tie.Need-mul-list-2 Inv-loop μ-loop
-mul-list-2 c = search needs
-
-slice-write-list : tie.Need-slice-write-list Inv-loop μ-loop
-slice-write-list c = search needs
-
-mul-list-3 : tie.Need-mul-list-3 Inv-loop μ-loop
-mul-list-3 c = search needs
-
-add-list : tie.Need-add-list Inv-loop μ-loop
-add-list c = search needs
-
-mul-list-4 : tie.Need-mul-list-4 Inv-loop μ-loop
-mul-list-4 c = search needs
 
 slice-write-list-2 : tie.Need-slice-write-list-2 Inv-loop μ-loop
 slice-write-list-2 c = rw length-set (omega (arith, c .before .before .before .before .before .loop .inv .long, c .before .before .before .before .before .before .before .before .before .before .pre .1))
@@ -105,20 +75,11 @@ add-at c = record { fits = omega (arith, few _ _ _ (c .before .before .before .l
 add-at-2 : tie.Need-add-at-2 Inv-loop μ-loop
 add-at-2 c = record { fits = omega (arith, few _ _ _ (c .before .before .before .layer-run .ensures), c .before .before .before .before .before .loop .inv .place) }
 
-add-i : tie.Need-add-i Inv-loop μ-loop
-add-i c = search needs
-
-loop-less : tie.Need-loop-less Inv-loop μ-loop
-loop-less c = search needs
-
 loop-again : tie.Need-loop-again Inv-loop μ-loop
 loop-again c = further _ _ _ _ _ _ _ _ _ (c .before .before .before .before .before .loop .inv) (c .before .before .before .before .loop-test .taken) (c .before .before .before .before .before .before .before .before .before .before .pre .1) _ (c .before .before .before .layer-run .ensures) _ (c .before .before .chosen-at .ensures)
-
-same-length : tie.Need-same-length Inv-loop μ-loop
-same-length c = search needs
 
 returns : tie.Need-returns Inv-loop μ-loop
 returns c = done _ _ _ _ _ _ _ _ _ (c .before .loop .inv) (c .loop-test .left)
 
 pub write-each-spec : {M : Type 1} → statement M
-write-each-spec = tie.close (tie.spec Inv-loop μ-loop float-from-requires float-from-requires-2 loop-holds layer-run-requires chosen-at-requires mul-list mul-list-2 slice-write-list mul-list-3 add-list mul-list-4 slice-write-list-2 mul-at add-at add-at-2 add-i loop-less loop-again same-length returns)
+write-each-spec = tie.close (tie.spec Inv-loop μ-loop (λ c κs. search needs) (λ c κs. search needs) loop-holds (λ c κs. search needs) (λ c κs. search needs) (λ c. search needs) (λ c. search needs) (λ c. search needs) (λ c. search needs) (λ c. search needs) (λ c. search needs) slice-write-list-2 mul-at add-at add-at-2 (λ c. search needs) (λ c. search needs) loop-again (λ c. search needs) returns)

@@ -5,21 +5,9 @@ use borrow.Author.Needs.{needs}
 use Rattle.polarization.proofs.bare.Statement.{statement}
 use Rattle.polarization.proofs.bare.Tie as tie
 
-abs-requires : tie.Need-abs-requires
-abs-requires c κs = search needs
-
-totally-reflected-requires : tie.Need-totally-reflected-requires
-totally-reflected-requires c κs = search needs
-
 returns : tie.Need-returns
 unfolding bare
 returns c = simp (c .totally-reflected .ensures, sym (c .before .before .abs .ensures), c .before .if1 .taken)
-
-cos-t-requires : tie.Need-cos-t-requires
-cos-t-requires c κs = search needs
-
-refracted-requires : tie.Need-refracted-requires
-refracted-requires c κs = search needs
 
 returns-2 : tie.Need-returns-2
 unfolding bare
@@ -29,9 +17,9 @@ pub bare-spec : {M : Type 1} → statement M
 bare-spec =
     tie.close
     (tie.spec
-    abs-requires
-    totally-reflected-requires
+    (λ c κs. search needs)
+    (λ c κs. search needs)
     returns
-    cos-t-requires
-    refracted-requires
+    (λ c κs. search needs)
+    (λ c κs. search needs)
     returns-2)

@@ -4,15 +4,9 @@ use borrow.Author.Needs.{needs}
 use Rattle.polarization.proofs.cos_t.Statement.{statement}
 use Rattle.polarization.proofs.cos_t.Tie as tie
 
-max-requires : tie.Need-max-requires
-max-requires c κs = search needs
-
-sqrt-requires : tie.Need-sqrt-requires
-sqrt-requires c κs = search needs
-
 returns : tie.Need-returns
 unfolding cos-t
 returns c = simp (c .sqrt .ensures, c .before .max .ensures)
 
 pub cos-t-spec : {M : Type 1} → statement M
-cos-t-spec = tie.close (tie.spec max-requires sqrt-requires returns)
+cos-t-spec = tie.close (tie.spec (λ c κs. search needs) (λ c κs. search needs) returns)

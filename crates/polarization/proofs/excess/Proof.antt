@@ -4,15 +4,9 @@ use borrow.Author.Needs.{needs}
 use Rattle.polarization.proofs.excess.Statement.{statement}
 use Rattle.polarization.proofs.excess.Tie as tie
 
-powi2-requires : tie.Need-powi2-requires
-powi2-requires c κs = search needs
-
-sqrt-requires : tie.Need-sqrt-requires
-sqrt-requires c κs = search needs
-
 returns : tie.Need-returns
 unfolding excess
 returns c = simp (c .sqrt .ensures, c .before .powi2 .ensures)
 
 pub excess-spec : {M : Type 1} → statement M
-excess-spec = tie.close (tie.spec powi2-requires sqrt-requires returns)
+excess-spec = tie.close (tie.spec (λ c κs. search needs) (λ c κs. search needs) returns)

@@ -6,18 +6,9 @@ use Rattle.polarization.specs.Surface.{indices-valid}
 use Rattle.polarization.proofs.indices_valid.Statement.{statement}
 use Rattle.polarization.proofs.indices_valid.Tie as tie
 
-finite-positive-requires : tie.Need-finite-positive-requires
-finite-positive-requires c κs = search needs
-
 returns : tie.Need-returns
 unfolding indices-valid
 returns c = simp (sym (c .before .finite-positive .ensures) ∙ not-true _ (c .if1 .taken))
-
-finite-positive-requires-2 : tie.Need-finite-positive-requires-2
-finite-positive-requires-2 c κs = search needs
-
-is-finite-requires : tie.Need-is-finite-requires
-is-finite-requires c κs = search needs
 
 returns-2 : tie.Need-returns-2
 unfolding indices-valid
@@ -30,4 +21,4 @@ returns-3 c = c .if2 .left ∙ simp (sym (c .before .before .before .finite-posi
 pub indices-valid-spec : {M : Type 1} → statement M
 indices-valid-spec =
     tie.close
-    (tie.spec finite-positive-requires returns finite-positive-requires-2 is-finite-requires returns-2 returns-3)
+    (tie.spec (λ c κs. search needs) returns (λ c κs. search needs) (λ c κs. search needs) returns-2 returns-3)

@@ -4,16 +4,10 @@ use borrow.Author.Needs.{needs}
 use Rattle.polarization.proofs.surface_coating_jones.Statement.{statement}
 use Rattle.polarization.proofs.surface_coating_jones.Tie as tie
 
-diattenuator-requires : tie.Need-diattenuator-requires
-diattenuator-requires c κs = search needs
-
-diattenuator-requires-2 : tie.Need-diattenuator-requires-2
-diattenuator-requires-2 c κs = search needs
-
 returns : tie.Need-returns
 unfolding surface-coating-jones
 returns c = simp (c .diattenuator2 .ensures, c .before .diattenuator .ensures)
 
 pub surface-coating-jones-spec : {M : Type 1} → statement M
 surface-coating-jones-spec =
-    tie.close (tie.spec diattenuator-requires diattenuator-requires-2 returns)
+    tie.close (tie.spec (λ c κs. search needs) (λ c κs. search needs) returns)

@@ -6,27 +6,9 @@ use borrow.Author.Needs.{needs}
 use Rattle.polarization.proofs.surface_fresnel_jones.Statement.{statement}
 use Rattle.polarization.proofs.surface_fresnel_jones.Tie as tie
 
-indices-valid-requires : tie.Need-indices-valid-requires
-indices-valid-requires c κs = search needs
-
-zero-requires : tie.Need-zero-requires
-zero-requires c κs = search needs
-
-zero-requires-2 : tie.Need-zero-requires-2
-zero-requires-2 c κs = search needs
-
-diattenuator-requires : tie.Need-diattenuator-requires
-diattenuator-requires c κs = search needs
-
 returns : tie.Need-returns
 unfolding returned surface-fresnel-jones
 returns c = simp (c .diattenuator .ensures, c .before .zero2 .ensures, c .before .before .zero .ensures, sym (c .before .before .before .before .indices-valid .ensures) ∙ not-true _ (c .before .before .before .if1 .taken))
-
-sin-cos-requires : tie.Need-sin-cos-requires
-sin-cos-requires c κs = search needs
-
-bare-requires : tie.Need-bare-requires
-bare-requires c κs = search needs
 
 returns-2 : tie.Need-returns-2
 unfolding returned surface-fresnel-jones
@@ -36,11 +18,11 @@ pub surface-fresnel-jones-spec : {M : Type 1} → statement M
 surface-fresnel-jones-spec =
     tie.close
     (tie.spec
-    indices-valid-requires
-    zero-requires
-    zero-requires-2
-    diattenuator-requires
+    (λ c κs. search needs)
+    (λ c κs. search needs)
+    (λ c κs. search needs)
+    (λ c κs. search needs)
     returns
-    sin-cos-requires
-    bare-requires
+    (λ c κs. search needs)
+    (λ c κs. search needs)
     returns-2)

@@ -6,12 +6,6 @@ use borrow.Author.Needs.{needs}
 use Rattle.preset_layers.proofs.bragg.Statement.{statement}
 use Rattle.preset_layers.proofs.bragg.Tie as tie
 
-quarter-wave-requires : tie.Need-quarter-wave-requires
-quarter-wave-requires c κs = search needs
-
-quarter-wave-requires-2 : tie.Need-quarter-wave-requires-2
-quarter-wave-requires-2 c κs = search needs
-
 returns : tie.Need-returns
 returns c = c .quarter-wave .ensures ∙ sym (even _ _ _ _ _ (omega arith) (c .before .if1 .taken))
 
@@ -19,4 +13,4 @@ returns-2 : tie.Need-returns-2
 returns-2 c = c .quarter-wave2 .ensures ∙ sym (odd _ _ _ _ _ (omega arith) (c .before .if1 .left))
 
 pub bragg-spec : {M : Type 1} → statement M
-bragg-spec = tie.close (tie.spec quarter-wave-requires quarter-wave-requires-2 returns returns-2)
+bragg-spec = tie.close (tie.spec (λ c κs. search needs) (λ c κs. search needs) returns returns-2)

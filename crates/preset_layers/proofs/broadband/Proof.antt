@@ -16,18 +16,6 @@ last (suc (suc zero)) a b c = absurd (c refl)
 last (suc (suc (suc zero))) a b c = refl
 last (suc (suc (suc (suc i)))) a b c = refl
 
-dielectric-requires : tie.Need-dielectric-requires
-dielectric-requires c κs = search needs
-
-dielectric-requires-2 : tie.Need-dielectric-requires-2
-dielectric-requires-2 c κs = search needs
-
-dielectric-requires-3 : tie.Need-dielectric-requires-3
-dielectric-requires-3 c κs = search needs
-
-dielectric-requires-4 : tie.Need-dielectric-requires-4
-dielectric-requires-4 c κs = search needs
-
 returns : tie.Need-returns
 unfolding broadband-layers
 returns c = c .dielectric .ensures ∙ simp (c .before .if1 .taken)
@@ -48,10 +36,10 @@ pub broadband-spec : {M : Type 1} → statement M
 broadband-spec =
     tie.close
     (tie.spec
-    dielectric-requires
-    dielectric-requires-2
-    dielectric-requires-3
-    dielectric-requires-4
+    (λ c κs. search needs)
+    (λ c κs. search needs)
+    (λ c κs. search needs)
+    (λ c κs. search needs)
     returns
     returns-2
     returns-3

@@ -13,11 +13,8 @@ returns c = rw (lt-ltb _ _ (c .if1 .taken))
 slice-aggregate-alike : tie.Need-slice-aggregate-alike
 slice-aggregate-alike c = simp length-take (omega arith)
 
-alike-requires : tie.Need-alike-requires
-alike-requires c κs = search needs
-
 returns-2 : tie.Need-returns-2
 returns-2 c = c .alike .ensures ∙ rw (le-ltb _ _ (c .before .before .if1 .left))
 
 pub same-spec : {M : Type 1} → statement M
-same-spec = tie.close (tie.spec returns slice-aggregate-alike alike-requires returns-2)
+same-spec = tie.close (tie.spec returns slice-aggregate-alike (λ c κs. search needs) returns-2)

@@ -21,35 +21,8 @@ loop-holds c = (search needs, begun _ _ _)
 returns : tie.Need-returns Inv-loop μ-loop
 returns c = sym (full _ _ _ (omega arith)) ∙ c .before .before .loop .inv .1
 
-sub-if2 : tie.Need-sub-if2 Inv-loop μ-loop
-sub-if2 c = search needs
-
 returns-2 : tie.Need-returns-2 Inv-loop μ-loop
 returns-2 c = sym (full _ _ _ (omega arith)) ∙ c .before .before .before .loop .inv .1
-
-mul-bits : tie.Need-mul-bits Inv-loop μ-loop
-mul-bits c = search needs
-
-shared-slice-read-bits : tie.Need-shared-slice-read-bits Inv-loop μ-loop
-shared-slice-read-bits c = search needs
-
-bits-requires : tie.Need-bits-requires Inv-loop μ-loop
-bits-requires c κs = search needs
-
-add-out : tie.Need-add-out Inv-loop μ-loop
-add-out c = search needs
-
-mul-out : tie.Need-mul-out Inv-loop μ-loop
-mul-out c = search needs
-
-element-write-out : tie.Need-element-write-out Inv-loop μ-loop
-element-write-out c = search needs
-
-add-i : tie.Need-add-i Inv-loop μ-loop
-add-i c = search needs
-
-loop-less : tie.Need-loop-less Inv-loop μ-loop
-loop-less c = search needs
 
 loop-again : tie.Need-loop-again Inv-loop μ-loop
 loop-again c = (search needs, onward _ _ _ _ _ _ (omega arith) (c .before .before .before .before .loop-test .taken) (c .bits .ensures) ∙ c .before .before .before .before .before .loop .inv .1)
@@ -65,15 +38,15 @@ write-spec =
     μ-loop
     loop-holds
     returns
-    sub-if2
+    (λ c. search needs)
     returns-2
-    mul-bits
-    shared-slice-read-bits
-    bits-requires
-    add-out
-    mul-out
-    element-write-out
-    add-i
-    loop-less
+    (λ c. search needs)
+    (λ c. search needs)
+    (λ c κs. search needs)
+    (λ c. search needs)
+    (λ c. search needs)
+    (λ c. search needs)
+    (λ c. search needs)
+    (λ c. search needs)
     loop-again
     returns-3)

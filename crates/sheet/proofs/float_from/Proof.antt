@@ -22,18 +22,6 @@ past src at h = simp (le-ltb at (count src) h, le-ltb (at + 1) (count src) (more
     more : (n : ℕ) → n ≤ at → n ≤ at + 1
     more n h = omega arith
 
-word-from-requires : tie.Need-word-from-requires
-word-from-requires c κs = search needs
-
-add-word-from : tie.Need-add-word-from
-add-word-from c = search needs
-
-word-from-requires-2 : tie.Need-word-from-requires-2
-word-from-requires-2 c κs = search needs
-
-from-words-requires : tie.Need-from-words-requires
-from-words-requires c κs = search needs
-
 returns : tie.Need-returns
 returns c = inside _ _ _ _ (c .before .before .word-from .ensures) (c .before .word-from2 .ensures) _ (c .from-words .ensures)
 
@@ -44,9 +32,9 @@ pub float-from-spec : {M : Type 1} → statement M
 float-from-spec =
     tie.close
     (tie.spec
-    word-from-requires
-    add-word-from
-    word-from-requires-2
-    from-words-requires
+    (λ c κs. search needs)
+    (λ c. search needs)
+    (λ c κs. search needs)
+    (λ c κs. search needs)
     returns
     returns-2)

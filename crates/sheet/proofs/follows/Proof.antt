@@ -32,29 +32,14 @@ module _ (total at w done room : ℕ) where
       unfolding follows
       if-wrong e = simp (no, none, e)
 
-is-surface-requires : tie.Need-is-surface-requires
-is-surface-requires c κs = search needs
-
 returns : tie.Need-returns
 returns c = if-surface _ _ _ _ _ (sym (c .before .is-surface .ensures) ∙ c .if1 .taken)
-
-is-layer-requires : tie.Need-is-layer-requires
-is-layer-requires c κs = search needs
 
 returns-2 : tie.Need-returns-2
 returns-2 c = if-layer _ _ _ _ _ (sym (c .before .before .before .is-surface .ensures) ∙ c .before .before .if1 .left) (sym (c .before .is-layer .ensures) ∙ c .if2 .taken)
 
-is-end-requires : tie.Need-is-end-requires
-is-end-requires c κs = search needs
-
-add-if4 : tie.Need-add-if4
-add-if4 c = search needs
-
 returns-3 : tie.Need-returns-3
 returns-3 c = if-end _ _ _ _ _ (sym (c .before .before .before .before .before .before .is-surface .ensures) ∙ c .before .before .before .before .before .if1 .left) (sym (c .before .before .before .before .is-layer .ensures) ∙ c .before .before .before .if2 .left) (sym (c .before .before .is-end .ensures) ∙ c .before .if3 .taken) (eq-eqb _ _ (c .if4 .taken))
-
-add-t9 : tie.Need-add-t9
-add-t9 c = search needs
 
 returns-4 : tie.Need-returns-4
 returns-4 c = if-more _ _ _ _ _ (sym (c .before .before .before .before .before .before .is-surface .ensures) ∙ c .before .before .before .before .before .if1 .left) (sym (c .before .before .before .before .is-layer .ensures) ∙ c .before .before .before .if2 .left) (sym (c .before .before .is-end .ensures) ∙ c .before .if3 .taken) (ne-eqb _ _ (c .if4 .left))
@@ -66,13 +51,13 @@ pub follows-spec : {M : Type 1} → statement M
 follows-spec =
     tie.close
     (tie.spec
-    is-surface-requires
+    (λ c κs. search needs)
     returns
-    is-layer-requires
+    (λ c κs. search needs)
     returns-2
-    is-end-requires
-    add-if4
+    (λ c κs. search needs)
+    (λ c. search needs)
     returns-3
-    add-t9
+    (λ c. search needs)
     returns-4
     returns-5)

@@ -17,12 +17,6 @@ past : (src : List ℕ) (at done room : ℕ) → count src ≤ at → wrong at �
 unfolding found
 past src at done room h = simp (le-ltb at (count src) h)
 
-word-from-requires : tie.Need-word-from-requires
-word-from-requires c κs = search needs
-
-follows-requires : tie.Need-follows-requires
-follows-requires c κs = search needs
-
 returns : tie.Need-returns
 returns c = within _ _ _ _ _ (c .before .before .if1 .taken) (c .before .word-from .ensures) _ (c .follows .ensures)
 
@@ -30,4 +24,4 @@ returns-2 : tie.Need-returns-2
 returns-2 c = past _ _ _ _ (c .if1 .left)
 
 pub found-spec : {M : Type 1} → statement M
-found-spec = tie.close (tie.spec word-from-requires follows-requires returns returns-2)
+found-spec = tie.close (tie.spec (λ c κs. search needs) (λ c κs. search needs) returns returns-2)

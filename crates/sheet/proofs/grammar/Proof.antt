@@ -18,38 +18,14 @@ Inv-loop src at₀ done₀ room₀ at done room = (at ≤ count src + 8) × ((do
 abbrev μ-loop : tie.MeasureT-loop
 μ-loop src at₀ done₀ room₀ at done room = count src + 8 - at
 
-word-from-requires : tie.Need-word-from-requires Inv-loop μ-loop
-word-from-requires c κs = search needs
-
 returns : tie.Need-returns Inv-loop μ-loop
 returns c = not-open _ (ne-eqb _ _ (λ e. c .if1 .taken (c .before .word-from .ensures ∙ e)))
-
-word-from-requires-2 : tie.Need-word-from-requires-2 Inv-loop μ-loop
-word-from-requires-2 c κs = search needs
 
 returns-2 : tie.Need-returns-2 Inv-loop μ-loop
 returns-2 c = not-beam _ (eq-eqb _ _ (sym (c .before .before .before .word-from .ensures) ∙ c .before .before .if1 .left)) (ne-eqb _ _ (λ e. c .if2 .taken (c .before .word-from2 .ensures ∙ e)))
 
 loop-holds : tie.Need-loop-holds Inv-loop μ-loop
 loop-holds c = (omega arith, (omega arith, sym (counted-left _ (eq-eqb _ _ (sym (c .before .before .before .word-from .ensures) ∙ c .before .before .if1 .left)) (eq-eqb _ _ (sym (c .before .word-from2 .ensures) ∙ c .if2 .left)))))
-
-found-requires : tie.Need-found-requires Inv-loop μ-loop
-found-requires c κs = search needs
-
-enum-told : tie.Need-enum-told Inv-loop μ-loop
-enum-told c = search needs
-
-word-from-requires-3 : tie.Need-word-from-requires-3 Inv-loop μ-loop
-word-from-requires-3 c κs = search needs
-
-room-after-requires : tie.Need-room-after-requires Inv-loop μ-loop
-room-after-requires c κs = search needs
-
-add-done : tie.Need-add-done Inv-loop μ-loop
-add-done c = search needs
-
-add-at : tie.Need-add-at Inv-loop μ-loop
-add-at c = search needs
 
 loop-less : tie.Need-loop-less Inv-loop μ-loop
 loop-less c = omega (arith, a-surface _ _ _ _ (sym (c .before .before .before .before .found .ensures) ∙ ap block-of (c .before .before .enum-told .given .1)) .0)
@@ -59,14 +35,8 @@ loop-again c =
     let h = a-surface _ _ _ _ (sym (c .before .before .before .before .found .ensures) ∙ ap block-of (c .before .before .enum-told .given .1)) in
     (omega (arith, h .0), (omega (arith, h .1 .few), scan-surface _ _ _ _ _ _ (sym (c .before .before .before .before .found .ensures) ∙ ap block-of (c .before .before .enum-told .given .1)) (c .before .word-from3 .ensures) (c .room-after .ensures) ∙ c .before .before .before .before .before .loop .inv .1 .1))
 
-enum-told-2 : tie.Need-enum-told-2 Inv-loop μ-loop
-enum-told-2 c = search needs
-
 sub-room : tie.Need-sub-room Inv-loop μ-loop
 sub-room c = omega (arith, a-layer _ _ _ _ (sym (c .before .before .found .ensures) ∙ ap block-of (c .enum-told2 .given .1)) .1 .fit)
-
-add-at-2 : tie.Need-add-at-2 Inv-loop μ-loop
-add-at-2 c = search needs
 
 loop-less-2 : tie.Need-loop-less-2 Inv-loop μ-loop
 loop-less-2 c = omega (arith, a-layer _ _ _ _ (sym (c .before .before .found .ensures) ∙ ap block-of (c .enum-told2 .given .1)) .0)
@@ -76,14 +46,8 @@ loop-again-2 c =
     let h = a-layer _ _ _ _ (sym (c .before .before .found .ensures) ∙ ap block-of (c .enum-told2 .given .1)) in
     (omega (arith, h .0), (c .before .before .before .loop .inv .1 .0, scan-layer _ _ _ _ (sym (c .before .before .found .ensures) ∙ ap block-of (c .enum-told2 .given .1)) ∙ c .before .before .before .loop .inv .1 .1))
 
-enum-told-3 : tie.Need-enum-told-3 Inv-loop μ-loop
-enum-told-3 c = search needs
-
 returns-3 : tie.Need-returns-3 Inv-loop μ-loop
 returns-3 c = scan-end _ _ _ _ (sym (c .before .before .found .ensures) ∙ ap block-of (c .enum-told3 .given .1)) ∙ c .before .before .before .loop .inv .1 .1
-
-enum-known-place : tie.Need-enum-known-place Inv-loop μ-loop
-enum-known-place c = search needs
 
 returns-4 : tie.Need-returns-4 Inv-loop μ-loop
 returns-4 c = scan-wrong _ _ _ _ _ (sym (c .before .before .before .found .ensures) ∙ ap block-of (c .before .place .given .1)) ∙ c .before .before .before .before .loop .inv .1 .1
@@ -94,25 +58,25 @@ grammar-spec =
     (tie.spec
     Inv-loop
     μ-loop
-    word-from-requires
+    (λ c κs. search needs)
     returns
-    word-from-requires-2
+    (λ c κs. search needs)
     returns-2
     loop-holds
-    found-requires
-    enum-told
-    word-from-requires-3
-    room-after-requires
-    add-done
-    add-at
+    (λ c κs. search needs)
+    (λ c. search needs)
+    (λ c κs. search needs)
+    (λ c κs. search needs)
+    (λ c. search needs)
+    (λ c. search needs)
     loop-less
     loop-again
-    enum-told-2
+    (λ c. search needs)
     sub-room
-    add-at-2
+    (λ c. search needs)
     loop-less-2
     loop-again-2
-    enum-told-3
+    (λ c. search needs)
     returns-3
-    enum-known-place
+    (λ c. search needs)
     returns-4)

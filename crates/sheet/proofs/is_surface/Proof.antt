@@ -14,11 +14,8 @@ returns-2 c = simp (eq-eqb _ _ (c .before .if1 .left), le-ltb _ _ (c .if2 .taken
 returns-3 : tie.Need-returns-3
 returns-3 c = simp (eq-eqb _ _ (c .before .before .if1 .left), lt-ltb _ _ (c .before .if2 .left), lt-leb _ _ (c .if3 .taken))
 
-sub-result : tie.Need-sub-result
-sub-result c = search needs
-
 returns-4 : tie.Need-returns-4
 returns-4 c = simp (eq-eqb _ _ (c .before .before .if1 .left), lt-ltb _ _ (c .before .if2 .left), le-leb _ _ (c .if3 .left)) (room-is _ _ (c .before .before .before .pre))
 
 pub is-surface-spec : {M : Type 1} → statement M
-is-surface-spec = tie.close (tie.spec returns returns-2 returns-3 sub-result returns-4)
+is-surface-spec = tie.close (tie.spec returns returns-2 returns-3 (λ c. search needs) returns-4)

@@ -27,21 +27,12 @@ some src at w l h e = let k : at + 7 < count src = omega arith in simp (lt-ltb (
 returns : tie.Need-returns
 returns c = past (c .before .before .args .src .now) _ (c .if1 .taken)
 
-sub-if2 : tie.Need-sub-if2
-sub-if2 c = search needs
-
 returns-2 : tie.Need-returns-2
 returns-2 c = close (c .before .before .before .args .src .now) _ (c .before .if1 .left) (c .if2 .taken)
-
-add-word-from : tie.Need-add-word-from
-add-word-from c = search needs
-
-word-from-requires : tie.Need-word-from-requires
-word-from-requires c κs = search needs
 
 returns-3 : tie.Need-returns-3
 returns-3 c = some (c .before .before .before .before .args .src .now) _ _ (c .before .before .if1 .left) (c .before .if2 .left) (c .word-from .ensures)
 
 pub layer-follows-spec : {M : Type 1} → statement M
 layer-follows-spec =
-    tie.close (tie.spec returns sub-if2 returns-2 add-word-from word-from-requires returns-3)
+    tie.close (tie.spec returns (λ c. search needs) returns-2 (λ c. search needs) (λ c κs. search needs) returns-3)

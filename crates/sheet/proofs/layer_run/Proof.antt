@@ -52,18 +52,12 @@ abbrev μ-loop : tie.MeasureT-loop
 loop-holds : tie.Need-loop-holds Inv-loop μ-loop
 loop-holds c = (omega arith, zero-add _)
 
-layer-follows-requires : tie.Need-layer-follows-requires Inv-loop μ-loop
-layer-follows-requires c κs = search needs
-
 returns : tie.Need-returns Inv-loop μ-loop
 returns c = last _ _ _ (c .before .before .loop-test .taken) (sym (c .before .layer-follows .ensures) ∙ not-true _ (c .if1 .taken)) ∙ c .before .before .before .loop .inv .1
 
 add-next : tie.Need-add-next Inv-loop μ-loop
 add-next c =
     omega (arith, room (c .before .before .before .before .before .args .src .now) (c .before .before .before .loop .next) (sym (c .before .layer-follows .ensures) ∙ not-false _ (c .if1 .left)))
-
-add-n : tie.Need-add-n Inv-loop μ-loop
-add-n c = search needs
 
 loop-less : tie.Need-loop-less Inv-loop μ-loop
 loop-less c = omega arith
@@ -75,4 +69,4 @@ returns-2 : tie.Need-returns-2 Inv-loop μ-loop
 returns-2 c = whole _ _ _ (c .loop-test .left) ∙ c .before .loop .inv .1
 
 pub layer-run-spec : {M : Type 1} → statement M
-layer-run-spec = tie.close (tie.spec Inv-loop μ-loop loop-holds layer-follows-requires returns add-next add-n loop-less loop-again returns-2)
+layer-run-spec = tie.close (tie.spec Inv-loop μ-loop loop-holds (λ c κs. search needs) returns add-next (λ c. search needs) loop-less loop-again returns-2)

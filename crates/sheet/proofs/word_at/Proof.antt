@@ -17,33 +17,6 @@ outside : (src : List ℕ) (i : ℕ) → count src ≤ i → 0 ≡ word src i
 unfolding word
 outside src i h = simp (le-ltb i (count src) h)
 
-mul-i : tie.Need-mul-i
-mul-i c = search needs
-
-shared-slice-read-big-endian : tie.Need-shared-slice-read-big-endian
-shared-slice-read-big-endian c = search needs
-
-add-big-endian : tie.Need-add-big-endian
-add-big-endian c = search needs
-
-shared-slice-read-big-endian-2 : tie.Need-shared-slice-read-big-endian-2
-shared-slice-read-big-endian-2 c = search needs
-
-add-big-endian-2 : tie.Need-add-big-endian-2
-add-big-endian-2 c = search needs
-
-shared-slice-read-big-endian-3 : tie.Need-shared-slice-read-big-endian-3
-shared-slice-read-big-endian-3 c = search needs
-
-add-big-endian-3 : tie.Need-add-big-endian-3
-add-big-endian-3 c = search needs
-
-shared-slice-read-big-endian-4 : tie.Need-shared-slice-read-big-endian-4
-shared-slice-read-big-endian-4 c = search needs
-
-big-endian-requires : tie.Need-big-endian-requires
-big-endian-requires c κs = search needs
-
 returns : tie.Need-returns
 returns c = c .big-endian .ensures ∙ inside _ _ (c .before .before .before .before .before .if1 .taken)
 
@@ -54,14 +27,14 @@ pub word-at-spec : {M : Type 1} → statement M
 word-at-spec =
     tie.close
     (tie.spec
-    mul-i
-    shared-slice-read-big-endian
-    add-big-endian
-    shared-slice-read-big-endian-2
-    add-big-endian-2
-    shared-slice-read-big-endian-3
-    add-big-endian-3
-    shared-slice-read-big-endian-4
-    big-endian-requires
+    (λ c. search needs)
+    (λ c. search needs)
+    (λ c. search needs)
+    (λ c. search needs)
+    (λ c. search needs)
+    (λ c. search needs)
+    (λ c. search needs)
+    (λ c. search needs)
+    (λ c κs. search needs)
     returns
     returns-2)

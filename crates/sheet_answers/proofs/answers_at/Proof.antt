@@ -45,36 +45,6 @@ refused : (r : Refusal) (v : AnswersReply) → v ≡ returned (refusal (r .numbe
 unfolding returned
 refused r v e = e
 
-surface-at-requires : tie.Need-surface-at-requires
-surface-at-requires c κs = search needs
-
-interface-of-requires : tie.Need-interface-of-requires
-interface-of-requires c κs = search needs
-
-enum-told : tie.Need-enum-told
-enum-told c = search needs
-
-bare-answers-requires : tie.Need-bare-answers-requires
-bare-answers-requires c κs = search needs
-
-enum-known-coating : tie.Need-enum-known-coating
-enum-known-coating c = search needs
-
-evaluate-at-requires : tie.Need-evaluate-at-requires
-evaluate-at-requires c κs = search needs
-
-enum-known-r : tie.Need-enum-known-r
-enum-known-r c = search needs
-
-coated-answers-requires : tie.Need-coated-answers-requires
-coated-answers-requires c κs = search needs
-
-enum-known-r-2 : tie.Need-enum-known-r-2
-enum-known-r-2 c = search needs
-
-refused-requires : tie.Need-refused-requires
-refused-requires c κs = search needs
-
 returns : tie.Need-returns
 returns c = c .bare-answers .ensures ∙ bare _ _ _ _ (c .before .before .before .before .surface-at .ensures) _ (c .before .before .before .interface-of .ensures) (c .before .enum-told .given .1)
 
@@ -94,16 +64,16 @@ pub answers-at-spec : {M : Type 1} → statement M
 answers-at-spec =
     tie.close
     (tie.spec
-    surface-at-requires
-    interface-of-requires
-    enum-told
-    bare-answers-requires
-    enum-known-coating
-    evaluate-at-requires
-    enum-known-r
-    coated-answers-requires
-    enum-known-r-2
-    refused-requires
+    (λ c κs. search needs)
+    (λ c κs. search needs)
+    (λ c. search needs)
+    (λ c κs. search needs)
+    (λ c. search needs)
+    (λ c κs. search needs)
+    (λ c. search needs)
+    (λ c κs. search needs)
+    (λ c. search needs)
+    (λ c κs. search needs)
     returns
     returns-2
     returns-3)

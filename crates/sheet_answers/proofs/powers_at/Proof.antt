@@ -31,33 +31,6 @@ module _ (wavelength : Float) (layers : List ThinFilmLayer) (s x : Surface) (s-i
   unfolding powers-of
   coated coating e a k a-is h = ap (map coated-powers) (ap outcome (sym h) ∙ a-is) ∙ told (Coated coating) e
 
-surface-at-requires : tie.Need-surface-at-requires
-surface-at-requires c κs = search needs
-
-interface-of-requires : tie.Need-interface-of-requires
-interface-of-requires c κs = search needs
-
-enum-told : tie.Need-enum-told
-enum-told c = search needs
-
-bare-powers-requires : tie.Need-bare-powers-requires
-bare-powers-requires c κs = search needs
-
-enum-known-coating : tie.Need-enum-known-coating
-enum-known-coating c = search needs
-
-evaluate-at-requires : tie.Need-evaluate-at-requires
-evaluate-at-requires c κs = search needs
-
-enum-known-r : tie.Need-enum-known-r
-enum-known-r c = search needs
-
-coated-powers-requires : tie.Need-coated-powers-requires
-coated-powers-requires c κs = search needs
-
-enum-known-r-2 : tie.Need-enum-known-r-2
-enum-known-r-2 c = search needs
-
 returns : tie.Need-returns
 returns c = ap answer (c .bare-powers .ensures) ∙ bare _ _ _ _ (c .before .before .before .before .surface-at .ensures) _ (c .before .before .before .interface-of .ensures) (c .before .enum-told .given .1)
 
@@ -76,15 +49,15 @@ pub powers-at-spec : {M : Type 1} → statement M
 powers-at-spec =
     tie.close
     (tie.spec
-    surface-at-requires
-    interface-of-requires
-    enum-told
-    bare-powers-requires
-    enum-known-coating
-    evaluate-at-requires
-    enum-known-r
-    coated-powers-requires
-    enum-known-r-2
+    (λ c κs. search needs)
+    (λ c κs. search needs)
+    (λ c. search needs)
+    (λ c κs. search needs)
+    (λ c. search needs)
+    (λ c κs. search needs)
+    (λ c. search needs)
+    (λ c κs. search needs)
+    (λ c. search needs)
     returns
     returns-2
     returns-3)

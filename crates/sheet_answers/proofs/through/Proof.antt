@@ -25,21 +25,6 @@ abbrev μ-loop : tie.MeasureT-loop
 loop-holds : tie.Need-loop-holds Inv-loop μ-loop
 loop-holds c = (search needs, refl)
 
-nth-index-requires : tie.Need-nth-index-requires Inv-loop μ-loop
-nth-index-requires c κs = search needs
-
-layer-behind-requires : tie.Need-layer-behind-requires Inv-loop μ-loop
-layer-behind-requires c κs = search needs
-
-step-requires : tie.Need-step-requires Inv-loop μ-loop
-step-requires c κs = search needs
-
-add-i : tie.Need-add-i Inv-loop μ-loop
-add-i c = search needs
-
-loop-less : tie.Need-loop-less Inv-loop μ-loop
-loop-less c = search needs
-
 loop-again : tie.Need-loop-again Inv-loop μ-loop
 loop-again c =
     let src : List ℕ = c .before .before .before .before .before .before .args .src .now in
@@ -68,4 +53,4 @@ returns c =
     sym (done (c .before .loop .stack) _ (c .before .loop .i) (omega (arith, as-long far ls))) ∙ c .before .loop .inv .1
 
 pub through-spec : {M : Type 1} → statement M
-through-spec = tie.close (tie.spec Inv-loop μ-loop loop-holds nth-index-requires layer-behind-requires step-requires add-i loop-less loop-again returns)
+through-spec = tie.close (tie.spec Inv-loop μ-loop loop-holds (λ c κs. search needs) (λ c κs. search needs) (λ c κs. search needs) (λ c. search needs) (λ c. search needs) loop-again returns)

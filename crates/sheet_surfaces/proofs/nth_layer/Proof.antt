@@ -6,29 +6,11 @@ use Rattle.sheet_surfaces.proofs.Nth.{no-layer-there, past-layers, laye
 use Rattle.sheet_surfaces.proofs.nth_layer.Statement.{statement}
 use Rattle.sheet_surfaces.proofs.nth_layer.Tie as tie
 
-gate-requires : tie.Need-gate-requires
-gate-requires c κs = search needs
-
-enum-known-count : tie.Need-enum-known-count
-enum-known-count c = search needs
-
 returns : tie.Need-returns
 returns c = no-layer-there _ _ _ (sym (ap Gate.outcome (c .before .before .count .given .1)) ∙ c .before .before .before .before .gate .ensures) _ (c .if1 .taken)
 
-place-of-requires : tie.Need-place-of-requires
-place-of-requires c κs = search needs
-
-layer-run-requires : tie.Need-layer-run-requires
-layer-run-requires c κs = search needs
-
 returns-2 : tie.Need-returns-2
 returns-2 c = past-layers _ _ _ (sym (ap Gate.outcome (c .before .before .before .before .before .count .given .1)) ∙ c .before .before .before .before .before .before .before .gate .ensures) _ (c .before .before .before .if1 .left) _ (c .before .before .place-of .ensures) _ (c .before .layer-run .ensures) (c .if2 .taken)
-
-layer-behind-requires : tie.Need-layer-behind-requires
-layer-behind-requires c κs = search needs
-
-enum-known-r : tie.Need-enum-known-r
-enum-known-r c = search needs
 
 returns-3 : tie.Need-returns-3
 returns-3 c = layer-there _ _ _ (sym (ap Gate.outcome (c .before .before .before .before .before .before .count .given .1)) ∙ c .before .before .before .before .before .before .before .before .gate .ensures) _ (c .before .before .before .before .if1 .left) _ (c .before .before .before .place-of .ensures) _ (c .before .before .layer-run .ensures) (c .before .if2 .left) _ (c .layer-behind .ensures)
@@ -37,4 +19,4 @@ returns-4 : tie.Need-returns-4
 returns-4 c = layer-refused _ _ _ _ (sym (ap Gate.outcome (c .before .r .given .1)) ∙ c .before .before .before .gate .ensures)
 
 pub nth-layer-spec : {M : Type 1} → statement M
-nth-layer-spec = tie.close (tie.spec gate-requires enum-known-count returns place-of-requires layer-run-requires returns-2 layer-behind-requires enum-known-r returns-3 returns-4)
+nth-layer-spec = tie.close (tie.spec (λ c κs. search needs) (λ c. search needs) returns (λ c κs. search needs) (λ c κs. search needs) returns-2 (λ c κs. search needs) (λ c. search needs) returns-3 returns-4)

@@ -14,11 +14,8 @@ made : (r : Refusal) (reply : AnswersReply) → reply ≡ returned (refusal (r .
 unfolding returned given
 made r reply e = ap (λ (q : AnswersReply). record { refusal = r; answers = q .answers }) e
 
-refused-requires : tie.Need-refused-requires
-refused-requires c κs = search needs
-
 returns : tie.Need-returns
 returns c = made _ _ (c .before .refused .ensures)
 
 pub refused-spec : {M : Type 1} → statement M
-refused-spec = tie.close (tie.spec refused-requires returns)
+refused-spec = tie.close (tie.spec (λ c κs. search needs) returns)

@@ -65,35 +65,8 @@ not-there : (src : List ℕ) (i : ℕ) (r : Refusal) → refused r ≡ gate src 
 unfolding surface-answers
 not-there src i r e = ap given (not-admitted its-answers src i r e)
 
-gate-requires : tie.Need-gate-requires
-gate-requires c κs = search needs
-
-enum-known-count : tie.Need-enum-known-count
-enum-known-count c = search needs
-
-refused-requires : tie.Need-refused-requires
-refused-requires c κs = search needs
-
 returns : tie.Need-returns
 returns c = c .refused .ensures ∙ no-such _ _ _ (sym (ap Gate.outcome (c .before .before .before .count .given .1)) ∙ c .before .before .before .before .before .gate .ensures) (c .before .if1 .taken)
-
-place-of-requires : tie.Need-place-of-requires
-place-of-requires c κs = search needs
-
-layer-run-requires : tie.Need-layer-run-requires
-layer-run-requires c κs = search needs
-
-float-from-requires : tie.Need-float-from-requires
-float-from-requires c κs = search needs
-
-answers-at-requires : tie.Need-answers-at-requires
-answers-at-requires c κs = search needs
-
-enum-known-r : tie.Need-enum-known-r
-enum-known-r c = search needs
-
-refused-requires-2 : tie.Need-refused-requires-2
-refused-requires-2 c κs = search needs
 
 returns-2 : tie.Need-returns-2
 returns-2 c = whole _ _ _ (sym (ap Gate.outcome (c .before .before .before .before .before .before .before .count .given .1)) ∙ c .before .before .before .before .before .before .before .before .before .gate .ensures) (c .before .before .before .before .before .if1 .left) _ (c .before .before .before .before .place-of .ensures) _ (c .before .before .before .layer-run .ensures) _ (c .before .before .float-from .ensures) _ (c .before .answers-at .ensures)
@@ -102,4 +75,4 @@ returns-3 : tie.Need-returns-3
 returns-3 c = c .refused2 .ensures ∙ not-there _ _ _ (sym (ap Gate.outcome (c .before .before .r .given .1)) ∙ c .before .before .before .before .gate .ensures)
 
 pub surface-answers-spec : {M : Type 1} → statement M
-surface-answers-spec = tie.close (tie.spec gate-requires enum-known-count refused-requires returns place-of-requires layer-run-requires float-from-requires answers-at-requires enum-known-r refused-requires-2 returns-2 returns-3)
+surface-answers-spec = tie.close (tie.spec (λ c κs. search needs) (λ c. search needs) (λ c κs. search needs) returns (λ c κs. search needs) (λ c κs. search needs) (λ c κs. search needs) (λ c κs. search needs) (λ c. search needs) (λ c κs. search needs) returns-2 returns-3)

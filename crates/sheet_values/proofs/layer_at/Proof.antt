@@ -5,24 +5,6 @@ use Rattle.sheet_values.proofs.Past.{layer-past}
 use Rattle.sheet_values.proofs.layer_at.Statement.{statement}
 use Rattle.sheet_values.proofs.layer_at.Tie as tie
 
-add-float-from : tie.Need-add-float-from
-add-float-from c = search needs
-
-float-from-requires : tie.Need-float-from-requires
-float-from-requires c κs = search needs
-
-add-float-from-2 : tie.Need-add-float-from-2
-add-float-from-2 c = search needs
-
-float-from-requires-2 : tie.Need-float-from-requires-2
-float-from-requires-2 c κs = search needs
-
-add-float-from-3 : tie.Need-add-float-from-3
-add-float-from-3 c = search needs
-
-float-from-requires-3 : tie.Need-float-from-requires-3
-float-from-requires-3 c κs = search needs
-
 returns : tie.Need-returns
 returns c = cc
 
@@ -30,4 +12,4 @@ returns-2 : tie.Need-returns-2
 returns-2 c = layer-past _ _ (c .if1 .left)
 
 pub layer-at-spec : {M : Type 1} → statement M
-layer-at-spec = tie.close (tie.spec add-float-from float-from-requires add-float-from-2 float-from-requires-2 add-float-from-3 float-from-requires-3 returns returns-2)
+layer-at-spec = tie.close (tie.spec (λ c. search needs) (λ c κs. search needs) (λ c. search needs) (λ c κs. search needs) (λ c. search needs) (λ c κs. search needs) returns returns-2)

@@ -18,9 +18,6 @@ loop-holds : tie.Need-loop-holds Inv-loop μ-loop
 unfolding place
 loop-holds c = (omega arith, (omega arith, refl))
 
-layer-run-requires : tie.Need-layer-run-requires Inv-loop μ-loop
-layer-run-requires c κs = search needs
-
 mul-at : tie.Need-mul-at Inv-loop μ-loop
 mul-at c = record { fits = omega (arith, few _ _ _ (c .layer-run .ensures)) }
 
@@ -30,12 +27,6 @@ add-at c = record { fits = omega (arith, few _ _ _ (c .layer-run .ensures)) }
 add-at-2 : tie.Need-add-at-2 Inv-loop μ-loop
 add-at-2 c = record { fits = omega (arith, few _ _ _ (c .layer-run .ensures)) }
 
-add-i : tie.Need-add-i Inv-loop μ-loop
-add-i c = search needs
-
-loop-less : tie.Need-loop-less Inv-loop μ-loop
-loop-less c = search needs
-
 loop-again : tie.Need-loop-again Inv-loop μ-loop
 loop-again c = (omega arith, (omega (arith, few _ _ _ (c .layer-run .ensures)), further _ _ _ _ (c .before .before .loop .inv .1 .1) (c .layer-run .ensures)))
 
@@ -43,4 +34,4 @@ returns : tie.Need-returns Inv-loop μ-loop
 returns c = c .before .loop .inv .1 .1 ∙ ap (place _) (omega arith)
 
 pub place-of-spec : {M : Type 1} → statement M
-place-of-spec = tie.close (tie.spec Inv-loop μ-loop loop-holds layer-run-requires mul-at add-at add-at-2 add-i loop-less loop-again returns)
+place-of-spec = tie.close (tie.spec Inv-loop μ-loop loop-holds (λ c κs. search needs) mul-at add-at add-at-2 (λ c. search needs) (λ c. search needs) loop-again returns)

@@ -45,9 +45,6 @@ add-wrapping-add-u64 c = omega (arith, mul-le-mul (lower (c .args .x)) (upper (c
 mul-wrapping-add-u64-3 : tie.Need-mul-wrapping-add-u64-3
 mul-wrapping-add-u64-3 c = omega (arith, mul-le-mul (lower (c .args .x)) (lower (c .args .y)))
 
-wrapping-add-u64-requires : tie.Need-wrapping-add-u64-requires
-wrapping-add-u64-requires c κs = search needs
-
 returns : tie.Need-returns
 returns c = c .wrapping-add-u64 .ensures ∙ halves (c .before .args .x) (c .before .args .y)
 
@@ -59,5 +56,5 @@ low-product-spec =
     mul-wrapping-add-u64-2
     add-wrapping-add-u64
     mul-wrapping-add-u64-3
-    wrapping-add-u64-requires
+    (λ c κs. search needs)
     returns)

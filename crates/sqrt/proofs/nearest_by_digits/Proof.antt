@@ -8,12 +8,6 @@ use Rattle.square_root.proofs.Closest.{closestRoot-down, closestRoot-up}
 use Rattle.sqrt.proofs.nearest_by_digits.Statement.{statement}
 use Rattle.sqrt.proofs.nearest_by_digits.Tie as tie
 
-root-by-digits-requires : tie.Need-root-by-digits-requires
-root-by-digits-requires c κs = search needs
-
-add-result : tie.Need-add-result
-add-result c = search needs
-
 returns : tie.Need-returns
 returns c =
     let r = c .before .before .before .root-by-digits in
@@ -25,4 +19,4 @@ returns-2 c =
     sym (closestRoot-down (r .result .root) (r .result .rest) (c .if1 .left)) ∙ ap (λ (n : ℕ). closestRoot n 1) (r .ensures .sum)
 
 pub nearest-by-digits-spec : {M : Type 1} → statement M
-nearest-by-digits-spec = tie.close (tie.spec root-by-digits-requires add-result returns returns-2)
+nearest-by-digits-spec = tie.close (tie.spec (λ c κs. search needs) (λ c. search needs) returns returns-2)

@@ -63,23 +63,11 @@ nearest c = c .before .is-root .ensures (of-true (c .before .is-root .result) (c
 no-nan : (b r : ℕ) → 2 ^ 52 ≤ b → b < 0x7ff0_0000_0000_0000 → r ≡ rootBits b → T (not (nanBits binary64 r))
 no-nan b r l h e = below-no-nan r (lt-of-le-of-lt (le-of-eq e) (normal-root-lt b l h))
 
-add-part : tie.Need-add-part
-add-part c = search needs
-
 float-from-bits-h : tie.Need-float-from-bits-h
 float-from-bits-h c = below-no-nan (part (c .args .bits)) (omega arith)
 
-first-guess-requires : tie.Need-first-guess-requires
-first-guess-requires c κs = search needs
-
-second-guess-requires : tie.Need-second-guess-requires
-second-guess-requires c κs = search needs
-
 float-to-bits-root : tie.Need-float-to-bits-root
 float-to-bits-root c = above-no-nan (c .before .second-guess .result) (is-above (c .before .second-guess .result) (c .if1 .taken))
-
-is-root-requires : tie.Need-is-root-requires
-is-root-requires c κs = search needs
 
 float-from-bits-result : tie.Need-float-from-bits-result
 float-from-bits-result c =
@@ -88,9 +76,6 @@ float-from-bits-result c =
 
 returns : tie.Need-returns
 returns c = ap (ofBits binary64) (found-there (bits (c .before)) (root (c .before)) (c .if4 .taken) (nearest (c .before)))
-
-mul-result : tie.Need-mul-result
-mul-result c = search needs
 
 add-result : tie.Need-add-result
 add-result c = omega (arith, nearest (c .before) .field)
@@ -106,20 +91,8 @@ float-from-bits-result-2 c =
 returns-2 : tie.Need-returns-2
 returns-2 c = ap (ofBits binary64) (found (bits (c .before)) (root (c .before)) (nearest (c .before)))
 
-add-d : tie.Need-add-d
-add-d c = search needs
-
-sub-d : tie.Need-sub-d
-sub-d c = search needs
-
 mul-d : tie.Need-mul-d
 mul-d c = omega (arith, twice (c .before .before .before .args .bits))
-
-add-result-2 : tie.Need-add-result-2
-add-result-2 c = search needs
-
-mul-result-2 : tie.Need-mul-result-2
-mul-result-2 c = search needs
 
 nearest-by-digits-requires : tie.Need-nearest-by-digits-requires
 nearest-by-digits-requires c κs = omega (arith, twice (c .before .before .before .args .bits))
@@ -142,24 +115,24 @@ pub normal-sqrt-spec : {M : Type 1} → statement M
 normal-sqrt-spec =
     tie.close
     (tie.spec
-    add-part
+    (λ c. search needs)
     float-from-bits-h
-    first-guess-requires
-    second-guess-requires
+    (λ c κs. search needs)
+    (λ c κs. search needs)
     float-to-bits-root
-    is-root-requires
+    (λ c κs. search needs)
     float-from-bits-result
     returns
-    mul-result
+    (λ c. search needs)
     add-result
     sub-result
     float-from-bits-result-2
     returns-2
-    add-d
-    sub-d
+    (λ c. search needs)
+    (λ c. search needs)
     mul-d
-    add-result-2
-    mul-result-2
+    (λ c. search needs)
+    (λ c. search needs)
     nearest-by-digits-requires
     add-result-3
     float-from-bits-result-3

@@ -30,9 +30,6 @@ subnormal-sqrt-requires c κs =
     let x = c .before .before .args .x in
     (above-pos (toBits binary64 x) (above-bits x (read-back (c .before .before)) (is-above x (c .before .if1 .taken))), c .if2 .taken)
 
-normal-sqrt-requires : tie.Need-normal-sqrt-requires
-normal-sqrt-requires c κs = search needs
-
 returns : tie.Need-returns
 returns c = c .subnormal-sqrt .ensures ∙ ap (squareRoot binary64) (read-back (c .before .before .before))
 
@@ -57,4 +54,4 @@ returns-5 c = root-none (c .before .before .args .x) (c .before .if1 .left) (c .
 pub sqrt-spec : {M : Type 1} → statement M
 sqrt-spec =
     tie.close
-    (tie.spec float-to-bits-bits subnormal-sqrt-requires normal-sqrt-requires returns returns-2 returns-3 returns-4 returns-5)
+    (tie.spec float-to-bits-bits subnormal-sqrt-requires (λ c κs. search needs) returns returns-2 returns-3 returns-4 returns-5)

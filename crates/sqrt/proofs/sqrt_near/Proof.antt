@@ -60,9 +60,6 @@ nearest c = c .before .is-root .ensures (of-true (c .before .is-root .result) (c
 float-to-bits-bits : tie.Need-float-to-bits-bits
 float-to-bits-bits c = no-nan (c .before .args .x) (c .if1 .taken)
 
-second-guess-requires : tie.Need-second-guess-requires
-second-guess-requires c κs = search needs
-
 float-to-bits-root : tie.Need-float-to-bits-root
 float-to-bits-root c = no-nan (c .before .second-guess .result) (c .if3 .taken)
 
@@ -78,21 +75,15 @@ returns c =
     let s = d .before .before .before .before .before in
     passed (toBits binary64 (s .args .x)) (toBits binary64 (d .before .before .second-guess .result)) (bits-field d) (nearest c) ∙ ap (squareRoot binary64) (read-back s)
 
-sqrt-requires : tie.Need-sqrt-requires
-sqrt-requires c κs = search needs
-
-returns-2 : tie.Need-returns-2
-returns-2 c = search needs
-
 pub sqrt-near-spec : {M : Type 1} → statement M
 sqrt-near-spec =
     tie.close
     (tie.spec
     float-to-bits-bits
-    second-guess-requires
+    (λ c κs. search needs)
     float-to-bits-root
     is-root-requires
     float-from-bits-result
     returns
-    sqrt-requires
-    returns-2)
+    (λ c κs. search needs)
+    (λ c. search needs))

@@ -40,9 +40,6 @@ cast-lifted-2 c = omega (arith, up c .to)
 sub-lifted : tie.Need-sub-lifted
 sub-lifted c = omega (arith, up c .to)
 
-mul-lifted : tie.Need-mul-lifted
-mul-lifted c = search needs
-
 add-lifted : tie.Need-add-lifted
 add-lifted c = omega (arith, from-subnormal (c .args .bits) (c .pre .0) (c .pre .1) .below)
 
@@ -69,9 +66,6 @@ root-is c =
 float-to-bits-root : tie.Need-float-to-bits-root
 float-to-bits-root c = root-no-nan c
 
-mul-result : tie.Need-mul-result
-mul-result c = search needs
-
 sub-result : tie.Need-sub-result
 sub-result c = omega (arith, root-is c)
 
@@ -93,11 +87,11 @@ subnormal-sqrt-spec =
     shl-lifted
     cast-lifted-2
     sub-lifted
-    mul-lifted
+    (λ c. search needs)
     add-lifted
     normal-sqrt-requires
     float-to-bits-root
-    mul-result
+    (λ c. search needs)
     sub-result
     float-from-bits-result
     returns)

@@ -23,12 +23,6 @@ loop-holds c = omega arith
 of-patterns-requires : tie.Need-of-patterns-requires Inv-loop μ-loop Inv-loop2 μ-loop2
 of-patterns-requires c κs = omega arith
 
-line-requires : tie.Need-line-requires Inv-loop μ-loop Inv-loop2 μ-loop2
-line-requires c κs = search needs
-
-next-requires : tie.Need-next-requires Inv-loop μ-loop Inv-loop2 μ-loop2
-next-requires c κs = search needs
-
 add-i : tie.Need-add-i Inv-loop μ-loop Inv-loop2 μ-loop2
 add-i c = omega arith
 
@@ -47,12 +41,6 @@ mul-of-squares c = record { fits = omega arith }
 of-squares-requires : tie.Need-of-squares-requires Inv-loop μ-loop Inv-loop2 μ-loop2
 of-squares-requires c κs = omega arith
 
-line-requires-2 : tie.Need-line-requires-2 Inv-loop μ-loop Inv-loop2 μ-loop2
-line-requires-2 c κs = search needs
-
-next-requires-2 : tie.Need-next-requires-2 Inv-loop μ-loop Inv-loop2 μ-loop2
-next-requires-2 c κs = search needs
-
 add-i-2 : tie.Need-add-i-2 Inv-loop μ-loop Inv-loop2 μ-loop2
 add-i-2 c = omega arith
 
@@ -62,8 +50,5 @@ loop2-less c = omega arith
 loop2-again : tie.Need-loop2-again Inv-loop μ-loop Inv-loop2 μ-loop2
 loop2-again c = omega arith
 
-returns : tie.Need-returns Inv-loop μ-loop Inv-loop2 μ-loop2
-returns c = search needs
-
 pub main-spec : {M : Type 1} → statement M
-main-spec = tie.close (tie.spec Inv-loop μ-loop Inv-loop2 μ-loop2 loop-holds of-patterns-requires line-requires next-requires add-i loop-less loop-again loop2-holds mul-of-squares of-squares-requires line-requires-2 next-requires-2 add-i-2 loop2-less loop2-again returns)
+main-spec = tie.close (tie.spec Inv-loop μ-loop Inv-loop2 μ-loop2 loop-holds of-patterns-requires (λ c κs. search needs) (λ c κs. search needs) add-i loop-less loop-again loop2-holds mul-of-squares of-squares-requires (λ c κs. search needs) (λ c κs. search needs) add-i-2 loop2-less loop2-again (λ c. search needs))

@@ -14,14 +14,8 @@ abbrev μ-loop : tie.MeasureT-loop
 loop-holds : tie.Need-loop-holds Inv-loop μ-loop
 loop-holds c = omega arith
 
-next-requires : tie.Need-next-requires Inv-loop μ-loop
-next-requires c κs = search needs
-
 shr-with-root : tie.Need-shr-with-root Inv-loop μ-loop
 shr-with-root c = omega arith
-
-with-root-requires : tie.Need-with-root-requires Inv-loop μ-loop
-with-root-requires c κs = search needs
 
 add-counter : tie.Need-add-counter Inv-loop μ-loop
 add-counter c = omega arith
@@ -32,8 +26,5 @@ loop-less c = omega arith
 loop-again : tie.Need-loop-again Inv-loop μ-loop
 loop-again c = omega arith
 
-returns : tie.Need-returns Inv-loop μ-loop
-returns c = search needs
-
 pub of-patterns-spec : {M : Type 1} → statement M
-of-patterns-spec = tie.close (tie.spec Inv-loop μ-loop loop-holds next-requires shr-with-root with-root-requires add-counter loop-less loop-again returns)
+of-patterns-spec = tie.close (tie.spec Inv-loop μ-loop loop-holds (λ c κs. search needs) shr-with-root (λ c κs. search needs) add-counter loop-less loop-again (λ c. search needs))

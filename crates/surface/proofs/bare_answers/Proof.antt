@@ -5,21 +5,6 @@ use borrow.Author.Needs.{needs}
 use Rattle.surface.proofs.bare_answers.Statement.{statement}
 use Rattle.surface.proofs.bare_answers.Tie as tie
 
-surface-fresnel-jones-requires : tie.Need-surface-fresnel-jones-requires
-surface-fresnel-jones-requires c κs = search needs
-
-bare-powers-requires : tie.Need-bare-powers-requires
-bare-powers-requires c κs = search needs
-
-no-response-requires : tie.Need-no-response-requires
-no-response-requires c κs = search needs
-
-assembled-requires : tie.Need-assembled-requires
-assembled-requires c κs = search needs
-
-refused-requires : tie.Need-refused-requires
-refused-requires c κs = search needs
-
 returns : tie.Need-returns
 returns c = simp (c .assembled .ensures, c .before .no-response .ensures, c .before .before .bare-powers .ensures) (answered _ _ (c .before .before .before .before .before .before .surface-fresnel-jones .ensures) (c .before .before .before .before .if1 .taken))
 
@@ -30,10 +15,10 @@ pub bare-answers-spec : {M : Type 1} → statement M
 bare-answers-spec =
     tie.close
     (tie.spec
-    surface-fresnel-jones-requires
-    bare-powers-requires
-    no-response-requires
-    assembled-requires
-    refused-requires
+    (λ c κs. search needs)
+    (λ c κs. search needs)
+    (λ c κs. search needs)
+    (λ c κs. search needs)
+    (λ c κs. search needs)
     returns
     returns-2)

@@ -4,12 +4,9 @@ use borrow.Author.Needs.{needs}
 use Rattle.surface.proofs.refused.Statement.{statement}
 use Rattle.surface.proofs.refused.Tie as tie
 
-no-answers-requires : tie.Need-no-answers-requires
-no-answers-requires c κs = search needs
-
 returns : tie.Need-returns
 unfolding returned
 returns c = cc
 
 pub refused-spec : {M : Type 1} → statement M
-refused-spec = tie.close (tie.spec no-answers-requires returns)
+refused-spec = tie.close (tie.spec (λ c κs. search needs) returns)

@@ -4,18 +4,6 @@ use borrow.Author.Needs.{needs}
 use Rattle.tally.proofs.clean.Statement.{statement}
 use Rattle.tally.proofs.clean.Tie as tie
 
-mul-result : tie.Need-mul-result
-mul-result c = search needs
-
-element-copy-out-result : tie.Need-element-copy-out-result
-element-copy-out-result c = search needs
-
-mul-result-2 : tie.Need-mul-result-2
-mul-result-2 c = search needs
-
-element-copy-out-result-2 : tie.Need-element-copy-out-result-2
-element-copy-out-result-2 c = search needs
-
 returns : tie.Need-returns
 returns c = simp (lt-ltb _ _ (c .before .before .if1 .taken))
 
@@ -23,4 +11,4 @@ returns-2 : tie.Need-returns-2
 returns-2 c = simp (le-ltb _ _ (c .if1 .left))
 
 pub clean-spec : {M : Type 1} → statement M
-clean-spec = tie.close (tie.spec mul-result element-copy-out-result mul-result-2 element-copy-out-result-2 returns returns-2)
+clean-spec = tie.close (tie.spec (λ c. search needs) (λ c. search needs) (λ c. search needs) (λ c. search needs) returns returns-2)

@@ -4,14 +4,8 @@ use borrow.Author.Needs.{needs}
 use Rattle.tally.proofs.compared.Statement.{statement}
 use Rattle.tally.proofs.compared.Tie as tie
 
-same-requires : tie.Need-same-requires
-same-requires c κs = search needs
-
 returns : tie.Need-returns
 returns c = sym (c .if1 .taken) ∙ c .before .same .ensures
-
-print-record-requires : tie.Need-print-record-requires
-print-record-requires c κs = search needs
 
 returns-2 : tie.Need-returns-2
 returns-2 c = sym (c .before .before .if1 .left) ∙ c .before .before .before .same .ensures
@@ -20,4 +14,4 @@ returns-3 : tie.Need-returns-3
 returns-3 c = sym (c .before .if1 .left) ∙ c .before .before .same .ensures
 
 pub compared-spec : {M : Type 1} → statement M
-compared-spec = tie.close (tie.spec same-requires returns print-record-requires returns-2 returns-3)
+compared-spec = tie.close (tie.spec (λ c κs. search needs) returns (λ c κs. search needs) returns-2 returns-3)

@@ -28,39 +28,6 @@ loop-holds : tie.Need-loop-holds Inv-loop μ-loop
 unfolding all-clean
 loop-holds c = (search needs, refl)
 
-mul-if1 : tie.Need-mul-if1 Inv-loop μ-loop
-mul-if1 c = search needs
-
-element-copy-out-if1 : tie.Need-element-copy-out-if1 Inv-loop μ-loop
-element-copy-out-if1 c = search needs
-
-mul-print-line : tie.Need-mul-print-line Inv-loop μ-loop
-mul-print-line c = search needs
-
-element-copy-out-print-line : tie.Need-element-copy-out-print-line Inv-loop μ-loop
-element-copy-out-print-line c = search needs
-
-mul-print-line-2 : tie.Need-mul-print-line-2 Inv-loop μ-loop
-mul-print-line-2 c = search needs
-
-element-copy-out-print-line-2 : tie.Need-element-copy-out-print-line-2 Inv-loop μ-loop
-element-copy-out-print-line-2 c = search needs
-
-print-line-requires : tie.Need-print-line-requires Inv-loop μ-loop
-print-line-requires c κs = search needs
-
-clean-requires : tie.Need-clean-requires Inv-loop μ-loop
-clean-requires c κs = search needs
-
-both-requires : tie.Need-both-requires Inv-loop μ-loop
-both-requires c κs = search needs
-
-add-f : tie.Need-add-f Inv-loop μ-loop
-add-f c = search needs
-
-loop-less : tie.Need-loop-less Inv-loop μ-loop
-loop-less c = search needs
-
 loop-again : tie.Need-loop-again Inv-loop μ-loop
 loop-again c = (search needs, next _ _ _ _ _ _ (c .before .before .before .before .before .loop .inv .1) (c .before .clean .ensures) (c .both .ensures))
 
@@ -74,16 +41,16 @@ print-tally-spec =
     Inv-loop
     μ-loop
     loop-holds
-    mul-if1
-    element-copy-out-if1
-    mul-print-line
-    element-copy-out-print-line
-    mul-print-line-2
-    element-copy-out-print-line-2
-    print-line-requires
-    clean-requires
-    both-requires
-    add-f
-    loop-less
+    (λ c. search needs)
+    (λ c. search needs)
+    (λ c. search needs)
+    (λ c. search needs)
+    (λ c. search needs)
+    (λ c. search needs)
+    (λ c κs. search needs)
+    (λ c κs. search needs)
+    (λ c κs. search needs)
+    (λ c. search needs)
+    (λ c. search needs)
     loop-again
     returns)

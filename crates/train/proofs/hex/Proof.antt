@@ -44,17 +44,8 @@ whole w rest text i l e = sym (l .digits ∙ ap (λ (k : ℕ). hex k rest ++ dro
 loop-holds : tie.Need-loop-holds Inv-loop μ-loop
 loop-holds c = record { most = omega arith; long = refl; digits = sym (append-nil _) }
 
-sub-i : tie.Need-sub-i Inv-loop μ-loop
-sub-i c = search needs
-
-hex-digit-requires : tie.Need-hex-digit-requires Inv-loop μ-loop
-hex-digit-requires c κs = search needs
-
 array-write-text : tie.Need-array-write-text Inv-loop μ-loop
 array-write-text c = omega (arith, c .before .before .loop .inv .most)
-
-loop-less : tie.Need-loop-less Inv-loop μ-loop
-loop-less c = search needs
 
 loop-again : tie.Need-loop-again Inv-loop μ-loop
 loop-again c = next _ _ _ _ _ _ (c .before .before .loop .inv) (omega arith) (c .hex-digit .ensures)
@@ -63,4 +54,4 @@ returns : tie.Need-returns Inv-loop μ-loop
 returns c = whole _ _ _ _ (c .before .loop .inv) (omega arith)
 
 pub hex-spec : {M : Type 1} → statement M
-hex-spec = tie.close (tie.spec Inv-loop μ-loop loop-holds sub-i hex-digit-requires array-write-text loop-less loop-again returns)
+hex-spec = tie.close (tie.spec Inv-loop μ-loop loop-holds (λ c. search needs) (λ c κs. search needs) array-write-text (λ c. search needs) loop-again returns)

@@ -29,32 +29,8 @@ had-room : (src : List ℕ) (list out : List Float) (g : Outcome ℕ) (n : ℕ) 
 unfolding run
 had-room src list out g n e q = room list n (gated src) (sym q ∙ ap (λ (r : Ran). r .result) e)
 
-slice-aggregate-run : tie.Need-slice-aggregate-run
-slice-aggregate-run c = search needs
-
-run-requires : tie.Need-run-requires
-run-requires c κs = search needs
-
-enum-known-count : tie.Need-enum-known-count
-enum-known-count c = search needs
-
-cast-print-run : tie.Need-cast-print-run
-cast-print-run c = search needs
-
 print-run-requires : tie.Need-print-run-requires
 print-run-requires c κs = omega (arith, had-room _ _ _ _ _ (c .before .before .before .before .before .run .ensures) (ap outcome (c .before .before .count .given .1)))
 
-enum-known-r : tie.Need-enum-known-r
-enum-known-r c = search needs
-
-print-refusal-requires : tie.Need-print-refusal-requires
-print-refusal-requires c κs = search needs
-
-returns : tie.Need-returns
-returns c = search needs
-
-returns-2 : tie.Need-returns-2
-returns-2 c = search needs
-
 pub train-spec : {M : Type 1} → statement M
-train-spec = tie.close (tie.spec slice-aggregate-run run-requires enum-known-count cast-print-run print-run-requires enum-known-r print-refusal-requires returns returns-2)
+train-spec = tie.close (tie.spec (λ c. search needs) (λ c κs. search needs) (λ c. search needs) (λ c. search needs) print-run-requires (λ c. search needs) (λ c κs. search needs) (λ c. search needs) (λ c. search needs))

@@ -22,17 +22,8 @@ parts : (n0 ns angle w : Float) (y : SinCos) (o z : Complex) → y ≡ sin-cos a
 unfolding begin
 parts n0 ns angle w y o z e f g = simp (e, f, g)
 
-sin-cos-requires : tie.Need-sin-cos-requires
-sin-cos-requires c κs = search needs
-
-real-requires : tie.Need-real-requires
-real-requires c κs = search needs
-
-zero-requires : tie.Need-zero-requires
-zero-requires c κs = search needs
-
 returns : tie.Need-returns
 returns c = parts _ _ _ _ _ _ _ (c .before .before .before .sin-cos .ensures) (c .before .before .real .ensures) (c .before .zero .ensures)
 
 pub begin-spec : {M : Type 1} → statement M
-begin-spec = tie.close (tie.spec sin-cos-requires real-requires zero-requires returns)
+begin-spec = tie.close (tie.spec (λ c κs. search needs) (λ c κs. search needs) (λ c κs. search needs) returns)

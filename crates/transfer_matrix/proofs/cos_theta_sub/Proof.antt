@@ -21,24 +21,6 @@ module _ (q a : Float) (a-is : a ≡ abs q) where
   unfolding cos-theta-sub
   beyond t u p1 z p2 = let h : le (abs q) one ≡ false = (rw a-is at t) in simp (h, p2, p1)
 
-abs-requires : tie.Need-abs-requires
-abs-requires c κs = search needs
-
-max-requires : tie.Need-max-requires
-max-requires c κs = search needs
-
-sqrt-requires : tie.Need-sqrt-requires
-sqrt-requires c κs = search needs
-
-real-requires : tie.Need-real-requires
-real-requires c κs = search needs
-
-sqrt-requires-2 : tie.Need-sqrt-requires-2
-sqrt-requires-2 c κs = search needs
-
-new-requires : tie.Need-new-requires
-new-requires c κs = search needs
-
 returns : tie.Need-returns
 returns c = within _ _ (c .before .before .before .before .abs .ensures) (c .before .before .before .if1 .taken) _ _ (c .before .before .max .ensures) (c .before .sqrt .ensures) _ (c .real .ensures)
 
@@ -49,11 +31,11 @@ pub cos-theta-sub-spec : {M : Type 1} → statement M
 cos-theta-sub-spec =
     tie.close
     (tie.spec
-    abs-requires
-    max-requires
-    sqrt-requires
-    real-requires
-    sqrt-requires-2
-    new-requires
+    (λ c κs. search needs)
+    (λ c κs. search needs)
+    (λ c κs. search needs)
+    (λ c κs. search needs)
+    (λ c κs. search needs)
+    (λ c κs. search needs)
     returns
     returns-2)

@@ -16,24 +16,9 @@ parts : (snell wavelength : Float) (layer : ThinFilmLayer) (m n : Matrix) (s p :
 unfolding film-of
 parts snell wavelength layer m n s p h1 h2 h3 h4 = simp (h4, h3, h2, h1)
 
-terms-of-requires : tie.Need-terms-of-requires
-terms-of-requires c κs = search needs
-
-characteristic-requires : tie.Need-characteristic-requires
-characteristic-requires c κs = search needs
-
-entries-requires : tie.Need-entries-requires
-entries-requires c κs = search needs
-
-characteristic-requires-2 : tie.Need-characteristic-requires-2
-characteristic-requires-2 c κs = search needs
-
-entries-requires-2 : tie.Need-entries-requires-2
-entries-requires-2 c κs = search needs
-
 returns : tie.Need-returns
 returns c =
     parts _ _ _ _ _ _ _ (c .before .before .before .characteristic .ensures ∙ s-is _ _ _ _ (c .before .before .before .before .before .before .before .terms-of .ensures)) (c .before .before .entries .ensures) (c .before .characteristic2 .ensures ∙ p-is _ _ _ _ (c .before .before .before .before .before .before .before .terms-of .ensures)) (c .entries2 .ensures)
 
 pub film-of-spec : {M : Type 1} → statement M
-film-of-spec = tie.close (tie.spec terms-of-requires characteristic-requires entries-requires characteristic-requires-2 entries-requires-2 returns)
+film-of-spec = tie.close (tie.spec (λ c κs. search needs) (λ c κs. search needs) (λ c κs. search needs) (λ c κs. search needs) (λ c κs. search needs) returns)

@@ -23,33 +23,6 @@ named : (s p : Solved) → respond s p ≡ record { rs = s .r; rp = p .r; ts = s
 unfolding respond
 named s p = refl
 
-cos-theta-sub-requires : tie.Need-cos-theta-sub-requires
-cos-theta-sub-requires c κs = search needs
-
-real-requires : tie.Need-real-requires
-real-requires c κs = search needs
-
-real-requires-2 : tie.Need-real-requires-2
-real-requires-2 c κs = search needs
-
-max-requires : tie.Need-max-requires
-max-requires c κs = search needs
-
-real-requires-3 : tie.Need-real-requires-3
-real-requires-3 c κs = search needs
-
-mul-requires : tie.Need-mul-requires
-mul-requires c κs = search needs
-
-solve-requires : tie.Need-solve-requires
-solve-requires c κs = search needs
-
-div-requires : tie.Need-div-requires
-div-requires c κs = search needs
-
-solve-requires-2 : tie.Need-solve-requires-2
-solve-requires-2 c κs = search needs
-
 returns : tie.Need-returns
 returns c =
     sym (named _ _)
@@ -59,13 +32,13 @@ pub finish-spec : {M : Type 1} → statement M
 finish-spec =
     tie.close
     (tie.spec
-    cos-theta-sub-requires
-    real-requires
-    real-requires-2
-    max-requires
-    real-requires-3
-    mul-requires
-    solve-requires
-    div-requires
-    solve-requires-2
+    (λ c κs. search needs)
+    (λ c κs. search needs)
+    (λ c κs. search needs)
+    (λ c κs. search needs)
+    (λ c κs. search needs)
+    (λ c κs. search needs)
+    (λ c κs. search needs)
+    (λ c κs. search needs)
+    (λ c κs. search needs)
     returns)

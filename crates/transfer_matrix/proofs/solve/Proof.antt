@@ -30,54 +30,6 @@ module _ (m : Product) (eta0 eta : Complex) where
   unfolding solve reflectance transmittance
   parts r t e f q R q′ S ph p1 p2 p3 p4 p5 = simp (p5, p4, p3, p2, p1, e, f)
 
-mul-requires : tie.Need-mul-requires
-mul-requires c κs = search needs
-
-add-requires : tie.Need-add-requires
-add-requires c κs = search needs
-
-mul-requires-2 : tie.Need-mul-requires-2
-mul-requires-2 c κs = search needs
-
-add-requires-2 : tie.Need-add-requires-2
-add-requires-2 c κs = search needs
-
-mul-requires-3 : tie.Need-mul-requires-3
-mul-requires-3 c κs = search needs
-
-sub-requires : tie.Need-sub-requires
-sub-requires c κs = search needs
-
-mul-requires-4 : tie.Need-mul-requires-4
-mul-requires-4 c κs = search needs
-
-add-requires-3 : tie.Need-add-requires-3
-add-requires-3 c κs = search needs
-
-div-requires : tie.Need-div-requires
-div-requires c κs = search needs
-
-scale-requires : tie.Need-scale-requires
-scale-requires c κs = search needs
-
-div-requires-2 : tie.Need-div-requires-2
-div-requires-2 c κs = search needs
-
-norm-sq-requires : tie.Need-norm-sq-requires
-norm-sq-requires c κs = search needs
-
-clamp-requires : tie.Need-clamp-requires
-clamp-requires c κs = search needs
-
-norm-sq-requires-2 : tie.Need-norm-sq-requires-2
-norm-sq-requires-2 c κs = search needs
-
-clamp-requires-2 : tie.Need-clamp-requires-2
-clamp-requires-2 c κs = search needs
-
-arg-requires : tie.Need-arg-requires
-arg-requires c κs = search needs
-
 returns : tie.Need-returns
 returns c =
     parts _ _ _ _ _
@@ -89,20 +41,20 @@ pub solve-spec : {M : Type 1} → statement M
 solve-spec =
     tie.close
     (tie.spec
-    mul-requires
-    add-requires
-    mul-requires-2
-    add-requires-2
-    mul-requires-3
-    sub-requires
-    mul-requires-4
-    add-requires-3
-    div-requires
-    scale-requires
-    div-requires-2
-    norm-sq-requires
-    clamp-requires
-    norm-sq-requires-2
-    clamp-requires-2
-    arg-requires
+    (λ c κs. search needs)
+    (λ c κs. search needs)
+    (λ c κs. search needs)
+    (λ c κs. search needs)
+    (λ c κs. search needs)
+    (λ c κs. search needs)
+    (λ c κs. search needs)
+    (λ c κs. search needs)
+    (λ c κs. search needs)
+    (λ c κs. search needs)
+    (λ c κs. search needs)
+    (λ c κs. search needs)
+    (λ c κs. search needs)
+    (λ c κs. search needs)
+    (λ c κs. search needs)
+    (λ c κs. search needs)
     returns)

@@ -16,24 +16,9 @@ parts : (k : Stack) (layer : ThinFilmLayer) (m n : Matrix) (s p : Product) → m
 unfolding step
 parts k layer m n s p h1 h2 h3 h4 = simp (h4, h3, h2, h1)
 
-terms-of-requires : tie.Need-terms-of-requires
-terms-of-requires c κs = search needs
-
-characteristic-requires : tie.Need-characteristic-requires
-characteristic-requires c κs = search needs
-
-times-requires : tie.Need-times-requires
-times-requires c κs = search needs
-
-characteristic-requires-2 : tie.Need-characteristic-requires-2
-characteristic-requires-2 c κs = search needs
-
-times-requires-2 : tie.Need-times-requires-2
-times-requires-2 c κs = search needs
-
 returns : tie.Need-returns
 returns c =
     parts _ _ _ _ _ _ (c .before .before .before .characteristic .ensures ∙ s-is _ _ _ _ (c .before .before .before .before .before .before .before .before .before .terms-of .ensures)) (c .before .before .times .ensures) (c .before .characteristic2 .ensures ∙ p-is _ _ _ _ (c .before .before .before .before .before .before .before .before .before .terms-of .ensures)) (c .times2 .ensures)
 
 pub step-spec : {M : Type 1} → statement M
-step-spec = tie.close (tie.spec terms-of-requires characteristic-requires times-requires characteristic-requires-2 times-requires-2 returns)
+step-spec = tie.close (tie.spec (λ c κs. search needs) (λ c κs. search needs) (λ c κs. search needs) (λ c κs. search needs) (λ c κs. search needs) returns)

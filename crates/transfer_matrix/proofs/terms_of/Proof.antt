@@ -21,26 +21,8 @@ parts : (snell wavelength : Float) (layer : ThinFilmLayer) (n z e f d : Complex)
 unfolding terms-of delta index factor
 parts snell wavelength layer n z e f d q n-is z-is e-is f-is d-is q-is = simp (q-is, d-is, f-is, e-is, z-is, n-is)
 
-new-requires : tie.Need-new-requires
-new-requires c κs = search needs
-
-cos-theta-requires : tie.Need-cos-theta-requires
-cos-theta-requires c κs = search needs
-
-mul-requires : tie.Need-mul-requires
-mul-requires c κs = search needs
-
-div-requires : tie.Need-div-requires
-div-requires c κs = search needs
-
-scale-requires : tie.Need-scale-requires
-scale-requires c κs = search needs
-
-phase-of-requires : tie.Need-phase-of-requires
-phase-of-requires c κs = search needs
-
 returns : tie.Need-returns
 returns c = parts _ _ _ _ _ _ _ _ _ (c .before .before .before .before .before .before .new .ensures) (c .before .before .before .before .before .cos-theta .ensures) (c .before .before .before .before .mul .ensures) (c .before .before .before .div .ensures) (c .before .scale .ensures) (c .phase-of .ensures)
 
 pub terms-of-spec : {M : Type 1} → statement M
-terms-of-spec = tie.close (tie.spec new-requires cos-theta-requires mul-requires div-requires scale-requires phase-of-requires returns)
+terms-of-spec = tie.close (tie.spec (λ c κs. search needs) (λ c κs. search needs) (λ c κs. search needs) (λ c κs. search needs) (λ c κs. search needs) (λ c κs. search needs) returns)

@@ -5,15 +5,9 @@ use Rattle.trig.proofs.Constants.{minus-one-is}
 use Rattle.trig.proofs.cos_at.Statement.{statement}
 use Rattle.trig.proofs.cos_at.Tie as tie
 
-cos-series-requires : tie.Need-cos-series-requires
-cos-series-requires c κs = search needs
-
-clamp-requires : tie.Need-clamp-requires
-clamp-requires c κs = search needs
-
 returns : tie.Need-returns
 unfolding cos-at
 returns c = simp (c .clamp .ensures, c .before .cos-series .ensures, minus-one-is)
 
 pub cos-at-spec : {M : Type 1} → statement M
-cos-at-spec = tie.close (tie.spec cos-series-requires clamp-requires returns)
+cos-at-spec = tie.close (tie.spec (λ c κs. search needs) (λ c κs. search needs) returns)

@@ -4,12 +4,6 @@ use Rattle.trig.specs.Trig.{cos-of}
 use Rattle.trig.proofs.cos_of.Statement.{statement}
 use Rattle.trig.proofs.cos_of.Tie as tie
 
-cos-at-requires : tie.Need-cos-at-requires
-cos-at-requires c κs = search needs
-
-cos-at-requires-2 : tie.Need-cos-at-requires-2
-cos-at-requires-2 c κs = search needs
-
 returns : tie.Need-returns
 unfolding cos-of
 returns c = simp (c .before .if1 .taken, c .cos-at .ensures)
@@ -19,4 +13,4 @@ unfolding cos-of
 returns-2 c = simp (c .before .if1 .left, c .cos-at2 .ensures)
 
 pub cos-of-spec : {M : Type 1} → statement M
-cos-of-spec = tie.close (tie.spec cos-at-requires cos-at-requires-2 returns returns-2)
+cos-of-spec = tie.close (tie.spec (λ c κs. search needs) (λ c κs. search needs) returns returns-2)

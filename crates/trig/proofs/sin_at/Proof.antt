@@ -5,15 +5,9 @@ use Rattle.trig.proofs.Constants.{minus-one-is}
 use Rattle.trig.proofs.sin_at.Statement.{statement}
 use Rattle.trig.proofs.sin_at.Tie as tie
 
-sin-series-requires : tie.Need-sin-series-requires
-sin-series-requires c κs = search needs
-
-clamp-requires : tie.Need-clamp-requires
-clamp-requires c κs = search needs
-
 returns : tie.Need-returns
 unfolding sin-at
 returns c = simp (c .clamp .ensures, c .before .sin-series .ensures, minus-one-is)
 
 pub sin-at-spec : {M : Type 1} → statement M
-sin-at-spec = tie.close (tie.spec sin-series-requires clamp-requires returns)
+sin-at-spec = tie.close (tie.spec (λ c κs. search needs) (λ c κs. search needs) returns)

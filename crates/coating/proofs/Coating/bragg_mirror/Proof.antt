@@ -52,38 +52,14 @@ Inv-loop n-high n-low pairs design-wavelength-nm count items₀ i₀ items i = (
 abbrev μ-loop : tie.MeasureT-loop
 μ-loop n-high n-low pairs design-wavelength-nm count items₀ i₀ items i = count - i
 
-too-many-requires : tie.Need-too-many-requires Inv-loop μ-loop
-too-many-requires c κs = search needs
-
 returns : tie.Need-returns Inv-loop μ-loop
 returns c = c .too-many .ensures ∙ simp (lt-leb _ _ (c .before .if1 .taken))
-
-mul-count : tie.Need-mul-count Inv-loop μ-loop
-mul-count c = search needs
-
-add-count : tie.Need-add-count Inv-loop μ-loop
-add-count c = search needs
-
-no-layers-requires : tie.Need-no-layers-requires Inv-loop μ-loop
-no-layers-requires c κs = search needs
 
 loop-holds : tie.Need-loop-holds Inv-loop μ-loop
 loop-holds c = (search needs, refl)
 
-bragg-requires : tie.Need-bragg-requires Inv-loop μ-loop
-bragg-requires c κs = search needs
-
-mul-items : tie.Need-mul-items Inv-loop μ-loop
-mul-items c = search needs
-
 array-set-from-items : tie.Need-array-set-from-items Inv-loop μ-loop
 array-set-from-items c = omega arith
-
-add-i : tie.Need-add-i Inv-loop μ-loop
-add-i c = search needs
-
-loop-less : tie.Need-loop-less Inv-loop μ-loop
-loop-less c = search needs
 
 loop-again : tie.Need-loop-again Inv-loop μ-loop
 loop-again c = (search needs, turn _ _ _ _ _ _ _ _ (c .before .before .before .no-layers .ensures) (omega arith) (c .before .loop-test .taken) (c .before .before .loop .inv .1) (c .bragg .ensures))
@@ -97,16 +73,16 @@ bragg-mirror-spec =
     (tie.spec
     Inv-loop
     μ-loop
-    too-many-requires
+    (λ c κs. search needs)
     returns
-    mul-count
-    add-count
-    no-layers-requires
+    (λ c. search needs)
+    (λ c. search needs)
+    (λ c κs. search needs)
     loop-holds
-    bragg-requires
-    mul-items
+    (λ c κs. search needs)
+    (λ c. search needs)
     array-set-from-items
-    add-i
-    loop-less
+    (λ c. search needs)
+    (λ c. search needs)
     loop-again
     returns-2)

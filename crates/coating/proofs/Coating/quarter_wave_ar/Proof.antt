@@ -5,19 +5,10 @@ use borrow.Author.Needs.{needs}
 use Rattle.coating.proofs.Coating.quarter_wave_ar.Statement.{statement}
 use Rattle.coating.proofs.Coating.quarter_wave_ar.Tie as tie
 
-sqrt-requires : tie.Need-sqrt-requires
-sqrt-requires c κs = search needs
-
-quarter-wave-requires : tie.Need-quarter-wave-requires
-quarter-wave-requires c κs = search needs
-
-single-requires : tie.Need-single-requires
-single-requires c κs = search needs
-
 returns : tie.Need-returns
 unfolding quarter-wave-layers
 returns c = c .single .ensures ∙ simp (c .before .quarter-wave .ensures, c .before .before .sqrt .ensures)
 
 pub quarter-wave-ar-spec : {M : Type 1} → statement M
 quarter-wave-ar-spec =
-    tie.close (tie.spec sqrt-requires quarter-wave-requires single-requires returns)
+    tie.close (tie.spec (λ c κs. search needs) (λ c κs. search needs) (λ c κs. search needs) returns)

@@ -4,12 +4,9 @@ use borrow.Author.Needs.{needs}
 use Rattle.complex.proofs.Complex.arg.Statement.{statement}
 use Rattle.complex.proofs.Complex.arg.Tie as tie
 
-atan2-requires : tie.Need-atan2-requires
-atan2-requires c κs = search needs
-
 returns : tie.Need-returns
 unfolding arg
 returns c = cc
 
 pub arg-spec : {M : Type 1} → statement M
-arg-spec = tie.close (tie.spec atan2-requires returns)
+arg-spec = tie.close (tie.spec (λ c κs. search needs) returns)

@@ -17,9 +17,6 @@ large : (z w : Complex) → lt (norm-sq w) tiny ≡ false → quotient z w (norm
 unfolding div
 large z w e = simp e
 
-zero-requires : tie.Need-zero-requires
-zero-requires c κs = search needs
-
 returns : tie.Need-returns
 unfolding norm-sq
 returns c = c .zero .ensures ∙ small _ _ (c .before .if1 .taken)
@@ -29,4 +26,4 @@ unfolding norm-sq quotient
 returns-2 c = large _ _ (c .before .before .before .before .before .before .before .before .if1 .left)
 
 pub div-spec : {M : Type 1} → statement M
-div-spec = tie.close (tie.spec zero-requires returns returns-2)
+div-spec = tie.close (tie.spec (λ c κs. search needs) returns returns-2)

@@ -15,14 +15,8 @@ parts : (z : Complex) (e : Float) (y : SinCos) → e ≡ Exp.exp (z .re) → y �
 unfolding exp
 parts z e y p q = cc
 
-exp-requires : tie.Need-exp-requires
-exp-requires c κs = search needs
-
-sin-cos-requires : tie.Need-sin-cos-requires
-sin-cos-requires c κs = search needs
-
 returns : tie.Need-returns
 returns c = parts _ _ _ (c .before .before .before .exp .ensures) (c .before .before .sin-cos .ensures)
 
 pub exp-spec : {M : Type 1} → statement M
-exp-spec = tie.close (tie.spec exp-requires sin-cos-requires returns)
+exp-spec = tie.close (tie.spec (λ c κs. search needs) (λ c κs. search needs) returns)

@@ -4,15 +4,9 @@ use borrow.Author.Needs.{needs}
 use Rattle.complex.proofs.Complex.norm.Statement.{statement}
 use Rattle.complex.proofs.Complex.norm.Tie as tie
 
-norm-sq-requires : tie.Need-norm-sq-requires
-norm-sq-requires c κs = search needs
-
-sqrt-requires : tie.Need-sqrt-requires
-sqrt-requires c κs = search needs
-
 returns : tie.Need-returns
 unfolding norm
 returns c = cc
 
 pub norm-spec : {M : Type 1} → statement M
-norm-spec = tie.close (tie.spec norm-sq-requires sqrt-requires returns)
+norm-spec = tie.close (tie.spec (λ c κs. search needs) (λ c κs. search needs) returns)

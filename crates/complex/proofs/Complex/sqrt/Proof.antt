@@ -21,23 +21,11 @@ module _ (z : Complex) (r u v : Float) (r-is : r ≡ norm z) (u-is : u ≡ half-
   unfolding sqrt
   lower e = simp (e, u-is, v-is, r-is)
 
-half-root-requires : tie.Need-half-root-requires
-half-root-requires c κs = search needs
-
 returns : tie.Need-returns
 returns c =
     let g = c .before .before .before .before .before .before .before .before .good in
     let held : T (fits binary64 (c .before .before .before .before .before .before .before .before .args .self .re)) = subst T (sym (g .0 .1 .1 .0 .1)) tt in
     ap (λ (x : Float). record { re = x; im = zero-f }) (c .half-root .ensures) ∙ root-is _ held (c .before .before .before .before .before .before .if1 .taken) (c .before .before .before .before .if2 .taken) (c .before .before .if3 .taken)
-
-norm-requires : tie.Need-norm-requires
-norm-requires c κs = search needs
-
-half-root-requires-2 : tie.Need-half-root-requires-2
-half-root-requires-2 c κs = search needs
-
-half-root-requires-3 : tie.Need-half-root-requires-3
-half-root-requires-3 c κs = search needs
 
 returns-2 : tie.Need-returns-2
 returns-2 c = upper _ _ _ _ (c .before .before .before .before .before .before .norm .ensures) (c .before .before .before .before .half-root2 .ensures) (c .before .before .half-root3 .ensures) (c .if4 .taken)
@@ -49,10 +37,10 @@ pub sqrt-spec : {M : Type 1} → statement M
 sqrt-spec =
     tie.close
     (tie.spec
-    half-root-requires
+    (λ c κs. search needs)
     returns
-    norm-requires
-    half-root-requires-2
-    half-root-requires-3
+    (λ c κs. search needs)
+    (λ c κs. search needs)
+    (λ c κs. search needs)
     returns-2
     returns-3)

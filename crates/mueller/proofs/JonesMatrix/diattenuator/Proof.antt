@@ -4,12 +4,9 @@ use borrow.Author.Needs.{needs}
 use Rattle.mueller.proofs.JonesMatrix.diattenuator.Statement.{statement}
 use Rattle.mueller.proofs.JonesMatrix.diattenuator.Tie as tie
 
-zero-requires : tie.Need-zero-requires
-zero-requires c κs = search needs
-
 returns : tie.Need-returns
 unfolding diattenuator
 returns c = simp (c .zero .ensures)
 
 pub diattenuator-spec : {M : Type 1} → statement M
-diattenuator-spec = tie.close (tie.spec zero-requires returns)
+diattenuator-spec = tie.close (tie.spec (λ c κs. search needs) returns)

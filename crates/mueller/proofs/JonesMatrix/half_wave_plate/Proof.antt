@@ -4,12 +4,9 @@ use borrow.Author.Needs.{needs}
 use Rattle.mueller.proofs.JonesMatrix.half_wave_plate.Statement.{statement}
 use Rattle.mueller.proofs.JonesMatrix.half_wave_plate.Tie as tie
 
-retarder-requires : tie.Need-retarder-requires
-retarder-requires c κs = search needs
-
 returns : tie.Need-returns
 unfolding half-wave-plate
 returns c = simp (c .retarder .ensures)
 
 pub half-wave-plate-spec : {M : Type 1} → statement M
-half-wave-plate-spec = tie.close (tie.spec retarder-requires returns)
+half-wave-plate-spec = tie.close (tie.spec (λ c κs. search needs) returns)

@@ -4,15 +4,9 @@ use borrow.Author.Needs.{needs}
 use Rattle.mueller.proofs.JonesMatrix.identity.Statement.{statement}
 use Rattle.mueller.proofs.JonesMatrix.identity.Tie as tie
 
-real-requires : tie.Need-real-requires
-real-requires c κs = search needs
-
-zero-requires : tie.Need-zero-requires
-zero-requires c κs = search needs
-
 returns : tie.Need-returns
 unfolding identity
 returns c = simp (c .zero .ensures, c .before .real .ensures)
 
 pub identity-spec : {M : Type 1} → statement M
-identity-spec = tie.close (tie.spec real-requires zero-requires returns)
+identity-spec = tie.close (tie.spec (λ c κs. search needs) (λ c κs. search needs) returns)

@@ -4,12 +4,9 @@ use borrow.Author.Needs.{needs}
 use Rattle.mueller.proofs.JonesMatrix.quarter_wave_plate.Statement.{statement}
 use Rattle.mueller.proofs.JonesMatrix.quarter_wave_plate.Tie as tie
 
-retarder-requires : tie.Need-retarder-requires
-retarder-requires c κs = search needs
-
 returns : tie.Need-returns
 unfolding quarter-wave-plate
 returns c = simp (c .retarder .ensures)
 
 pub quarter-wave-plate-spec : {M : Type 1} → statement M
-quarter-wave-plate-spec = tie.close (tie.spec retarder-requires returns)
+quarter-wave-plate-spec = tie.close (tie.spec (λ c κs. search needs) returns)

@@ -10,49 +10,19 @@ Inv-loop a from items₀ i₀ items i = i ≤ 72
 abbrev μ-loop : tie.MeasureT-loop
 μ-loop a from items₀ i₀ items i = 72 - i
 
-loop-holds : tie.Need-loop-holds Inv-loop μ-loop
-loop-holds c = search needs
-
-mul-layer-at : tie.Need-mul-layer-at Inv-loop μ-loop
-mul-layer-at c = search needs
-
-add-layer-at : tie.Need-add-layer-at Inv-loop μ-loop
-add-layer-at c = search needs
-
-layer-at-requires : tie.Need-layer-at-requires Inv-loop μ-loop
-layer-at-requires c κs = search needs
-
-mul-items : tie.Need-mul-items Inv-loop μ-loop
-mul-items c = search needs
-
-array-set-from-items : tie.Need-array-set-from-items Inv-loop μ-loop
-array-set-from-items c = search needs
-
-add-i : tie.Need-add-i Inv-loop μ-loop
-add-i c = search needs
-
-loop-less : tie.Need-loop-less Inv-loop μ-loop
-loop-less c = search needs
-
-loop-again : tie.Need-loop-again Inv-loop μ-loop
-loop-again c = search needs
-
-returns : tie.Need-returns Inv-loop μ-loop
-returns c = search needs
-
 pub items-at-spec : {M : Type 1} → statement M
 items-at-spec =
     tie.close
     (tie.spec
     Inv-loop
     μ-loop
-    loop-holds
-    mul-layer-at
-    add-layer-at
-    layer-at-requires
-    mul-items
-    array-set-from-items
-    add-i
-    loop-less
-    loop-again
-    returns)
+    (λ c. search needs)
+    (λ c. search needs)
+    (λ c. search needs)
+    (λ c κs. search needs)
+    (λ c. search needs)
+    (λ c. search needs)
+    (λ c. search needs)
+    (λ c. search needs)
+    (λ c. search needs)
+    (λ c. search needs))

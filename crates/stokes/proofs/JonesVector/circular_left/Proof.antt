@@ -4,18 +4,9 @@ use borrow.Author.Needs.{needs}
 use Rattle.stokes.proofs.JonesVector.circular_left.Statement.{statement}
 use Rattle.stokes.proofs.JonesVector.circular_left.Tie as tie
 
-real-requires : tie.Need-real-requires
-real-requires c κs = search needs
-
-new-requires : tie.Need-new-requires
-new-requires c κs = search needs
-
-new-requires-2 : tie.Need-new-requires-2
-new-requires-2 c κs = search needs
-
 returns : tie.Need-returns
 unfolding circular-left
 returns c = simp (c .new2 .ensures, c .before .new .ensures, c .before .before .real .ensures)
 
 pub circular-left-spec : {M : Type 1} → statement M
-circular-left-spec = tie.close (tie.spec real-requires new-requires new-requires-2 returns)
+circular-left-spec = tie.close (tie.spec (λ c κs. search needs) (λ c κs. search needs) (λ c κs. search needs) returns)

@@ -5,21 +5,9 @@ use borrow.Author.Needs.{needs}
 use Rattle.stokes.proofs.JonesVector.normalize.Statement.{statement}
 use Rattle.stokes.proofs.JonesVector.normalize.Tie as tie
 
-intensity-requires : tie.Need-intensity-requires
-intensity-requires c κs = search needs
-
 returns : tie.Need-returns
 unfolding normalize
 returns c = simp (sym (c .before .intensity .ensures), c .if1 .taken)
-
-sqrt-requires : tie.Need-sqrt-requires
-sqrt-requires c κs = search needs
-
-scale-requires : tie.Need-scale-requires
-scale-requires c κs = search needs
-
-scale-requires-2 : tie.Need-scale-requires-2
-scale-requires-2 c κs = search needs
 
 returns-2 : tie.Need-returns-2
 unfolding normalize
@@ -28,4 +16,4 @@ returns-2 c = simp (c .scale2 .ensures, c .before .scale .ensures, c .before .be
 pub normalize-spec : {M : Type 1} → statement M
 normalize-spec =
     tie.close
-    (tie.spec intensity-requires returns sqrt-requires scale-requires scale-requires-2 returns-2)
+    (tie.spec (λ c κs. search needs) returns (λ c κs. search needs) (λ c κs. search needs) (λ c κs. search needs) returns-2)

@@ -5,15 +5,9 @@ use borrow.Author.Needs.{needs}
 use Rattle.stokes.proofs.JonesVector.to_stokes.Statement.{statement}
 use Rattle.stokes.proofs.JonesVector.to_stokes.Tie as tie
 
-norm-sq-requires : tie.Need-norm-sq-requires
-norm-sq-requires c κs = search needs
-
-norm-sq-requires-2 : tie.Need-norm-sq-requires-2
-norm-sq-requires-2 c κs = search needs
-
 returns : tie.Need-returns
 unfolding to-stokes norm-sq
 returns c = simp (c .before .before .before .before .norm-sq2 .ensures, c .before .before .before .before .before .norm-sq .ensures)
 
 pub to-stokes-spec : {M : Type 1} → statement M
-to-stokes-spec = tie.close (tie.spec norm-sq-requires norm-sq-requires-2 returns)
+to-stokes-spec = tie.close (tie.spec (λ c κs. search needs) (λ c κs. search needs) returns)

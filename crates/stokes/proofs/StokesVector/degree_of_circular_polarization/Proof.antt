@@ -10,16 +10,10 @@ returns : tie.Need-returns
 unfolding guarded degree-of-circular-polarization
 returns c = simp (c .if1 .taken)
 
-abs-requires : tie.Need-abs-requires
-abs-requires c κs = search needs
-
-clamp-requires : tie.Need-clamp-requires
-clamp-requires c κs = search needs
-
 returns-2 : tie.Need-returns-2
 unfolding guarded degree-of-circular-polarization
 returns-2 c = simp (c .clamp .ensures, c .before .before .abs .ensures, c .before .before .before .if1 .left)
 
 pub degree-of-circular-polarization-spec : {M : Type 1} → statement M
 degree-of-circular-polarization-spec =
-    tie.close (tie.spec returns abs-requires clamp-requires returns-2)
+    tie.close (tie.spec returns (λ c κs. search needs) (λ c κs. search needs) returns-2)

@@ -10,16 +10,10 @@ returns : tie.Need-returns
 unfolding guarded degree-of-linear-polarization
 returns c = simp (c .if1 .taken)
 
-sqrt-requires : tie.Need-sqrt-requires
-sqrt-requires c κs = search needs
-
-clamp-requires : tie.Need-clamp-requires
-clamp-requires c κs = search needs
-
 returns-2 : tie.Need-returns-2
 unfolding guarded degree-of-linear-polarization
 returns-2 c = simp (c .clamp .ensures, c .before .before .sqrt .ensures, c .before .before .before .before .before .if1 .left)
 
 pub degree-of-linear-polarization-spec : {M : Type 1} → statement M
 degree-of-linear-polarization-spec =
-    tie.close (tie.spec returns sqrt-requires clamp-requires returns-2)
+    tie.close (tie.spec returns (λ c κs. search needs) (λ c κs. search needs) returns-2)

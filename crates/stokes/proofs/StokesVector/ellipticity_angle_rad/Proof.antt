@@ -8,15 +8,9 @@ returns : tie.Need-returns
 unfolding guarded ellipticity-angle-rad
 returns c = simp (c .if1 .taken)
 
-clamp-requires : tie.Need-clamp-requires
-clamp-requires c κs = search needs
-
-asin-requires : tie.Need-asin-requires
-asin-requires c κs = search needs
-
 returns-2 : tie.Need-returns-2
 unfolding guarded ellipticity-angle-rad
 returns-2 c = simp (c .asin .ensures, c .before .clamp .ensures, c .before .before .before .if1 .left)
 
 pub ellipticity-angle-rad-spec : {M : Type 1} → statement M
-ellipticity-angle-rad-spec = tie.close (tie.spec returns clamp-requires asin-requires returns-2)
+ellipticity-angle-rad-spec = tie.close (tie.spec returns (λ c κs. search needs) (λ c κs. search needs) returns-2)

@@ -4,12 +4,9 @@ use borrow.Author.Needs.{needs}
 use Rattle.stokes.proofs.StokesVector.orientation_angle_rad.Statement.{statement}
 use Rattle.stokes.proofs.StokesVector.orientation_angle_rad.Tie as tie
 
-atan2-requires : tie.Need-atan2-requires
-atan2-requires c κs = search needs
-
 returns : tie.Need-returns
 unfolding orientation-angle-rad
 returns c = simp (c .atan2 .ensures)
 
 pub orientation-angle-rad-spec : {M : Type 1} → statement M
-orientation-angle-rad-spec = tie.close (tie.spec atan2-requires returns)
+orientation-angle-rad-spec = tie.close (tie.spec (λ c κs. search needs) returns)

@@ -4,12 +4,9 @@ use borrow.Author.Needs.{needs}
 use Rattle.stokes.proofs.StokesVector.unpolarized.Statement.{statement}
 use Rattle.stokes.proofs.StokesVector.unpolarized.Tie as tie
 
-max-requires : tie.Need-max-requires
-max-requires c κs = search needs
-
 returns : tie.Need-returns
 unfolding unpolarized
 returns c = simp (c .max .ensures)
 
 pub unpolarized-spec : {M : Type 1} → statement M
-unpolarized-spec = tie.close (tie.spec max-requires returns)
+unpolarized-spec = tie.close (tie.spec (λ c κs. search needs) returns)

@@ -7,15 +7,9 @@ use borrow.Author.Needs.{needs}
 use Rattle.thin_film.proofs.SurfaceCoating.evaluate_without_layers.Statement.{statement}
 use Rattle.thin_film.proofs.SurfaceCoating.evaluate_without_layers.Tie as tie
 
-prepare-surface-requires : tie.Need-prepare-surface-requires
-prepare-surface-requires c κs = search needs
-
-conclude-requires : tie.Need-conclude-requires
-conclude-requires c κs = search needs
-
 returns : tie.Need-returns
 returns c = ap outcome (c .conclude .ensures ∙ ap conclude (sym (none-lent _))) ∙ c .before .prepare-surface .ensures [] refl
 
 pub evaluate-without-layers-spec : {M : Type 1} → statement M
 evaluate-without-layers-spec =
-    tie.close (tie.spec prepare-surface-requires conclude-requires returns)
+    tie.close (tie.spec (λ c κs. search needs) (λ c κs. search needs) returns)

@@ -5,30 +5,6 @@ use borrow.Author.Needs.{needs}
 use Rattle.thin_film.proofs.presets.custom_coating.Statement.{statement}
 use Rattle.thin_film.proofs.presets.custom_coating.Tie as tie
 
-enum-told : tie.Need-enum-told
-enum-told c = search needs
-
-too-many-requires : tie.Need-too-many-requires
-too-many-requires c κs = search needs
-
-enum-told-2 : tie.Need-enum-told-2
-enum-told-2 c = search needs
-
-without-layers-requires : tie.Need-without-layers-requires
-without-layers-requires c κs = search needs
-
-enum-told-3 : tie.Need-enum-told-3
-enum-told-3 c = search needs
-
-without-layers-requires-2 : tie.Need-without-layers-requires-2
-without-layers-requires-2 c κs = search needs
-
-enum-told-4 : tie.Need-enum-told-4
-enum-told-4 c = search needs
-
-without-layers-requires-3 : tie.Need-without-layers-requires-3
-without-layers-requires-3 c κs = search needs
-
 returns : tie.Need-returns
 returns c = simp (c .before .before .enum-told .given .1, le-leb _ _ (c .if1 .taken))
 
@@ -48,14 +24,14 @@ pub custom-coating-spec : {M : Type 1} → statement M
 custom-coating-spec =
     tie.close
     (tie.spec
-    enum-told
-    too-many-requires
-    enum-told-2
-    without-layers-requires
-    enum-told-3
-    without-layers-requires-2
-    enum-told-4
-    without-layers-requires-3
+    (λ c. search needs)
+    (λ c κs. search needs)
+    (λ c. search needs)
+    (λ c κs. search needs)
+    (λ c. search needs)
+    (λ c κs. search needs)
+    (λ c. search needs)
+    (λ c κs. search needs)
     returns
     returns-2
     returns-3

@@ -20,21 +20,6 @@ none C.IdealMirror = refl
 none C.IdealBeamsplitter = refl
 none C.Multilayer = refl
 
-enum-told : tie.Need-enum-told
-enum-told c = search needs
-
-enum-told-2 : tie.Need-enum-told-2
-enum-told-2 c = search needs
-
-enum-told-3 : tie.Need-enum-told-3
-enum-told-3 c = search needs
-
-enum-told-4 : tie.Need-enum-told-4
-enum-told-4 c = search needs
-
-enum-told-5 : tie.Need-enum-told-5
-enum-told-5 c = search needs
-
 returns : tie.Need-returns
 unfolding layers-of mgf2-layers broadband-layers mirror-layers bragg-layers
 returns c = simp (c .enum-told .given .1)
@@ -58,11 +43,11 @@ pub preset-count-spec : {M : Type 1} → statement M
 preset-count-spec =
     tie.close
     (tie.spec
-    enum-told
-    enum-told-2
-    enum-told-3
-    enum-told-4
-    enum-told-5
+    (λ c. search needs)
+    (λ c. search needs)
+    (λ c. search needs)
+    (λ c. search needs)
+    (λ c. search needs)
     returns
     returns-2
     returns-3

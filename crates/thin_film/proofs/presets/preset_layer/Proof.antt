@@ -48,21 +48,6 @@ others (S.Custom C.IdealMirror) i r k f h = absurd (not-suc-le-zero h)
 others (S.Custom C.IdealBeamsplitter) i r k f h = absurd (not-suc-le-zero h)
 others (S.Custom C.Multilayer) i r k f h = absurd (not-suc-le-zero h)
 
-enum-known-coating : tie.Need-enum-known-coating
-enum-known-coating c = search needs
-
-quarter-wave-requires : tie.Need-quarter-wave-requires
-quarter-wave-requires c κs = search needs
-
-enum-told : tie.Need-enum-told
-enum-told c = search needs
-
-bragg-requires : tie.Need-bragg-requires
-bragg-requires c κs = search needs
-
-broadband-requires : tie.Need-broadband-requires
-broadband-requires c κs = search needs
-
 returns : tie.Need-returns
 returns c = mgf2 _ _ _ _ (c .before .before .coating .given .1) (c .quarter-wave .ensures)
 
@@ -76,11 +61,11 @@ pub preset-layer-spec : {M : Type 1} → statement M
 preset-layer-spec =
     tie.close
     (tie.spec
-    enum-known-coating
-    quarter-wave-requires
-    enum-told
-    bragg-requires
-    broadband-requires
+    (λ c. search needs)
+    (λ c κs. search needs)
+    (λ c. search needs)
+    (λ c κs. search needs)
+    (λ c κs. search needs)
     returns
     returns-2
     returns-3)

@@ -21,26 +21,8 @@ Inv-loop coating far n stack₀ i₀ stack i = (i ≤ n) × (steps stack (drop i
 abbrev μ-loop : tie.MeasureT-loop
 μ-loop coating far n stack₀ i₀ stack i = n - i
 
-preset-count-requires : tie.Need-preset-count-requires Inv-loop μ-loop
-preset-count-requires c κs = search needs
-
 loop-holds : tie.Need-loop-holds Inv-loop μ-loop
 loop-holds c = (search needs, refl)
-
-nth-index-requires : tie.Need-nth-index-requires Inv-loop μ-loop
-nth-index-requires c κs = search needs
-
-preset-layer-requires : tie.Need-preset-layer-requires Inv-loop μ-loop
-preset-layer-requires c κs = search needs
-
-step-requires : tie.Need-step-requires Inv-loop μ-loop
-step-requires c κs = search needs
-
-add-i : tie.Need-add-i Inv-loop μ-loop
-add-i c = search needs
-
-loop-less : tie.Need-loop-less Inv-loop μ-loop
-loop-less c = search needs
 
 loop-again : tie.Need-loop-again Inv-loop μ-loop
 loop-again c =
@@ -66,12 +48,12 @@ through-layers-spec =
     (tie.spec
     Inv-loop
     μ-loop
-    preset-count-requires
+    (λ c κs. search needs)
     loop-holds
-    nth-index-requires
-    preset-layer-requires
-    step-requires
-    add-i
-    loop-less
+    (λ c κs. search needs)
+    (λ c κs. search needs)
+    (λ c κs. search needs)
+    (λ c. search needs)
+    (λ c. search needs)
     loop-again
     returns)

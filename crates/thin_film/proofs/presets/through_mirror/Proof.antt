@@ -20,35 +20,8 @@ Inv-loop snell wavelength high low stack₀ i₀ stack i =
 abbrev μ-loop : tie.MeasureT-loop
 μ-loop snell wavelength high low stack₀ i₀ stack i = 7 - i
 
-quarter-wave-requires : tie.Need-quarter-wave-requires Inv-loop μ-loop
-quarter-wave-requires c κs = search needs
-
-film-of-requires : tie.Need-film-of-requires Inv-loop μ-loop
-film-of-requires c κs = search needs
-
-quarter-wave-requires-2 : tie.Need-quarter-wave-requires-2 Inv-loop μ-loop
-quarter-wave-requires-2 c κs = search needs
-
-film-of-requires-2 : tie.Need-film-of-requires-2 Inv-loop μ-loop
-film-of-requires-2 c κs = search needs
-
-join-requires : tie.Need-join-requires Inv-loop μ-loop
-join-requires c κs = search needs
-
 loop-holds : tie.Need-loop-holds Inv-loop μ-loop
 loop-holds c = (search needs, λ start films e. e)
-
-join-requires-2 : tie.Need-join-requires-2 Inv-loop μ-loop
-join-requires-2 c κs = search needs
-
-join-requires-3 : tie.Need-join-requires-3 Inv-loop μ-loop
-join-requires-3 c κs = search needs
-
-add-i : tie.Need-add-i Inv-loop μ-loop
-add-i c = search needs
-
-loop-less : tie.Need-loop-less Inv-loop μ-loop
-loop-less c = search needs
 
 loop-again : tie.Need-loop-again Inv-loop μ-loop
 loop-again c =
@@ -69,15 +42,15 @@ through-mirror-spec =
     (tie.spec
     Inv-loop
     μ-loop
-    quarter-wave-requires
-    film-of-requires
-    quarter-wave-requires-2
-    film-of-requires-2
-    join-requires
+    (λ c κs. search needs)
+    (λ c κs. search needs)
+    (λ c κs. search needs)
+    (λ c κs. search needs)
+    (λ c κs. search needs)
     loop-holds
-    join-requires-2
-    join-requires-3
-    add-i
-    loop-less
+    (λ c κs. search needs)
+    (λ c κs. search needs)
+    (λ c. search needs)
+    (λ c. search needs)
     loop-again
     returns)

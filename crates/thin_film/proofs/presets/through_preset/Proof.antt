@@ -17,15 +17,6 @@ mirror : (s : SurfaceCoating) (far : Bool) (start : Stack) → s ≡ S.HighRefle
 unfolding layers-of
 mirror s far start e = ap (steps start) (either-end far) ∙ ap (λ (z : SurfaceCoating). steps start (ordered far (layers-of z []))) (sym e)
 
-enum-told : tie.Need-enum-told
-enum-told c = search needs
-
-through-mirror-requires : tie.Need-through-mirror-requires
-through-mirror-requires c κs = search needs
-
-through-layers-requires : tie.Need-through-layers-requires
-through-layers-requires c κs = search needs
-
 returns : tie.Need-returns
 returns c = c .through-mirror .ensures ∙ mirror _ _ _ (c .before .enum-told .given .1)
 
@@ -34,4 +25,4 @@ returns-2 c = c .through-layers .ensures
 
 pub through-preset-spec : {M : Type 1} → statement M
 through-preset-spec =
-    tie.close (tie.spec enum-told through-mirror-requires through-layers-requires returns returns-2)
+    tie.close (tie.spec (λ c. search needs) (λ c κs. search needs) (λ c κs. search needs) returns returns-2)

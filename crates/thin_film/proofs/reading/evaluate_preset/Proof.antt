@@ -44,20 +44,8 @@ parts n-incident n-substrate angle wavelength far s k k′ r h1 h2 h3 h4 =
     ap answer (h4 ∙ ap finish (h3 ∙ ap (λ (z : Stack). steps z (ordered far (layers-of s []))) h2) ∙ evaluates n-incident n-substrate angle wavelength (ordered far (layers-of s [])))
     ∙ sym (solved n-incident n-substrate angle wavelength (ordered far (layers-of s [])) C.Multilayer refl h1 (rw as-long (few s)))
 
-valid-requires : tie.Need-valid-requires
-valid-requires c κs = search needs
-
 returns : tie.Need-returns
 returns c = sym (invalid _ _ _ _ _ _ (sym (c .before .valid .ensures) ∙ not-true _ (c .if1 .taken)))
-
-begin-requires : tie.Need-begin-requires
-begin-requires c κs = search needs
-
-through-preset-requires : tie.Need-through-preset-requires
-through-preset-requires c κs = search needs
-
-finish-requires : tie.Need-finish-requires
-finish-requires c κs = search needs
 
 returns-2 : tie.Need-returns-2
 returns-2 c = parts _ _ _ _ _ _ _ _ _ (sym (c .before .before .before .before .valid .ensures) ∙ not-false _ (c .before .before .before .if1 .left)) (c .before .before .begin .ensures) (c .before .through-preset .ensures) (c .finish .ensures)
@@ -66,9 +54,9 @@ pub evaluate-preset-spec : {M : Type 1} → statement M
 evaluate-preset-spec =
     tie.close
     (tie.spec
-    valid-requires
+    (λ c κs. search needs)
     returns
-    begin-requires
-    through-preset-requires
-    finish-requires
+    (λ c κs. search needs)
+    (λ c κs. search needs)
+    (λ c κs. search needs)
     returns-2)

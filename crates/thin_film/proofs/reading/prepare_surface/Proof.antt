@@ -47,24 +47,6 @@ module _ (n-incident n-substrate angle wavelength : Float) (layers : List ThinFi
   preset S.HighReflectanceMirror k = refl
   preset (S.Custom c) k = absurd (miss (1 ∷ 2 ∷ 3 ∷ []) 4 tt k)
 
-enum-told : tie.Need-enum-told
-enum-told c = search needs
-
-prepare-requires : tie.Need-prepare-requires
-prepare-requires c κs = search needs
-
-enum-known-coating : tie.Need-enum-known-coating
-enum-known-coating c = search needs
-
-prepare-requires-2 : tie.Need-prepare-requires-2
-prepare-requires-2 c κs = search needs
-
-evaluate-preset-requires : tie.Need-evaluate-preset-requires
-evaluate-preset-requires c κs = search needs
-
-settled-requires : tie.Need-settled-requires
-settled-requires c κs = search needs
-
 returns : tie.Need-returns
 returns c = λ layers h. prepared _ _ _ _ _ layers _ _ _ (c .prepare .ensures) h ∙ sym (ideal _ _ _ _ _ _ (c .before .enum-told .given .1))
 
@@ -78,12 +60,12 @@ pub prepare-surface-spec : {M : Type 1} → statement M
 prepare-surface-spec =
     tie.close
     (tie.spec
-    enum-told
-    prepare-requires
-    enum-known-coating
-    prepare-requires-2
-    evaluate-preset-requires
-    settled-requires
+    (λ c. search needs)
+    (λ c κs. search needs)
+    (λ c. search needs)
+    (λ c κs. search needs)
+    (λ c κs. search needs)
+    (λ c κs. search needs)
     returns
     returns-2
     returns-3)
