@@ -229,7 +229,7 @@ fn link_proved() {
     let Ok(directory) = env::var("DIHKELU_LIB") else {
         panic!("the feature `proved` needs DIHKELU_LIB, the directory of the static library");
     };
-    let names = env::var("DIHKELU_NAME").unwrap_or_else(|_| "scalar_exports,dihkelu".to_string());
+    let names = env::var("DIHKELU_NAME").unwrap_or_else(|_| "c_scalars,dihkelu".to_string());
     println!("cargo:rustc-link-search=native={directory}");
     for name in names.split(',') {
         let library = Path::new(&directory).join(format!("lib{name}.a"));

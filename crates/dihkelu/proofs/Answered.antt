@@ -7,15 +7,15 @@ use lib.Dec.{ltb}
 use lib.ListN.{length}
 use lib.Ieee.{Float}
 use Rattle.refusal.specs.Outcome.{Outcome, answer, refusal, refused, invalid-parameter}
-use Rattle.trig.specs.Trig.{sin, cos}
-use Rattle.transfer_matrix.specs.declared.ThinFilmLayer.{ThinFilmLayer}
+use Rattle.math_trig.specs.Trig.{sin, cos}
+use Rattle.thin_film_solver.specs.declared.ThinFilmLayer.{ThinFilmLayer}
 use Rattle.thin_film.specs.Evaluate.{evaluate-surface}
 use Rattle.polarization.specs.Surface.{indices-valid, bare, surface-fresnel-jones}
-use Rattle.limits.specs.declared.Surface as Value
+use Rattle.gate_limits.specs.declared.Surface as Value
 use Rattle.surface.specs.declared.Answers.{Answers}
-use Rattle.limits.specs.declared.Interface.{Interface}
-use Rattle.limits.specs.declared.Interface.the-variants.{Bare, Coated}
-use Rattle.limits.specs.Coating.{interface}
+use Rattle.gate_limits.specs.declared.Interface.{Interface}
+use Rattle.gate_limits.specs.declared.Interface.the-variants.{Bare, Coated}
+use Rattle.gate_limits.specs.Coating.{interface}
 use Rattle.surface.specs.Answers.{coated-answers, bare-answers, answers-of}
 use Rattle.sheet.specs.Sheet.{Sheet}
 use Rattle.sheet_values.specs.Nth.{nth}
@@ -23,7 +23,7 @@ use Rattle.sheet_values.specs.Values.{value, films, surface-value}
 use Rattle.gate.specs.Gate.{gated}
 use Rattle.sheet_surfaces.specs.declared.SurfaceReply.{SurfaceReply}
 use Rattle.sheet_surfaces.specs.Surfaces.{answers-to, surface-answers, given}
-use Rattle.flat_layers.proofs.Plain.{Plain, either, mapped, of-surface}
+use Rattle.c_layers.proofs.Plain.{Plain, either, mapped, of-surface}
 use Rattle.dihkelu.proofs.Returned.{Sound, plain-sound}
 use Rattle.dihkelu.proofs.Places.{gate-sound}
 

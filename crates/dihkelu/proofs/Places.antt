@@ -18,12 +18,12 @@ use Rattle.sheet.proofs.Scan.{left, never}
 use Rattle.sheet.proofs.Blocks.{Next, next-surface, next-layer, next-end, next, begins}
 use Rattle.sheet.proofs.Standing.{Found, is-surface, is-layer, is-end, cut-surface, cut-layer, cut-end, after-end, no-block, found-cases}
 use Rattle.sheet_values.specs.Values.{value}
-use Rattle.limits.specs.Limits.{snell-size}
+use Rattle.gate_limits.specs.Limits.{snell-size}
 use Rattle.gate.specs.Gate.{Test, layer-tests, surface-tests, tests, gated}
 use Rattle.gate.specs.Claim.{FirstOutside}
 use Rattle.gate.proofs.Blocks.{from}
 use Rattle.gate.proofs.Claim.{Case, short, broken, outside, inside, cases}
-use Rattle.call.specs.Call.{Apart}
+use Rattle.c_call.specs.Call.{Apart}
 use Rattle.dihkelu.proofs.Returned.{Sound, sound-apart}
 
 same : {A : Type 0} (p q : ℕ) → _≡_ {A = Result A} (fault p) (fault q) → p ≡ q

@@ -6,8 +6,8 @@ use native.Mathlib.Omega.{arith}
 use lib.Ieee.{Float}
 use Rattle.refusal.specs.declared.Refusal.{Refusal}
 use Rattle.refusal.specs.Outcome.{Outcome, answer, refusal, refused, map}
-use Rattle.flat_layers.proofs.Plain.{Plain}
-use Rattle.call.specs.Call.{Done, done, packed, Apart, Reply, written, answered}
+use Rattle.c_layers.proofs.Plain.{Plain}
+use Rattle.c_call.specs.Call.{Done, done, packed, Apart, Reply, written, answered}
 
 packs : (number place : ℕ) → place < 2 ^ 32 → packed number (place % 2 ^ 32) ≡ packed number place
 packs number place h = omega arith

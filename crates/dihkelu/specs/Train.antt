@@ -5,11 +5,11 @@ use lib.Dec.{eqb}
 use Rattle.refusal.specs.Outcome.{Outcome, answer, refusal}
 use Rattle.sheet.specs.Sheet.{Sheet}
 use Rattle.gate.specs.Gate.{surfaces-of}
-use Rattle.optical_train.specs.declared.State.{State}
-use Rattle.optical_train.specs.declared.Stepped.{Stepped}
-use Rattle.optical_train.specs.Train.{fresh, Ran}
-use Rattle.call.specs.Call.{Done, done, Reply, returned}
-use Rattle.call.specs.Layout.{both}
+use Rattle.train_steps.specs.declared.State.{State}
+use Rattle.train_steps.specs.declared.Stepped.{Stepped}
+use Rattle.train_steps.specs.Train.{fresh, Ran}
+use Rattle.c_call.specs.Call.{Done, done, Reply, returned}
+use Rattle.c_call.specs.Layout.{both}
 
 -- s, p
 abbrev pub state-layout : ℕ → State → Reply

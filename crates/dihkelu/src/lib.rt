@@ -4,15 +4,15 @@
 ghost use mathlib.Core.Path.{_≡_};
 ghost use Rattle.gate.specs.Gate as Gate;
 ghost use Rattle.gate.specs.Gate.{gated, gate};
-ghost use Rattle.flat_layers.specs.Evaluate.{evaluate};
-ghost use Rattle.call.specs.Call.{done, Apart, returned, answered};
-ghost use Rattle.call.specs.Layout.{evaluated, surface-answered};
-ghost use Rattle.optical_train.specs.Train.{step, run};
+ghost use Rattle.c_layers.specs.Evaluate.{evaluate};
+ghost use Rattle.c_call.specs.Call.{done, Apart, returned, answered};
+ghost use Rattle.c_call.specs.Layout.{evaluated, surface-answered};
+ghost use Rattle.train_steps.specs.Train.{step, run};
 ghost use Rattle.sheet_surfaces.specs.Surfaces.{surface-answers};
 ghost use Rattle.dihkelu.specs.Train.{start-layout, step-layout, step-outcome, run-done};
-use evaluation::Evaluation;
 use gate::Gated;
-use optical_train::State;
+use thin_film_layers::Evaluation;
+use train_steps::State;
 
 // ---- a coated surface
 
@@ -32,7 +32,7 @@ pub extern "C" fn dihkelu_evaluate(
 ) -> u64
     ensures { λ r. ⌜ done r (now (list .exit)) ≡ answered evaluated (evaluate code «design_wavelength_nm» «n_incident» «n_substrate» «angle_incident_rad» «wavelength_nm» (now (layers .entry))) (now (list .entry)) ⌝ }
 {
-    let evaluation = flat_layers::evaluate(
+    let evaluation = c_layers::evaluate(
         code,
         design_wavelength_nm,
         n_incident,
@@ -42,8 +42,8 @@ pub extern "C" fn dihkelu_evaluate(
         layers,
     );
     match evaluation {
-        Evaluation::Response(r) => call::put_response(r, list),
-        Evaluation::Refused(r) => call::packed(r),
+        Evaluation::Response(r) => c_call::put_response(r, list),
+        Evaluation::Refused(r) => c_call::packed(r),
     }
 }
 
@@ -56,7 +56,7 @@ fn number_of(g: Gated) -> u64
 {
     match g {
         Gated::Admitted(count) => count as u64,
-        Gated::Refused(r) => call::packed(r),
+        Gated::Refused(r) => c_call::packed(r),
     }
 }
 
@@ -75,13 +75,13 @@ pub extern "C" fn dihkelu_start(sheet: &[u8], list: &mut [f64]) -> u64
     ensures { λ r. ⌜ done r (now (list .exit)) ≡ answered start-layout (gated (now (sheet .entry))) (now (list .entry)) ⌝ }
 {
     match gate::gate(sheet) {
-        Gated::Admitted(count) => call::put_powers(
+        Gated::Admitted(count) => c_call::put_powers(
             count as u64,
             sheet::float_from(sheet, 4),
             sheet::float_from(sheet, 6),
             list,
         ),
-        Gated::Refused(r) => call::packed(r),
+        Gated::Refused(r) => c_call::packed(r),
     }
 }
 
@@ -97,7 +97,7 @@ pub extern "C" fn dihkelu_step(
 ) -> u64
     ensures { λ r. ⌜ done r (now (list .exit)) ≡ answered step-layout (step-outcome (step (now (sheet .entry)) (record { done = «surfaces_done»; s = s; p = p }))) (now (list .entry)) ⌝ }
 {
-    let stepped = optical_train::step(
+    let stepped = train_steps::step(
         sheet,
         State {
             done: surfaces_done,
@@ -107,10 +107,10 @@ pub extern "C" fn dihkelu_step(
     );
     let refusal = stepped.refusal;
     if refusal.number != 0 {
-        return call::packed(refusal);
+        return c_call::packed(refusal);
     }
     let state = stepped.state;
-    call::put_powers(state.done as u64, state.s, state.p, list)
+    c_call::put_powers(state.done as u64, state.s, state.p, list)
 }
 
 // A whole run: writes s, p after each surface and returns the count of surfaces; or a refusal: 4, 5,
@@ -119,7 +119,7 @@ pub extern "C" fn dihkelu_step(
 pub extern "C" fn dihkelu_run(sheet: &[u8], list: &mut [f64]) -> u64
     ensures { λ r. ⌜ done r (now (list .exit)) ≡ run-done (run (now (sheet .entry)) (now (list .entry))) ⌝ }
 {
-    number_of(optical_train::run(sheet, list))
+    number_of(train_steps::run(sheet, list))
 }
 
 // ---- a surface's answers
@@ -133,8 +133,8 @@ pub extern "C" fn dihkelu_answers(sheet: &[u8], surface: u32, list: &mut [f64]) 
     let reply = sheet_surfaces::surface_answers(sheet, surface);
     let refusal = reply.refusal;
     if refusal.number != 0 {
-        return call::packed(refusal);
+        return c_call::packed(refusal);
     }
     let answers = reply.answers;
-    call::put_answers(answers, list)
+    c_call::put_answers(answers, list)
 }

@@ -2,7 +2,7 @@
 use mathlib.Core.Path.{_≡_, refl}
 use lib.Ieee.{add, sub, mul, div, lt, le, ofBits}
 use Rattle.ieee.specs.Functions.{zero-f, one, abs, max, clamp, three, quarter}
-use Rattle.square_root.specs.Root.{squareRoot}
+use Rattle.math_root.specs.Root.{squareRoot}
 use Rattle.fresnel.specs.Fresnel.{sin2-t, cos-t, power, refracted, fresnel-dielectric, r-zero, schlick, schlick-approx}
 
 -- fresnel_dielectric(1, 1, 3) = (0.25, 0.25)

@@ -3,7 +3,7 @@ use mathlib.Core.Bool.{cond}
 use lib.Ieee.{Float, binary64, lt, le, ofBits}
 use Rattle.ieee.specs.Operators.{_⊕_, _⊖_, _⊗_, _⊘_}
 use Rattle.ieee.specs.Functions.{zero-f, one, half, abs, max, clamp, powi2, powi5}
-use Rattle.square_root.specs.Root.{sqrt}
+use Rattle.math_root.specs.Root.{sqrt}
 use Rattle.fresnel.specs.declared.Reflectances.{Reflectances}
 use Rattle.fresnel.specs.declared.Unpolarized.{Unpolarized}
 

@@ -27,7 +27,7 @@ fn sin2_t(cos_i: f64, n1: f64, n2: f64) -> f64
 fn cos_t(sin2_t: f64) -> f64
     ensures { λ r. ⌜ r ≡ cos-t «sin2_t» ⌝ }
 {
-    sqrt::sqrt(ieee::max(1.0 - sin2_t, 0.0))
+    math_sqrt::sqrt(ieee::max(1.0 - sin2_t, 0.0))
 }
 
 // The power of an amplitude num / den.

@@ -8,9 +8,9 @@ use native.Mathlib.Omega.{arith}
 use lib.ListN.{length}
 use lib.Ieee.{Float}
 use Rattle.refusal.specs.Outcome.{Outcome, answer, refusal, map}
-use Rattle.limits.specs.Limits.{beam-passes, snell-size, layer-within, surface-passes}
-use Rattle.transfer_matrix.specs.declared.ThinFilmLayer.{ThinFilmLayer}
-use Rattle.limits.specs.declared.Surface as Value
+use Rattle.gate_limits.specs.Limits.{beam-passes, snell-size, layer-within, surface-passes}
+use Rattle.thin_film_solver.specs.declared.ThinFilmLayer.{ThinFilmLayer}
+use Rattle.gate_limits.specs.declared.Surface as Value
 use Rattle.sheet.specs.Sheet.{Sheet}
 use Rattle.sheet.specs.Words.{word, count, kind, float}
 use Rattle.sheet.specs.Read.{Result, read, fault, Rest, layer-at, surface-at, decode}

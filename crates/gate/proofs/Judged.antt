@@ -10,7 +10,7 @@ use lib.Ieee.Bits.{is-true}
 use lib.Ieee.Fits.{and-l, and-r, and-i}
 use Rattle.ieee.proofs.Signs.{of-true}
 use Rattle.refusal.specs.Outcome.{Outcome, answer, refusal}
-use Rattle.limits.specs.Limits.{snell-size, layer-within, layers-within, surface-passes, passes}
+use Rattle.gate_limits.specs.Limits.{snell-size, layer-within, layers-within, surface-passes, passes}
 use Rattle.sheet.specs.Sheet.{SheetLayer, SheetSurface, Sheet, All}
 use Rattle.sheet_values.specs.Values.{value, film, films, surface-value}
 use Rattle.gate.specs.Gate.{Test, layer-tests, surface-tests, tests, judged}

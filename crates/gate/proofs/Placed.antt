@@ -6,7 +6,7 @@ use lib.ListN.{length}
 use lib.Ieee.{Float}
 use Rattle.sheet.specs.Sheet.{SheetLayer, SheetSurface, Sheet, layer-places, surface-places, places}
 use Rattle.sheet_values.specs.Values.{value}
-use Rattle.limits.specs.Limits.{snell-size}
+use Rattle.gate_limits.specs.Limits.{snell-size}
 use Rattle.gate.specs.Gate.{Test, layer-tests, surface-tests, tests}
 use Rattle.gate.specs.Claim.{tested}
 

@@ -7,7 +7,7 @@ use mathlib.Core.List.{List, [], _∷_, _++_, map}
 use Prim.Native.Nat.{ℕ}
 use lib.Dec.{T}
 use Rattle.refusal.specs.Outcome.{answer, refusal}
-use Rattle.limits.specs.Limits.{beam-passes, passes}
+use Rattle.gate_limits.specs.Limits.{beam-passes, passes}
 use Rattle.sheet.specs.Sheet.{SheetSurface, Sheet, All, WellFormed, encode, places}
 use Rattle.sheet.specs.Claim.{_⇔_, Bytes, length-fits, Fault}
 use Rattle.sheet_values.specs.Values.{value, films, surface-value}

@@ -6,7 +6,7 @@ use Prim.Native.Nat.{ℕ, _+_, _*_}
 use lib.ListN.{length}
 use lib.Ieee.{Float}
 use Rattle.refusal.specs.Outcome.{Outcome, answer, refusal, refused, map}
-use Rattle.limits.specs.Limits.{beam-passes, snell-size, layer-within, surface-passes}
+use Rattle.gate_limits.specs.Limits.{beam-passes, snell-size, layer-within, surface-passes}
 use Rattle.sheet.specs.Sheet.{SheetLayer, SheetSurface, Sheet}
 use Rattle.sheet.specs.Read.{Result, read, fault, decode}
 use Rattle.sheet.specs.Claim.{length-fits}

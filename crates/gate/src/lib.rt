@@ -35,7 +35,7 @@ fn limits(src: &[u8], count: u32) -> Gated
     requires { ⌜ surface-count (decode (now src)) ≡ read count ⌝ }
     ensures { λ r. ⌜ outcome r ≡ map surfaces-of (within-limits (decode (now (src .entry)))) ⌝ }
 {
-    if !limits::beam_passes(
+    if !gate_limits::beam_passes(
         sheet::float_from(src, 2),
         sheet::float_from(src, 4),
         sheet::float_from(src, 6),
@@ -48,14 +48,14 @@ fn limits(src: &[u8], count: u32) -> Gated
         let kind = sheet::word_from(src, at) / 0x1000_0000;
         if kind == 3 {
             let s = sheet_values::surface_at(src, at);
-            let judgement = limits::judge_surface(s);
+            let judgement = gate_limits::judge_surface(s);
             if !judgement.passes {
                 return outside(at);
             }
             snell = judgement.snell;
             at += 7;
         } else if kind == 4 {
-            if !limits::layer_within(snell, sheet_values::layer_at(src, at)) {
+            if !gate_limits::layer_within(snell, sheet_values::layer_at(src, at)) {
                 return outside(at);
             }
             at += 7;

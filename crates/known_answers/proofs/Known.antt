@@ -1,10 +1,10 @@
 -- The starred known answers, each computed in the crate that it lives in. Assumes nothing.
-use Rattle.square_root.proofs.Known.{sqrt-known}
-use Rattle.complex.proofs.Known as complex
+use Rattle.math_root.proofs.Known.{sqrt-known}
+use Rattle.thin_film_complex.proofs.Known as complex
 use Rattle.thin_film.proofs.Known as thin-film
 use Rattle.fresnel.proofs.Known as fresnel
-use Rattle.stokes.proofs.Known as stokes
-use Rattle.coating_name.proofs.Known as coating-name
+use Rattle.polarization_stokes.proofs.Known as stokes
+use Rattle.name_coating.proofs.Known as coating-name
 use Rattle.known_answers.specs.Known.{KnownAnswers}
 
 pub known-answers : KnownAnswers

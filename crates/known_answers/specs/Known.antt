@@ -5,18 +5,18 @@ use mathlib.Core.List.{[], _∷_}
 use mathlib.Core.Option.{none, some}
 use lib.Ieee.{Float, binary64, ofBits}
 use Rattle.ieee.specs.Functions.{zero-f, one, two, three, quarter, half, finite-positive}
-use Rattle.square_root.specs.Root.{sqrt}
-use Rattle.trig.specs.Angles.{pi}
-use Rattle.complex.specs.Complex.{real, zero, div}
+use Rattle.math_root.specs.Root.{sqrt}
+use Rattle.math_trig.specs.Angles.{pi}
+use Rattle.thin_film_complex.specs.Complex.{real, zero, div}
 use Rattle.refusal.specs.Outcome.{answer}
-use Rattle.coating.specs.declared.Coating.the-variants as C
+use Rattle.thin_film_coating.specs.declared.Coating.the-variants as C
 use Rattle.thin_film.specs.declared.SurfaceCoating.the-variants as S
 use Rattle.thin_film.specs.Coating.{mgf2-default}
 use Rattle.thin_film.specs.Evaluate.{evaluate-surface}
 use Rattle.fresnel.specs.Fresnel.{fresnel-dielectric, schlick-approx}
-use Rattle.stokes.specs.Stokes.{degree-of-polarization, degree-of-linear-polarization, degree-of-circular-polarization}
-use Rattle.stokes.specs.Jones.{to-stokes}
-use Rattle.coating_name.specs.Name.{from-format-name}
+use Rattle.polarization_stokes.specs.Stokes.{degree-of-polarization, degree-of-linear-polarization, degree-of-circular-polarization}
+use Rattle.polarization_stokes.specs.Jones.{to-stokes}
+use Rattle.name_coating.specs.Name.{from-format-name}
 
 -- -0.5
 abbrev pub minus-half : Float

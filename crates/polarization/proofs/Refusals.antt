@@ -2,7 +2,7 @@
 use mathlib.Core.Path.{_≡_, refl}
 use mathlib.Core.Bool.{Bool, true, false, cond}
 use lib.Ieee.{Float}
-use Rattle.trig.specs.Trig.{sin, cos}
+use Rattle.math_trig.specs.Trig.{sin, cos}
 use Rattle.refusal.specs.Outcome.{answer, invalid-parameter}
 use Rattle.polarization.specs.declared.SurfaceJones.{SurfaceJones}
 use Rattle.polarization.specs.Surface.{indices-valid, bare, surface-fresnel-jones, returned, outcome}

@@ -5,14 +5,14 @@ use lib.Ieee.{Float, neg, lt}
 use lib.Ieee.Scale.{finite}
 use Rattle.ieee.specs.Operators.{_⊕_, _⊖_, _⊗_, _⊘_}
 use Rattle.ieee.specs.Functions.{zero-f, one, two, finite-positive, abs, max, powi2}
-use Rattle.square_root.specs.Root.{sqrt}
-use Rattle.trig.specs.Trig.{sin, cos}
-use Rattle.arctangent.specs.Atan.{atan}
-use Rattle.complex.specs.declared.Complex.{Complex}
-use Rattle.complex.specs.Complex.{real, zero}
+use Rattle.math_root.specs.Root.{sqrt}
+use Rattle.math_trig.specs.Trig.{sin, cos}
+use Rattle.math_atan.specs.Atan.{atan}
+use Rattle.thin_film_complex.specs.declared.Complex.{Complex}
+use Rattle.thin_film_complex.specs.Complex.{real, zero}
 use Rattle.refusal.specs.Outcome.{Outcome, answer, refusal, invalid-parameter}
-use Rattle.transfer_matrix.specs.declared.CoatingResponse.{CoatingResponse}
-use Rattle.mueller.specs.Jones.{diattenuator}
+use Rattle.thin_film_solver.specs.declared.CoatingResponse.{CoatingResponse}
+use Rattle.polarization_mueller.specs.Jones.{diattenuator}
 use Rattle.polarization.specs.declared.SurfaceJones.{SurfaceJones}
 use Rattle.polarization.specs.declared.FresnelJones.{FresnelJones}
 

@@ -1,11 +1,11 @@
 // The Jones matrices of a surface, coated or bare, as polarization.rs has them.
 ghost use mathlib.Core.Path.{_≡_};
-ghost use Rattle.complex.specs.Complex.{real};
-ghost use Rattle.mueller.specs.Jones.{diattenuator};
+ghost use Rattle.thin_film_complex.specs.Complex.{real};
+ghost use Rattle.polarization_mueller.specs.Jones.{diattenuator};
 ghost use Rattle.polarization.specs.Surface.{surface-coating-jones, indices-valid, excess, phase-factor, totally-reflected, cos-t, refracted, bare, surface-fresnel-jones, returned};
-use complex::Complex;
-use mueller::JonesMatrix;
-use transfer_matrix::CoatingResponse;
+use polarization_mueller::JonesMatrix;
+use thin_film_complex::Complex;
+use thin_film_solver::CoatingResponse;
 
 // What a surface does to the reflected and to the transmitted light.
 pub struct SurfaceJones {
@@ -49,14 +49,14 @@ fn indices_valid(n1: f64, n2: f64, angle_i_rad: f64) -> bool
 fn excess(n1: f64, n2: f64, sin_i: f64) -> f64
     ensures { λ r. ⌜ r ≡ excess n1 n2 «sin_i» ⌝ }
 {
-    sqrt::sqrt(sin_i * sin_i - ieee::powi2(n2 / n1))
+    math_sqrt::sqrt(sin_i * sin_i - ieee::powi2(n2 / n1))
 }
 
 // cos + i sin of a phase.
 fn phase_factor(phase: f64) -> Complex
     ensures { λ r. ⌜ r ≡ phase-factor phase ⌝ }
 {
-    let p = trig::sin_cos(phase);
+    let p = math_trig::sin_cos(phase);
     Complex::new(p.cos, p.sin)
 }
 
@@ -65,8 +65,8 @@ fn totally_reflected(n1: f64, n2: f64, sin_i: f64, cos_i: f64) -> SurfaceJones
     ensures { λ r. ⌜ r ≡ totally-reflected n1 n2 «sin_i» «cos_i» ⌝ }
 {
     let excess = excess(n1, n2, sin_i);
-    let rs_phase = -2.0 * arctangent::atan(excess / cos_i);
-    let rp_phase = -2.0 * arctangent::atan(ieee::powi2(n1 / n2) * excess / cos_i);
+    let rs_phase = -2.0 * math_atan::atan(excess / cos_i);
+    let rp_phase = -2.0 * math_atan::atan(ieee::powi2(n1 / n2) * excess / cos_i);
     let reflection = JonesMatrix::diattenuator(phase_factor(rs_phase), phase_factor(rp_phase));
     let transmission = JonesMatrix::diattenuator(Complex::zero(), Complex::zero());
     SurfaceJones {
@@ -79,7 +79,7 @@ fn totally_reflected(n1: f64, n2: f64, sin_i: f64, cos_i: f64) -> SurfaceJones
 fn cos_t(sin_t: f64) -> f64
     ensures { λ r. ⌜ r ≡ cos-t «sin_t» ⌝ }
 {
-    sqrt::sqrt(ieee::max(1.0 - sin_t * sin_t, 0.0))
+    math_sqrt::sqrt(ieee::max(1.0 - sin_t * sin_t, 0.0))
 }
 
 // A real diagonal matrix.
@@ -130,7 +130,7 @@ pub fn surface_fresnel_jones(n1: f64, n2: f64, angle_i_rad: f64) -> FresnelJones
             },
         };
     }
-    let i = trig::sin_cos(angle_i_rad);
+    let i = math_trig::sin_cos(angle_i_rad);
     let matrices = bare(n1, n2, i.sin, i.cos);
     FresnelJones {
         refusal: 0,

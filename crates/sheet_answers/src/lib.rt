@@ -6,20 +6,20 @@ ghost use mathlib.Core.List.{[]};
 ghost use Prim.Native.Nat.{_+_, _*_};
 ghost use Rattle.sheet.specs.Read.{layer-at, surface-at};
 ghost use Rattle.sheet_values.specs.Values.{film, films, surface-value, layers-at};
-ghost use Rattle.transfer_matrix.specs.Stack.{steps};
-ghost use Rattle.evaluation.specs.Walk.{ordered, outcome};
+ghost use Rattle.thin_film_solver.specs.Stack.{steps};
+ghost use Rattle.thin_film_layers.specs.Walk.{ordered, outcome};
 ghost use Rattle.thin_film.specs.Evaluate.{evaluate-surface};
 ghost use Rattle.surface.specs.Answers.{answers, powers, returned};
 ghost use Rattle.sheet_answers.specs.Outcome.{outcome-of};
-use evaluation::Evaluation;
-use limits::Interface;
-use limits::Surface;
+use gate_limits::Interface;
+use gate_limits::Surface;
 use refusal::Refusal;
 use surface::AnswersReply;
 use surface::Powers;
 use thin_film::SurfaceCoating;
-use transfer_matrix::Stack;
-use transfer_matrix::ThinFilmLayer;
+use thin_film_layers::Evaluation;
+use thin_film_solver::Stack;
+use thin_film_solver::ThinFilmLayer;
 
 // A surface's powers alone, or a refusal.
 pub enum PowersReply {
@@ -48,8 +48,8 @@ fn through(src: &[u8], at: usize, n: usize, far: bool, start: Stack) -> Stack
     let mut stack = start;
     let mut i = 0;
     while i < n {
-        let j = evaluation::nth_index(far, n, i);
-        stack = transfer_matrix::step(stack, layer_behind(src, at, j));
+        let j = thin_film_layers::nth_index(far, n, i);
+        stack = thin_film_solver::step(stack, layer_behind(src, at, j));
         i += 1;
     }
     stack
@@ -77,9 +77,9 @@ fn evaluate_at(
     );
     if pending.read {
         let start = pending.stack;
-        Evaluation::Response(transfer_matrix::finish(through(src, at, n, pending.far, start)))
+        Evaluation::Response(thin_film_solver::finish(through(src, at, n, pending.far, start)))
     } else {
-        evaluation::conclude(pending)
+        thin_film_layers::conclude(pending)
     }
 }
 
@@ -88,7 +88,7 @@ pub fn powers_at(src: &[u8], at: usize, n: usize, wavelength_nm: f64) -> PowersR
     ensures { λ r. ⌜ outcome-of r ≡ powers «wavelength_nm» (surface-value (surface-at (now (src .entry)) at [])) (films (layers-at (now (src .entry)) (at + 7) n)) ⌝ }
 {
     let surface = sheet_values::surface_at(src, at);
-    match limits::interface_of(surface.coating) {
+    match gate_limits::interface_of(surface.coating) {
         Interface::Bare => PowersReply::Powers(surface::bare_powers(surface)),
         Interface::Coated(coating) => {
             match evaluate_at(src, at, n, surface, coating, wavelength_nm) {
@@ -104,7 +104,7 @@ pub fn answers_at(src: &[u8], at: usize, n: usize, wavelength_nm: f64) -> Answer
     ensures { λ r. ⌜ r ≡ returned (answers «wavelength_nm» (surface-value (surface-at (now (src .entry)) at [])) (films (layers-at (now (src .entry)) (at + 7) n))) ⌝ }
 {
     let surface = sheet_values::surface_at(src, at);
-    match limits::interface_of(surface.coating) {
+    match gate_limits::interface_of(surface.coating) {
         Interface::Bare => surface::bare_answers(surface),
         Interface::Coated(coating) => {
             match evaluate_at(src, at, n, surface, coating, wavelength_nm) {

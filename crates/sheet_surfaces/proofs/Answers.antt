@@ -7,7 +7,7 @@ use lib.Dec.{T}
 use lib.ListN.{length}
 use lib.Ieee.{Float}
 use lib.Ieee.Fits.{and-l}
-use Rattle.limits.specs.Limits.{wavelength-passes, beam-passes, passes}
+use Rattle.gate_limits.specs.Limits.{wavelength-passes, beam-passes, passes}
 use Rattle.surface.specs.Finite.{Answered}
 use Rattle.surface.proofs.Finite.{every-surface-answered}
 use Rattle.sheet.specs.Sheet.{SheetLayer, SheetSurface, Sheet, All}

@@ -7,8 +7,8 @@ use borrow.Author.Tests.{lt-ltb, le-ltb}
 use lib.ListN.{length}
 use Rattle.refusal.specs.declared.Refusal.{Refusal}
 use Rattle.refusal.specs.Outcome.{Outcome, answer, refusal, refused, map}
-use Rattle.transfer_matrix.specs.declared.ThinFilmLayer.{ThinFilmLayer}
-use Rattle.limits.specs.declared.Surface as Value
+use Rattle.thin_film_solver.specs.declared.ThinFilmLayer.{ThinFilmLayer}
+use Rattle.gate_limits.specs.declared.Surface as Value
 use Rattle.sheet.specs.Sheet.{SheetSurface, Sheet}
 use Rattle.sheet.specs.Read.{layer-at, surface-at}
 use Rattle.sheet.specs.Scan.{layer-run}

@@ -4,10 +4,10 @@ ghost use mathlib.Core.Path.{_≡_};
 ghost use Rattle.refusal.specs.Outcome.{refused as refused-with};
 ghost use Rattle.sheet_surfaces.specs.Surfaces.{surface-answers, given, nth-surface, surface-outcome, nth-layer, layer-outcome};
 use gate::Gated;
-use limits::Surface;
+use gate_limits::Surface;
 use refusal::Refusal;
 use surface::Answers;
-use transfer_matrix::ThinFilmLayer;
+use thin_film_solver::ThinFilmLayer;
 
 // ---- a surface's answers
 

@@ -5,8 +5,8 @@ use lib.Dec.{eqb}
 use lib.Ieee.{Float, binary64, ofBits}
 use Rattle.sheet.specs.Sheet.{SheetLayer, SheetSurface}
 use Rattle.sheet.specs.Read.{layer-at}
-use Rattle.transfer_matrix.specs.declared.ThinFilmLayer.{ThinFilmLayer}
-use Rattle.limits.specs.declared.Surface as Coated
+use Rattle.thin_film_solver.specs.declared.ThinFilmLayer.{ThinFilmLayer}
+use Rattle.gate_limits.specs.declared.Surface as Coated
 
 -- an f64 by its pattern
 abbrev pub value : ℕ → Float

@@ -4,8 +4,8 @@ ghost use mathlib.Core.List.{[]};
 ghost use Rattle.sheet.specs.Read.{layer-at, surface-at};
 ghost use Rattle.sheet_values.specs.Nth.{place};
 ghost use Rattle.sheet_values.specs.Values.{film, surface-value};
-use limits::Surface;
-use transfer_matrix::ThinFilmLayer;
+use gate_limits::Surface;
+use thin_film_solver::ThinFilmLayer;
 
 // The SURFACE whose kind word is at a place; zero throughout past the last word.
 pub fn surface_at(src: &[u8], at: usize) -> Surface

@@ -16,20 +16,20 @@ use Rattle.ieee.proofs.Range.FromZero.{in-positive}
 use Rattle.ieee.proofs.Range.Ratio.{slope, ratio-mag}
 use Rattle.ieee.proofs.Range.Falls.{in-zero-to-one, to-tests}
 use Rattle.ieee.proofs.Range.Constants.{zero-in, zero-foot, one-in, two-in}
-use Rattle.square_root.proofs.Range.{sqrt-in}
-use Rattle.trig.specs.Trig.{sin, cos}
+use Rattle.math_root.proofs.Range.{sqrt-in}
+use Rattle.math_trig.specs.Trig.{sin, cos}
 use Rattle.refusal.specs.Outcome.{answer}
 use Rattle.fresnel.specs.declared.Reflectances.{Reflectances}
 use Rattle.fresnel.specs.Fresnel as Fresnel
 use Rattle.fresnel.specs.Fresnel.{sin2-t, power, least-den, fresnel-dielectric}
 use Rattle.polarization.specs.declared.SurfaceJones.{SurfaceJones}
 use Rattle.polarization.specs.Surface.{indices-valid, cos-t, refracted, bare, surface-fresnel-jones}
-use Rattle.solver_bounds.proofs.Solve.{cosine-in, snell-mag}
-use Rattle.limits.specs.declared.Surface.{Surface}
-use Rattle.limits.specs.Limits.{within}
+use Rattle.thin_film_bounds.proofs.Solve.{cosine-in, snell-mag}
+use Rattle.gate_limits.specs.declared.Surface.{Surface}
+use Rattle.gate_limits.specs.Limits.{within}
 use Rattle.surface.specs.Answers.{bare-powers}
 use Rattle.surface.specs.Finite.{UnitPowers}
-use Rattle.limits.proofs.Ranges.{Inside}
+use Rattle.gate_limits.proofs.Ranges.{Inside}
 use Rattle.surface.proofs.Polarized.{PowerJones, diattenuator-pow, of-real-pow}
 
 -- ---- section 5: the powers

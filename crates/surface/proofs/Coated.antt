@@ -16,34 +16,34 @@ use Rattle.ieee.proofs.Range.Laws.{in-mag, in-up, mag-up, neg-mag}
 use Rattle.ieee.proofs.Range.FromZero.{in-positive}
 use Rattle.ieee.proofs.Range.Falls.{in-zero-to-one, to-tests}
 use Rattle.ieee.proofs.Range.Constants.{zero-mag, zero-foot, half-in, one-in, one-mag}
-use Rattle.square_root.specs.Root.{sqrt}
-use Rattle.square_root.proofs.Range.{sqrt-in}
-use Rattle.arctangent.proofs.AtanBounds.{pi-mag}
-use Rattle.trig.specs.Trig.{sin}
+use Rattle.math_root.specs.Root.{sqrt}
+use Rattle.math_root.proofs.Range.{sqrt-in}
+use Rattle.math_atan.proofs.AtanBounds.{pi-mag}
+use Rattle.math_trig.specs.Trig.{sin}
 use Rattle.refusal.specs.Outcome.{Outcome, answer}
-use Rattle.transfer_matrix.specs.declared.ThinFilmLayer.{ThinFilmLayer}
-use Rattle.transfer_matrix.specs.declared.CoatingResponse.{CoatingResponse}
-use Rattle.transfer_matrix.specs.Solve as Solve
-use Rattle.coating.specs.declared.Coating.{Coating}
-use Rattle.coating.specs.declared.Coating.the-variants as C
+use Rattle.thin_film_solver.specs.declared.ThinFilmLayer.{ThinFilmLayer}
+use Rattle.thin_film_solver.specs.declared.CoatingResponse.{CoatingResponse}
+use Rattle.thin_film_solver.specs.Solve as Solve
+use Rattle.thin_film_coating.specs.declared.Coating.{Coating}
+use Rattle.thin_film_coating.specs.declared.Coating.the-variants as C
 use Rattle.thin_film.specs.declared.SurfaceCoating.{SurfaceCoating}
 use Rattle.thin_film.specs.declared.SurfaceCoating.the-variants as S
 use Rattle.thin_film.specs.Coating.{coating-of, layers-of, mgf2-layers, mirror-layers}
-use Rattle.evaluation.specs.Walk.{ordered}
-use Rattle.preset_layers.specs.Layers.{broadband-layers, bragg-layers}
-use Rattle.before_layers.specs.Valid.{valid}
-use Rattle.before_layers.specs.Ideal.{ideal-ar, ideal-mirror, ideal-beamsplitter}
-use Rattle.coating.specs.Evaluate.{respond, evaluate-coating}
+use Rattle.thin_film_layers.specs.Walk.{ordered}
+use Rattle.thin_film_presets.specs.Layers.{broadband-layers, bragg-layers}
+use Rattle.thin_film_valid.specs.Valid.{valid}
+use Rattle.thin_film_valid.specs.Ideal.{ideal-ar, ideal-mirror, ideal-beamsplitter}
+use Rattle.thin_film_coating.specs.Evaluate.{respond, evaluate-coating}
 use Rattle.thin_film.specs.Evaluate.{evaluate-surface}
 use Rattle.polarization.specs.Surface.{surface-coating-jones}
-use Rattle.solver_bounds.specs.Solver.{AdmittedLayers, Bounded}
-use Rattle.solver_bounds.proofs.Powers.{zero-pow, cpow-up}
-use Rattle.solver_bounds.proofs.Solve.{every-response-bounded}
-use Rattle.limits.specs.declared.Surface.{Surface}
+use Rattle.thin_film_bounds.specs.Solver.{AdmittedLayers, Bounded}
+use Rattle.thin_film_bounds.proofs.Powers.{zero-pow, cpow-up}
+use Rattle.thin_film_bounds.proofs.Solve.{every-response-bounded}
+use Rattle.gate_limits.specs.declared.Surface.{Surface}
 use Rattle.surface.specs.Answers.{coated-powers}
-use Rattle.limits.specs.Limits.{within, layers-pass}
+use Rattle.gate_limits.specs.Limits.{within, layers-pass}
 use Rattle.surface.specs.Finite.{UnitPowers, FiniteResponse}
-use Rattle.limits.proofs.Ranges.{layers-in, Inside}
+use Rattle.gate_limits.proofs.Ranges.{layers-in, Inside}
 use Rattle.surface.proofs.Polarized.{PowerJones, cpow-finite, of-real-pow, diattenuator-pow}
 
 -- ---- the layers that a coating is evaluated with: they pass, there are 16 at most, and read from the far end they are the same ones

@@ -13,21 +13,21 @@ use Rattle.ieee.specs.Range.{In}
 use Rattle.ieee.proofs.Range.Constants.{zero-mag}
 use Rattle.ieee.proofs.Range.Falls as Falls
 use Rattle.ieee.proofs.Range.Falls.{zero-to-one, product-unit, product-cross, sum-le, to-tests}
-use Rattle.complex.specs.Complex.{zero}
+use Rattle.thin_film_complex.specs.Complex.{zero}
 use Rattle.refusal.specs.Outcome.{answer, map}
-use Rattle.transfer_matrix.specs.declared.ThinFilmLayer.{ThinFilmLayer}
-use Rattle.transfer_matrix.specs.declared.CoatingResponse.{CoatingResponse}
+use Rattle.thin_film_solver.specs.declared.ThinFilmLayer.{ThinFilmLayer}
+use Rattle.thin_film_solver.specs.declared.CoatingResponse.{CoatingResponse}
 use Rattle.polarization.specs.declared.SurfaceJones.{SurfaceJones}
 use Rattle.polarization.specs.Surface.{surface-coating-jones}
-use Rattle.limits.specs.declared.Surface.{Surface}
-use Rattle.limits.specs.declared.Interface.{Interface}
-use Rattle.limits.specs.declared.Interface.the-variants.{Bare, Coated}
+use Rattle.gate_limits.specs.declared.Surface.{Surface}
+use Rattle.gate_limits.specs.declared.Interface.{Interface}
+use Rattle.gate_limits.specs.declared.Interface.the-variants.{Bare, Coated}
 use Rattle.surface.specs.declared.Powers.{Powers}
-use Rattle.limits.specs.Coating.{interface, preset-layers}
-use Rattle.limits.specs.Limits.{within, layers-pass, surface-passes, passes}
+use Rattle.gate_limits.specs.Coating.{interface, preset-layers}
+use Rattle.gate_limits.specs.Limits.{within, layers-pass, surface-passes, passes}
 use Rattle.surface.specs.Answers.{assembled, coated-powers, coated-answers, bare-powers, no-response, bare-answers, answers-of, answers}
 use Rattle.surface.specs.Finite.{UnitPowers, FiniteComplex, FiniteResponse, Answered, EverySurfaceAnswered, ProductFalls, SumFalls}
-use Rattle.limits.proofs.Ranges.{wavelength-in, Inside, surface-in}
+use Rattle.gate_limits.proofs.Ranges.{wavelength-in, Inside, surface-in}
 use Rattle.surface.proofs.Polarized.{PowerJones, jones-finite, mueller-finite}
 use Rattle.surface.proofs.Bare.{bare-unit, bare-jones}
 use Rattle.surface.proofs.Coated.{surface-responds, bounded-powers, bounded-finite, bounded-jones}

@@ -11,17 +11,17 @@ use Rattle.ieee.specs.Range.{Mag, Pow}
 use Rattle.ieee.proofs.Range.Laws.{in-mag, mag-lit, neg-mag}
 use Rattle.ieee.proofs.Range.Powers.{to-pow, pow-up, mul-pow, add-pow, sub-pow}
 use Rattle.ieee.proofs.Range.Constants.{zero-mag, half-in, one-mag, two-in}
-use Rattle.complex.specs.declared.Complex.{Complex}
-use Rattle.complex.specs.Complex.{real}
-use Rattle.stokes.specs.declared.JonesVector.{JonesVector}
-use Rattle.mueller.specs.declared.JonesMatrix.{JonesMatrix}
+use Rattle.thin_film_complex.specs.declared.Complex.{Complex}
+use Rattle.thin_film_complex.specs.Complex.{real}
+use Rattle.polarization_stokes.specs.declared.JonesVector.{JonesVector}
+use Rattle.polarization_mueller.specs.declared.JonesMatrix.{JonesMatrix}
 use Rattle.polarization.specs.declared.SurfaceJones.{SurfaceJones}
-use Rattle.stokes.specs.declared.StokesVector.{StokesVector}
-use Rattle.stokes.specs.Jones.{inv-sqrt2, linear-horizontal, linear-vertical, linear-45, circular-right, to-stokes}
-use Rattle.mueller.specs.Jones.{entry, diattenuator, apply}
-use Rattle.mueller.specs.Mueller.{response, mean, half-gap, columns, to-mueller}
-use Rattle.solver_bounds.specs.Range.{CPow}
-use Rattle.solver_bounds.proofs.Powers.{zero-pow, dot-pow}
+use Rattle.polarization_stokes.specs.declared.StokesVector.{StokesVector}
+use Rattle.polarization_stokes.specs.Jones.{inv-sqrt2, linear-horizontal, linear-vertical, linear-45, circular-right, to-stokes}
+use Rattle.polarization_mueller.specs.Jones.{entry, diattenuator, apply}
+use Rattle.polarization_mueller.specs.Mueller.{response, mean, half-gap, columns, to-mueller}
+use Rattle.thin_film_bounds.specs.Range.{CPow}
+use Rattle.thin_film_bounds.proofs.Powers.{zero-pow, dot-pow}
 use Rattle.surface.specs.Finite.{Finite, FiniteComplex, FiniteJones, FiniteMueller}
 
 -- ---- a list's elements, one by one

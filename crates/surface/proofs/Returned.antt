@@ -3,13 +3,13 @@ use mathlib.Core.Path.{_≡_, refl, ap}
 use Prim.Native.Nat.{ℕ}
 use native.Mathlib.Omega.{arith}
 use mathlib.Core.Bool.{Bool, true, false, cond}
-use Rattle.trig.specs.Trig.{sin, cos}
+use Rattle.math_trig.specs.Trig.{sin, cos}
 use Rattle.refusal.specs.Outcome.{answer, refusal, map, invalid-parameter}
 use Rattle.polarization.specs.declared.SurfaceJones.{SurfaceJones}
 use Rattle.polarization.specs.declared.FresnelJones.{FresnelJones}
 use Rattle.polarization.specs.Surface as Jones
 use Rattle.polarization.specs.Surface.{indices-valid, bare, surface-fresnel-jones}
-use Rattle.limits.specs.declared.Surface.{Surface}
+use Rattle.gate_limits.specs.declared.Surface.{Surface}
 use Rattle.surface.specs.declared.Answers.{Answers}
 use Rattle.surface.specs.declared.AnswersReply.{AnswersReply}
 use Rattle.surface.specs.Answers.{assembled, bare-powers, no-response, bare-answers, returned, outcome}

@@ -5,24 +5,24 @@ use lib.Dec.{eqb}
 use lib.Ieee.{Float}
 use Rattle.ieee.specs.Operators.{_⊖_}
 use Rattle.ieee.specs.Functions.{zero-f, one}
-use Rattle.trig.specs.Trig.{cos}
-use Rattle.complex.specs.Complex.{zero}
+use Rattle.math_trig.specs.Trig.{cos}
+use Rattle.thin_film_complex.specs.Complex.{zero}
 use Rattle.refusal.specs.Outcome.{Outcome, answer, refusal, map}
-use Rattle.transfer_matrix.specs.declared.ThinFilmLayer.{ThinFilmLayer}
-use Rattle.transfer_matrix.specs.declared.CoatingResponse.{CoatingResponse}
+use Rattle.thin_film_solver.specs.declared.ThinFilmLayer.{ThinFilmLayer}
+use Rattle.thin_film_solver.specs.declared.CoatingResponse.{CoatingResponse}
 use Rattle.thin_film.specs.Evaluate.{evaluate-surface}
 use Rattle.fresnel.specs.Fresnel.{fresnel-dielectric}
 use Rattle.polarization.specs.declared.SurfaceJones.{SurfaceJones}
-use Rattle.mueller.specs.Jones.{diattenuator}
-use Rattle.mueller.specs.Mueller.{to-mueller}
+use Rattle.polarization_mueller.specs.Jones.{diattenuator}
+use Rattle.polarization_mueller.specs.Mueller.{to-mueller}
 use Rattle.polarization.specs.Surface.{surface-coating-jones, surface-fresnel-jones}
-use Rattle.limits.specs.declared.Surface.{Surface}
-use Rattle.limits.specs.declared.Interface.{Interface}
-use Rattle.limits.specs.declared.Interface.the-variants.{Bare, Coated}
+use Rattle.gate_limits.specs.declared.Surface.{Surface}
+use Rattle.gate_limits.specs.declared.Interface.{Interface}
+use Rattle.gate_limits.specs.declared.Interface.the-variants.{Bare, Coated}
 use Rattle.surface.specs.declared.Powers.{Powers}
 use Rattle.surface.specs.declared.Answers.{Answers}
 use Rattle.surface.specs.declared.AnswersReply.{AnswersReply}
-use Rattle.limits.specs.Coating.{interface}
+use Rattle.gate_limits.specs.Coating.{interface}
 
 -- ---- with the Jones matrices of section 6 and their Mueller matrices
 unfoldable pub assembled : Bool → Powers → CoatingResponse → SurfaceJones → Answers

@@ -9,18 +9,18 @@ use lib.Ieee.{Float, binary64, le, fits}
 use lib.Ieee.Scale.{finite}
 use Rattle.ieee.specs.Operators.{_⊕_, _⊗_}
 use Rattle.ieee.specs.Functions.{zero-f}
-use Rattle.complex.specs.declared.Complex.{Complex}
+use Rattle.thin_film_complex.specs.declared.Complex.{Complex}
 use Rattle.refusal.specs.Outcome.{answer}
-use Rattle.transfer_matrix.specs.declared.ThinFilmLayer.{ThinFilmLayer}
-use Rattle.transfer_matrix.specs.declared.CoatingResponse.{CoatingResponse}
-use Rattle.mueller.specs.declared.JonesMatrix.{JonesMatrix}
-use Rattle.mueller.specs.declared.MuellerMatrix.{MuellerMatrix}
-use Rattle.mueller.specs.Jones as Jones
-use Rattle.mueller.specs.Mueller as Mueller
-use Rattle.limits.specs.declared.Surface.{Surface}
+use Rattle.thin_film_solver.specs.declared.ThinFilmLayer.{ThinFilmLayer}
+use Rattle.thin_film_solver.specs.declared.CoatingResponse.{CoatingResponse}
+use Rattle.polarization_mueller.specs.declared.JonesMatrix.{JonesMatrix}
+use Rattle.polarization_mueller.specs.declared.MuellerMatrix.{MuellerMatrix}
+use Rattle.polarization_mueller.specs.Jones as Jones
+use Rattle.polarization_mueller.specs.Mueller as Mueller
+use Rattle.gate_limits.specs.declared.Surface.{Surface}
 use Rattle.surface.specs.declared.Powers.{Powers}
 use Rattle.surface.specs.declared.Answers.{Answers}
-use Rattle.limits.specs.Limits.{wavelength-passes, power-passes, passes}
+use Rattle.gate_limits.specs.Limits.{wavelength-passes, power-passes, passes}
 use Rattle.surface.specs.Answers.{answers, powers}
 
 -- ---- every number is finite

@@ -2,12 +2,12 @@
 ghost use mathlib.Core.Path.{_≡_};
 ghost use Rattle.refusal.specs.Outcome.{refusal};
 ghost use Rattle.surface.specs.Answers.{assembled, coated-powers, coated-answers, bare-powers, no-response, bare-answers, no-answers, returned};
-use complex::Complex;
-use limits::Surface;
-use mueller::JonesMatrix;
-use mueller::MuellerMatrix;
+use gate_limits::Surface;
 use polarization::SurfaceJones;
-use transfer_matrix::CoatingResponse;
+use polarization_mueller::JonesMatrix;
+use polarization_mueller::MuellerMatrix;
+use thin_film_complex::Complex;
+use thin_film_solver::CoatingResponse;
 
 // The parts of the s and p power that a surface reflects and transmits.
 pub struct Powers {
@@ -86,7 +86,7 @@ pub fn bare_powers(surface: Surface) -> Powers
     ensures { λ r. ⌜ r ≡ bare-powers surface ⌝ }
 {
     let r = fresnel::fresnel_dielectric(
-        trig::cos(surface.angle_rad),
+        math_trig::cos(surface.angle_rad),
         surface.n_incident,
         surface.n_substrate,
     );

@@ -7,15 +7,15 @@ use lib.Dec.{leb}
 use lib.ListN.{length}
 use lib.Ieee.{Float, lt}
 use Rattle.refusal.specs.Outcome.{Outcome, answer, invalid-parameter, too-many-layers}
-use Rattle.transfer_matrix.specs.declared.ThinFilmLayer.{ThinFilmLayer}
-use Rattle.transfer_matrix.specs.declared.CoatingResponse.{CoatingResponse}
-use Rattle.transfer_matrix.specs.Solve as Solve
-use Rattle.before_layers.specs.Valid.{valid}
-use Rattle.evaluation.specs.Walk.{ordered}
-use Rattle.evaluation.proofs.Order.{as-long}
-use Rattle.coating.specs.declared.Coating.{Coating}
-use Rattle.coating.specs.declared.Coating.the-variants as C
-use Rattle.coating.specs.Evaluate.{respond, evaluate-coating}
+use Rattle.thin_film_solver.specs.declared.ThinFilmLayer.{ThinFilmLayer}
+use Rattle.thin_film_solver.specs.declared.CoatingResponse.{CoatingResponse}
+use Rattle.thin_film_solver.specs.Solve as Solve
+use Rattle.thin_film_valid.specs.Valid.{valid}
+use Rattle.thin_film_layers.specs.Walk.{ordered}
+use Rattle.thin_film_layers.proofs.Order.{as-long}
+use Rattle.thin_film_coating.specs.declared.Coating.{Coating}
+use Rattle.thin_film_coating.specs.declared.Coating.the-variants as C
+use Rattle.thin_film_coating.specs.Evaluate.{respond, evaluate-coating}
 use Rattle.thin_film.specs.Coating.{coating-of, layers-of}
 use Rattle.thin_film.specs.Evaluate.{evaluate-surface, refusal-of, RefuseAlike}
 

@@ -8,14 +8,14 @@ use lib.Ieee.{Float, ofBits}
 use lib.Ieee.Scale.{finite}
 use Rattle.ieee.specs.Functions.{zero-f, one, three, finite-positive}
 use Rattle.refusal.specs.Outcome.{answer}
-use Rattle.transfer_matrix.proofs.Known as Solved
-use Rattle.coating.specs.declared.Coating.the-variants as C
+use Rattle.thin_film_solver.proofs.Known as Solved
+use Rattle.thin_film_coating.specs.declared.Coating.the-variants as C
 use Rattle.thin_film.specs.declared.SurfaceCoating.the-variants as S
-use Rattle.evaluation.specs.Walk.{ordered}
+use Rattle.thin_film_layers.specs.Walk.{ordered}
 use Rattle.thin_film.specs.Coating.{layers-of}
-use Rattle.before_layers.specs.Valid.{valid}
+use Rattle.thin_film_valid.specs.Valid.{valid}
 use Rattle.thin_film.specs.Evaluate.{evaluate-surface}
-use Rattle.coating.proofs.Answers.{solved}
+use Rattle.thin_film_coating.proofs.Answers.{solved}
 
 one-passes : finite-positive one ≡ true
 unfolding finite-positive Ieee.le ofBits

@@ -5,14 +5,14 @@ use mathlib.Core.List.{List, [], _∷_, _++_}
 use Prim.Native.Nat.{ℕ, zero, suc, _+_}
 use native.Mathlib.Numerals.{add-one}
 use lib.Ieee.{Float}
-use Rattle.transfer_matrix.specs.declared.ThinFilmLayer.{ThinFilmLayer}
-use Rattle.transfer_matrix.specs.declared.Stack.{Stack}
-use Rattle.transfer_matrix.specs.declared.Film.{Film}
-use Rattle.transfer_matrix.specs.Solve.{dielectric}
-use Rattle.transfer_matrix.specs.Stack.{film-of, join, step, steps}
-use Rattle.transfer_matrix.proofs.Steps.{snell-kept, wavelength-kept, steps-append, joins}
-use Rattle.evaluation.specs.Walk.{ordered}
-use Rattle.preset_layers.specs.Layers.{quarter-wave, bragg-layers}
+use Rattle.thin_film_solver.specs.declared.ThinFilmLayer.{ThinFilmLayer}
+use Rattle.thin_film_solver.specs.declared.Stack.{Stack}
+use Rattle.thin_film_solver.specs.declared.Film.{Film}
+use Rattle.thin_film_solver.specs.Solve.{dielectric}
+use Rattle.thin_film_solver.specs.Stack.{film-of, join, step, steps}
+use Rattle.thin_film_solver.proofs.Steps.{snell-kept, wavelength-kept, steps-append, joins}
+use Rattle.thin_film_layers.specs.Walk.{ordered}
+use Rattle.thin_film_presets.specs.Layers.{quarter-wave, bragg-layers}
 use Rattle.thin_film.specs.Coating.{mirror-layers}
 
 module _ (n-high n-low design : Float) where

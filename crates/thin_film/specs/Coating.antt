@@ -5,14 +5,14 @@ use mathlib.Core.List.{List, [], _∷_, _++_}
 use lib.Dec.{leb}
 use lib.ListN.{length, replicate}
 use lib.Ieee.{Float, binary64, ofBits}
-use Rattle.transfer_matrix.specs.declared.ThinFilmLayer.{ThinFilmLayer}
-use Rattle.transfer_matrix.specs.Solve.{dielectric}
-use Rattle.preset_layers.specs.Layers.{n-sio2, n-tio2, quarter-wave, bragg-layers, broadband-layers}
-use Rattle.coating.specs.declared.Coating.{Coating}
-use Rattle.coating.specs.declared.Coating.the-variants as C
-use Rattle.coating.specs.declared.Layers.{Layers}
-use Rattle.coating.specs.declared.Built.{Built}
-use Rattle.coating.specs.Coating.{built, too-many}
+use Rattle.thin_film_solver.specs.declared.ThinFilmLayer.{ThinFilmLayer}
+use Rattle.thin_film_solver.specs.Solve.{dielectric}
+use Rattle.thin_film_presets.specs.Layers.{n-sio2, n-tio2, quarter-wave, bragg-layers, broadband-layers}
+use Rattle.thin_film_coating.specs.declared.Coating.{Coating}
+use Rattle.thin_film_coating.specs.declared.Coating.the-variants as C
+use Rattle.thin_film_coating.specs.declared.Layers.{Layers}
+use Rattle.thin_film_coating.specs.declared.Built.{Built}
+use Rattle.thin_film_coating.specs.Coating.{built, too-many}
 use Rattle.thin_film.specs.declared.SurfaceCoating.{SurfaceCoating}
 use Rattle.thin_film.specs.declared.SurfaceCoating.the-variants as S
 use Rattle.thin_film.specs.declared.Text.{Text}

@@ -2,14 +2,14 @@
 // wavelength and an angle of incidence. A list of layers stands beside the enum that speaks of it.
 ghost use mathlib.Core.Path.{_≡_};
 ghost use mathlib.Core.List.{[]};
-ghost use Rattle.evaluation.specs.Walk.{outcome};
+ghost use Rattle.thin_film_layers.specs.Walk.{outcome};
 ghost use Rattle.thin_film.specs.Coating.{mgf2-default, to-coating, label, text};
 ghost use Rattle.thin_film.specs.Evaluate.{evaluate-surface};
-use coating::Built;
-use coating::Coating;
-use coating::Layers;
-use evaluation::Evaluation;
-use transfer_matrix::ThinFilmLayer;
+use thin_film_coating::Built;
+use thin_film_coating::Coating;
+use thin_film_coating::Layers;
+use thin_film_layers::Evaluation;
+use thin_film_solver::ThinFilmLayer;
 
 mod presets;
 pub mod reading;
@@ -44,10 +44,13 @@ impl SurfaceCoating {
         ensures { λ r. ⌜ r ≡ to-coating self custom ⌝ }
     {
         match self {
-            SurfaceCoating::IdealAr => coating::without_layers(Coating::IdealAr),
+            SurfaceCoating::IdealAr => thin_film_coating::without_layers(Coating::IdealAr),
             SurfaceCoating::MgF2 {
                 design_wavelength_nm,
-            } => coating::single(preset_layers::quarter_wave(1.38, design_wavelength_nm)),
+            } => thin_film_coating::single(thin_film_presets::quarter_wave(
+                1.38,
+                design_wavelength_nm,
+            )),
             SurfaceCoating::BroadbandAr => presets::broadband_ar(),
             SurfaceCoating::HighReflectanceMirror => Coating::bragg_mirror(2.30, 1.46, 7, 550.0),
             SurfaceCoating::Custom(c) => presets::custom_coating(c, custom),
@@ -94,7 +97,7 @@ impl SurfaceCoating {
     ) -> Evaluation
         ensures { λ r. ⌜ outcome r ≡ evaluate-surface self [] «n_incident» «n_substrate» «angle_incident_rad» «wavelength_nm» ⌝ }
     {
-        evaluation::conclude(reading::prepare_surface(
+        thin_film_layers::conclude(reading::prepare_surface(
             self,
             0,
             n_incident,
@@ -116,7 +119,7 @@ impl SurfaceCoating {
     ) -> Evaluation
         ensures { λ r. ⌜ outcome r ≡ evaluate-surface self (now (layers .entry)) «n_incident» «n_substrate» «angle_incident_rad» «wavelength_nm» ⌝ }
     {
-        evaluation::conclude(evaluation::through(
+        thin_film_layers::conclude(thin_film_layers::through(
             layers,
             reading::prepare_surface(
                 self,

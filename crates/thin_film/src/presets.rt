@@ -3,29 +3,29 @@ ghost use mathlib.Core.Path.{_≡_};
 ghost use mathlib.Core.List.{[]};
 ghost use Prim.Native.Nat.{_<_};
 ghost use lib.ListN.{length, getD};
-ghost use Rattle.transfer_matrix.specs.Stack.{steps};
-ghost use Rattle.evaluation.specs.Walk.{ordered, no-layer};
-ghost use Rattle.preset_layers.specs.Layers.{broadband-layers};
-ghost use Rattle.coating.specs.Coating.{built};
-ghost use Rattle.coating.specs.declared.Coating.the-variants as C;
+ghost use Rattle.thin_film_solver.specs.Stack.{steps};
+ghost use Rattle.thin_film_layers.specs.Walk.{ordered, no-layer};
+ghost use Rattle.thin_film_presets.specs.Layers.{broadband-layers};
+ghost use Rattle.thin_film_coating.specs.Coating.{built};
+ghost use Rattle.thin_film_coating.specs.declared.Coating.the-variants as C;
 ghost use Rattle.thin_film.specs.Coating.{mirror-layers, layers-of, to-coating};
 ghost use Rattle.thin_film.specs.declared.SurfaceCoating.the-variants as S;
 use crate::SurfaceCoating;
-use coating::Built;
-use coating::Coating;
-use coating::Layers;
-use transfer_matrix::Stack;
-use transfer_matrix::ThinFilmLayer;
+use thin_film_coating::Built;
+use thin_film_coating::Coating;
+use thin_film_coating::Layers;
+use thin_film_solver::Stack;
+use thin_film_solver::ThinFilmLayer;
 
 // The four layers of the broadband coating.
 pub fn broadband_ar() -> Built
     ensures { λ r. ⌜ r ≡ built C.Multilayer broadband-layers ⌝ }
 {
-    let mut items = preset_layers::no_layers();
-    items[0] = preset_layers::broadband(0);
-    items[1] = preset_layers::broadband(1);
-    items[2] = preset_layers::broadband(2);
-    items[3] = preset_layers::broadband(3);
+    let mut items = thin_film_presets::no_layers();
+    items[0] = thin_film_presets::broadband(0);
+    items[1] = thin_film_presets::broadband(1);
+    items[2] = thin_film_presets::broadband(2);
+    items[3] = thin_film_presets::broadband(3);
     Built {
         refusal: 0,
         coating: Coating::Multilayer,
@@ -46,12 +46,12 @@ pub fn custom_coating(coating: Coating, custom: Layers) -> Built
                     layers: custom,
                 }
             } else {
-                coating::too_many()
+                thin_film_coating::too_many()
             }
         }
-        Coating::IdealAr => coating::without_layers(Coating::IdealAr),
-        Coating::IdealMirror => coating::without_layers(Coating::IdealMirror),
-        Coating::IdealBeamsplitter => coating::without_layers(Coating::IdealBeamsplitter),
+        Coating::IdealAr => thin_film_coating::without_layers(Coating::IdealAr),
+        Coating::IdealMirror => thin_film_coating::without_layers(Coating::IdealMirror),
+        Coating::IdealBeamsplitter => thin_film_coating::without_layers(Coating::IdealBeamsplitter),
     }
 }
 
@@ -77,9 +77,9 @@ fn preset_layer(coating: SurfaceCoating, i: usize) -> ThinFilmLayer
     match coating {
         SurfaceCoating::MgF2 {
             design_wavelength_nm,
-        } => preset_layers::quarter_wave(1.38, design_wavelength_nm),
-        SurfaceCoating::HighReflectanceMirror => preset_layers::bragg(2.30, 1.46, 550.0, i),
-        _ => preset_layers::broadband(i),
+        } => thin_film_presets::quarter_wave(1.38, design_wavelength_nm),
+        SurfaceCoating::HighReflectanceMirror => thin_film_presets::bragg(2.30, 1.46, 550.0, i),
+        _ => thin_film_presets::broadband(i),
     }
 }
 
@@ -91,8 +91,8 @@ fn through_layers(coating: SurfaceCoating, far: bool, start: Stack) -> Stack
     let mut stack = start;
     let mut i = 0;
     while i < n {
-        let j = evaluation::nth_index(far, n, i);
-        stack = transfer_matrix::step(stack, preset_layer(coating, j));
+        let j = thin_film_layers::nth_index(far, n, i);
+        stack = thin_film_solver::step(stack, preset_layer(coating, j));
         i += 1;
     }
     stack
@@ -104,20 +104,20 @@ fn through_mirror(start: Stack) -> Stack
 {
     let snell = start.snell;
     let wavelength_nm = start.wavelength_nm;
-    let high = transfer_matrix::film_of(
+    let high = thin_film_solver::film_of(
         snell,
         wavelength_nm,
-        preset_layers::quarter_wave(2.30, 550.0),
+        thin_film_presets::quarter_wave(2.30, 550.0),
     );
-    let low = transfer_matrix::film_of(
+    let low = thin_film_solver::film_of(
         snell,
         wavelength_nm,
-        preset_layers::quarter_wave(1.46, 550.0),
+        thin_film_presets::quarter_wave(1.46, 550.0),
     );
-    let mut stack = transfer_matrix::join(start, high);
+    let mut stack = thin_film_solver::join(start, high);
     let mut i = 0usize;
     while i < 7 {
-        stack = transfer_matrix::join(transfer_matrix::join(stack, low), high);
+        stack = thin_film_solver::join(thin_film_solver::join(stack, low), high);
         i += 1;
     }
     stack

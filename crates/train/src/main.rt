@@ -4,8 +4,8 @@ ghost use mathlib.Core.Path.{_≡_};
 ghost use Prim.Native.Nat.{_≤_, _<_};
 ghost use Rattle.train.specs.Text.{hex-digit as hex-digit-of, hex as hex-of};
 use gate::Gated;
-use optical_train::Started;
 use refusal::Refusal;
+use train_steps::Started;
 
 // ---- numbers as text
 
@@ -70,7 +70,7 @@ fn print_surface(number: u64, reflected: bool, s: f64, p: f64) {
 
 fn print_sum(s: f64, p: f64) {
     io::write_all(1, b"sum");
-    print_bits(optical_train::sum(s, p));
+    print_bits(train_steps::sum(s, p));
     io::write_all(1, b"\n");
 }
 
@@ -95,7 +95,7 @@ fn print_surfaces(src: &[u8], count: usize, list: &[f64; 128])
 
 // The powers of the BEAM, where there is no surface.
 fn print_beam(src: &[u8]) {
-    match optical_train::start(src) {
+    match train_steps::start(src) {
         Started::Fresh(state) => print_sum(state.s, state.p),
         Started::Refused(r) => print_refusal(r),
     }
@@ -114,7 +114,7 @@ fn print_run(src: &[u8], count: usize, list: &[f64; 128])
 
 fn train(src: &[u8]) {
     let mut list = [0.0f64; 128];
-    match optical_train::run(src, &mut list) {
+    match train_steps::run(src, &mut list) {
         Gated::Admitted(count) => print_run(src, count as usize, &list),
         Gated::Refused(r) => print_refusal(r),
     }

@@ -14,7 +14,7 @@ use Rattle.sheet_surfaces.specs.Surfaces.{answers-to, surface-answers}
 use Rattle.sheet_values.specs.Nth.{nth}
 use Rattle.refusal.specs.Outcome.{Outcome, answer, refusal, map}
 use Rattle.surface.specs.declared.Powers.{Powers}
-use Rattle.limits.specs.Limits.{wavelength-passes, power-passes, beam-passes}
+use Rattle.gate_limits.specs.Limits.{wavelength-passes, power-passes, beam-passes}
 use Rattle.surface.specs.Answers.{powers}
 use Rattle.surface.specs.Finite.{UnitPowers}
 use Rattle.surface.proofs.Alone.{powers-answered}
@@ -24,9 +24,9 @@ use Rattle.sheet_values.specs.Values.{value, films, surface-value}
 use Rattle.gate.specs.Gate.{gated}
 use Rattle.gate.specs.Claim.{WithinLimits}
 use Rattle.gate.proofs.Claim.{gate-claim}
-use Rattle.optical_train.specs.declared.State.{State}
-use Rattle.optical_train.specs.declared.Stepped.{Stepped}
-use Rattle.optical_train.specs.Train.{chosen, chosen-powers, fresh, start, after-one, stepped, step, after-each, Ran, ran, run}
+use Rattle.train_steps.specs.declared.State.{State}
+use Rattle.train_steps.specs.declared.Stepped.{Stepped}
+use Rattle.train_steps.specs.Train.{chosen, chosen-powers, fresh, start, after-one, stepped, step, after-each, Ran, ran, run}
 use Rattle.sheet_surfaces.proofs.Answers.{all-nth, Good, wavelength-within, answered}
 use Rattle.train_claim.specs.Claim.{worked-out, Action, a-step, act, acts, count-steps, Falls, AllFall, AnsweredWhole, AdmittedSheet, TurnedBack, TrainClaim}
 use Rattle.train_claim.proofs.One.{one}

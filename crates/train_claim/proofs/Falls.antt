@@ -15,10 +15,10 @@ use Rattle.ieee.specs.Range.{Mag}
 use Rattle.ieee.proofs.Range.Constants.{zero-mag, zero-foot}
 use Rattle.ieee.proofs.Range.Sums.{add-mag}
 use Rattle.ieee.proofs.Range.Falls.{FromZeroToOne, zero-to-one, in-zero-to-one, to-tests, product-unit, least0-le, sum-le}
-use Rattle.limits.specs.Limits.{within, power-passes}
+use Rattle.gate_limits.specs.Limits.{within, power-passes}
 use Rattle.surface.proofs.Finite.{product-falls, sum-falls}
-use Rattle.optical_train.specs.declared.Chosen.{Chosen}
-use Rattle.optical_train.specs.declared.State.{State}
+use Rattle.train_steps.specs.declared.Chosen.{Chosen}
+use Rattle.train_steps.specs.declared.State.{State}
 use Rattle.train_claim.specs.Claim.{Falls}
 
 -- ---- a state whose powers are f64 from 0 to 1

@@ -8,9 +8,9 @@ use lib.Ieee.{ofBits}
 use lib.Ieee.Scale.{finite}
 use Rattle.ieee.specs.Functions.{abs, clamp}
 use Rattle.ieee.proofs.Signs.{of-true}
-use Rattle.trig.specs.Trig.{wrap, fold, second-fold, series, sin-at, sin, cos-at, cos-of, cos}
-use Rattle.limits.specs.Coating.{coded, interface}
-use Rattle.limits.specs.Limits.{within, beam-passes, layers-within, angle-passes, surface-passes, passes}
+use Rattle.math_trig.specs.Trig.{wrap, fold, second-fold, series, sin-at, sin, cos-at, cos-of, cos}
+use Rattle.gate_limits.specs.Coating.{coded, interface}
+use Rattle.gate_limits.specs.Limits.{within, beam-passes, layers-within, angle-passes, surface-passes, passes}
 use Rattle.sheet.specs.Sheet.{SheetSurface, Sheet, WellFormed}
 use Rattle.sheet_values.specs.Values.{films}
 use Rattle.gate.specs.Claim.{WithinLimits}

@@ -12,7 +12,7 @@ use Rattle.ieee.specs.Operators.{_⊗_}
 use Rattle.sheet.specs.Sheet.{SheetSurface, Sheet}
 use Rattle.sheet_values.specs.Nth.{nth}
 use Rattle.sheet_values.specs.Values.{value}
-use Rattle.optical_train.specs.Train.{chosen-powers, fresh, after-one}
+use Rattle.train_steps.specs.Train.{chosen-powers, fresh, after-one}
 use Rattle.train_claim.specs.Claim.{product, chosen-s, chosen-p, worked-out}
 
 one-more-s : (w x : Float) (ys : List SheetSurface) (n : ℕ) → n < length ys → product x (chosen-s w (take n ys)) ⊗ chosen-powers w (nth ys n) .s ≡ product x (chosen-s w (take (suc n) ys))

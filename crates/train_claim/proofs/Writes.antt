@@ -7,8 +7,8 @@ use lib.ListN.{length, getD, take, drop}
 use lib.Seq.{getD-append-add, getD-drop}
 use lib.Ieee.{Float}
 use Rattle.sheet.specs.Sheet.{SheetSurface}
-use Rattle.optical_train.specs.declared.State.{State}
-use Rattle.optical_train.specs.Train.{after-one, after-each}
+use Rattle.train_steps.specs.declared.State.{State}
+use Rattle.train_steps.specs.Train.{after-one, after-each}
 use Rattle.train_claim.specs.Claim.{product, chosen-s, chosen-p}
 
 module _ (w d : Float) (rest : List Float) where

@@ -18,8 +18,8 @@ use Rattle.sheet.specs.Sheet.{SheetSurface, Sheet, All, WellFormed, encode}
 use Rattle.sheet_values.specs.Values.{value, films, surface-value}
 use Rattle.gate.specs.Gate.{gated}
 use Rattle.gate.specs.Claim.{WithinLimits, GateClaim}
-use Rattle.optical_train.specs.declared.State.{State}
-use Rattle.optical_train.specs.Train.{chosen-powers, fresh, start, step, run, sum}
+use Rattle.train_steps.specs.declared.State.{State}
+use Rattle.train_steps.specs.Train.{chosen-powers, fresh, start, step, run, sum}
 
 -- ---- section 7's values, from a sheet's data alone: the BEAM's powers, multiplied in sheet order by the chosen powers of so many surfaces from the first on
 unfoldable pub product : Float → List Float → Float

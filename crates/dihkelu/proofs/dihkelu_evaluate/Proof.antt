@@ -6,11 +6,11 @@ use lib.Ieee.{Float}
 use borrow.Author.Needs.{needs}
 use Rattle.refusal.specs.declared.Refusal.{Refusal}
 use Rattle.refusal.specs.Outcome.{refused as refused-with}
-use Rattle.evaluation.specs.Walk.{outcome}
-use Rattle.flat_layers.specs.Evaluate.{evaluate}
-use Rattle.flat_layers.proofs.Plain.{of-code}
-use Rattle.call.specs.Call.{done, packed, answered}
-use Rattle.call.specs.Layout.{evaluated}
+use Rattle.thin_film_layers.specs.Walk.{outcome}
+use Rattle.c_layers.specs.Evaluate.{evaluate}
+use Rattle.c_layers.proofs.Plain.{of-code}
+use Rattle.c_call.specs.Call.{done, packed, answered}
+use Rattle.c_call.specs.Layout.{evaluated}
 use Rattle.dihkelu.proofs.Returned.{plain-sound, sound-apart, refuses, answers}
 use Rattle.dihkelu.proofs.dihkelu_evaluate.Statement.{statement}
 use Rattle.dihkelu.proofs.dihkelu_evaluate.Tie as tie

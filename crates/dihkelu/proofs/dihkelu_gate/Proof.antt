@@ -5,7 +5,7 @@ use Prim.Native.Nat.{ℕ}
 use borrow.Author.Needs.{needs}
 use Rattle.refusal.specs.Outcome.{Outcome}
 use Rattle.gate.specs.Gate.{surfaces-of, gated, gate}
-use Rattle.call.specs.Call.{Apart, returned}
+use Rattle.c_call.specs.Call.{Apart, returned}
 use Rattle.dihkelu.proofs.Places.{gate-apart}
 use Rattle.dihkelu.proofs.Returned.{apart-map}
 use Rattle.dihkelu.proofs.dihkelu_gate.Statement.{statement}

@@ -11,8 +11,8 @@ use borrow.Author.Needs.{needs}
 use Rattle.refusal.specs.Outcome.{Outcome, answer, refusal}
 use Rattle.sheet.specs.Sheet.{Sheet}
 use Rattle.gate.specs.Gate.{gated}
-use Rattle.optical_train.specs.Train.{Ran, ran, run}
-use Rattle.call.specs.Call.{done, Apart, returned}
+use Rattle.train_steps.specs.Train.{Ran, ran, run}
+use Rattle.c_call.specs.Call.{done, Apart, returned}
 use Rattle.dihkelu.specs.Train.{run-done}
 use Rattle.dihkelu.proofs.Places.{gate-apart}
 use Rattle.dihkelu.proofs.dihkelu_run.Statement.{statement}

@@ -11,9 +11,9 @@ use Rattle.sheet_values.specs.Values.{value}
 use Rattle.gate.specs.Gate as Gate
 use Rattle.gate.specs.Gate.{surfaces-of, gated, gate}
 use Rattle.gate.proofs.Admitted.{admitted, turned-back}
-use Rattle.optical_train.specs.declared.State.{State}
-use Rattle.optical_train.proofs.Fresh.{fresh-is}
-use Rattle.call.specs.Call.{reply, written, answered}
+use Rattle.train_steps.specs.declared.State.{State}
+use Rattle.train_steps.proofs.Fresh.{fresh-is}
+use Rattle.c_call.specs.Call.{reply, written, answered}
 use Rattle.dihkelu.specs.Train.{state-layout, start-layout}
 use Rattle.dihkelu.proofs.Places.{gate-apart}
 use Rattle.dihkelu.proofs.Returned.{refuses}

@@ -12,10 +12,10 @@ use borrow.Author.Tests.{eq-eqb, ne-eqb}
 use Rattle.refusal.specs.Outcome.{Outcome, answer, refusal, refused as refused-with}
 use Rattle.sheet.specs.Sheet.{Sheet}
 use Rattle.gate.specs.Gate.{gated}
-use Rattle.optical_train.specs.declared.State.{State}
-use Rattle.optical_train.specs.declared.Stepped.{Stepped}
-use Rattle.optical_train.specs.Train.{stepped, step}
-use Rattle.call.specs.Call.{Done, done, packed, Apart, written, answered}
+use Rattle.train_steps.specs.declared.State.{State}
+use Rattle.train_steps.specs.declared.Stepped.{Stepped}
+use Rattle.train_steps.specs.Train.{stepped, step}
+use Rattle.c_call.specs.Call.{Done, done, packed, Apart, written, answered}
 use Rattle.dihkelu.specs.Train.{step-layout, step-outcome}
 use Rattle.dihkelu.proofs.Places.{gate-apart}
 use Rattle.dihkelu.proofs.Returned.{refuses, answers}

@@ -4,9 +4,9 @@ use Prim.Native.Nat.{_+_, _-_}
 use native.Mathlib.Omega.{arith}
 use borrow.Author.Needs.{needs}
 use borrow.Author.Tests.{not-true, not-false}
-use Rattle.limits.specs.declared.Surface.{Surface}
-use Rattle.limits.specs.declared.Judgement.{Judgement}
-use Rattle.limits.specs.Limits.{snell-size, surface-passes, judgement}
+use Rattle.gate_limits.specs.declared.Surface.{Surface}
+use Rattle.gate_limits.specs.declared.Judgement.{Judgement}
+use Rattle.gate_limits.specs.Limits.{snell-size, surface-passes, judgement}
 use Rattle.sheet.specs.Words.{count}
 use Rattle.gate.proofs.Blocks.{Left, beam-fails, beam-holds, surface-fails, surface-inside, surface-holds, layer-fails, layer-inside, layer-holds, all-within}
 use Rattle.gate.proofs.limits.Statement.{statement}

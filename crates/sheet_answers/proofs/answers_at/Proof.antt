@@ -5,19 +5,19 @@ use lib.Ieee.{Float}
 use borrow.Author.Needs.{needs}
 use Rattle.refusal.specs.declared.Refusal.{Refusal}
 use Rattle.refusal.specs.Outcome.{Outcome, refusal, map}
-use Rattle.transfer_matrix.specs.declared.ThinFilmLayer.{ThinFilmLayer}
-use Rattle.transfer_matrix.specs.declared.CoatingResponse.{CoatingResponse}
+use Rattle.thin_film_solver.specs.declared.ThinFilmLayer.{ThinFilmLayer}
+use Rattle.thin_film_solver.specs.declared.CoatingResponse.{CoatingResponse}
 use Rattle.thin_film.specs.declared.SurfaceCoating.{SurfaceCoating}
-use Rattle.evaluation.specs.declared.Evaluation.{Evaluation}
-use Rattle.evaluation.specs.declared.Evaluation.the-variants as E
-use Rattle.evaluation.specs.Walk.{outcome}
+use Rattle.thin_film_layers.specs.declared.Evaluation.{Evaluation}
+use Rattle.thin_film_layers.specs.declared.Evaluation.the-variants as E
+use Rattle.thin_film_layers.specs.Walk.{outcome}
 use Rattle.thin_film.specs.Evaluate.{evaluate-surface}
-use Rattle.limits.specs.declared.Surface.{Surface}
-use Rattle.limits.specs.declared.Interface.{Interface}
-use Rattle.limits.specs.declared.Interface.the-variants.{Bare, Coated}
+use Rattle.gate_limits.specs.declared.Surface.{Surface}
+use Rattle.gate_limits.specs.declared.Interface.{Interface}
+use Rattle.gate_limits.specs.declared.Interface.the-variants.{Bare, Coated}
 use Rattle.surface.specs.declared.Answers.{Answers}
 use Rattle.surface.specs.declared.AnswersReply.{AnswersReply}
-use Rattle.limits.specs.Coating.{interface}
+use Rattle.gate_limits.specs.Coating.{interface}
 use Rattle.surface.specs.Answers.{bare-answers, coated-answers, answers-of, answers, returned}
 use Rattle.sheet_answers.proofs.answers_at.Statement.{statement}
 use Rattle.sheet_answers.proofs.answers_at.Tie as tie

@@ -4,14 +4,14 @@ use mathlib.Core.Bool.{Bool, true, false}
 use mathlib.Core.List.{List}
 use borrow.Author.Needs.{needs}
 use Rattle.refusal.specs.Outcome.{answer}
-use Rattle.transfer_matrix.specs.declared.CoatingResponse.{CoatingResponse}
-use Rattle.transfer_matrix.specs.declared.Stack.{Stack}
-use Rattle.transfer_matrix.specs.declared.ThinFilmLayer.{ThinFilmLayer}
-use Rattle.transfer_matrix.specs.Stack.{steps, finish}
-use Rattle.evaluation.specs.declared.Evaluation.{Evaluation}
-use Rattle.evaluation.specs.declared.Pending.{Pending}
-use Rattle.evaluation.specs.Walk as Walk
-use Rattle.evaluation.specs.Walk.{outcome, ordered}
+use Rattle.thin_film_solver.specs.declared.CoatingResponse.{CoatingResponse}
+use Rattle.thin_film_solver.specs.declared.Stack.{Stack}
+use Rattle.thin_film_solver.specs.declared.ThinFilmLayer.{ThinFilmLayer}
+use Rattle.thin_film_solver.specs.Stack.{steps, finish}
+use Rattle.thin_film_layers.specs.declared.Evaluation.{Evaluation}
+use Rattle.thin_film_layers.specs.declared.Pending.{Pending}
+use Rattle.thin_film_layers.specs.Walk as Walk
+use Rattle.thin_film_layers.specs.Walk.{outcome, ordered}
 use Rattle.sheet_answers.proofs.Behind.{many}
 use Rattle.sheet_answers.proofs.evaluate_at.Statement.{statement}
 use Rattle.sheet_answers.proofs.evaluate_at.Tie as tie

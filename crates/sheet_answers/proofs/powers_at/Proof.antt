@@ -4,15 +4,15 @@ use mathlib.Core.List.{List}
 use lib.Ieee.{Float}
 use borrow.Author.Needs.{needs}
 use Rattle.refusal.specs.Outcome.{answer, map}
-use Rattle.transfer_matrix.specs.declared.ThinFilmLayer.{ThinFilmLayer}
+use Rattle.thin_film_solver.specs.declared.ThinFilmLayer.{ThinFilmLayer}
 use Rattle.thin_film.specs.declared.SurfaceCoating.{SurfaceCoating}
-use Rattle.evaluation.specs.declared.Evaluation.{Evaluation}
-use Rattle.evaluation.specs.Walk.{outcome}
+use Rattle.thin_film_layers.specs.declared.Evaluation.{Evaluation}
+use Rattle.thin_film_layers.specs.Walk.{outcome}
 use Rattle.thin_film.specs.Evaluate.{evaluate-surface}
-use Rattle.limits.specs.declared.Surface.{Surface}
-use Rattle.limits.specs.declared.Interface.{Interface}
-use Rattle.limits.specs.declared.Interface.the-variants.{Bare, Coated}
-use Rattle.limits.specs.Coating.{interface}
+use Rattle.gate_limits.specs.declared.Surface.{Surface}
+use Rattle.gate_limits.specs.declared.Interface.{Interface}
+use Rattle.gate_limits.specs.declared.Interface.the-variants.{Bare, Coated}
+use Rattle.gate_limits.specs.Coating.{interface}
 use Rattle.surface.specs.Answers.{bare-powers, coated-powers, powers-of, powers}
 use Rattle.sheet_answers.proofs.powers_at.Statement.{statement}
 use Rattle.sheet_answers.proofs.powers_at.Tie as tie

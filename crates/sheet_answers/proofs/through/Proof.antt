@@ -6,11 +6,11 @@ use Prim.Native.Nat.{ℕ, _+_, _-_, _≤_, _<_}
 use native.Mathlib.Omega.{arith}
 use lib.ListN.{length, getD, drop}
 use borrow.Author.Needs.{needs}
-use Rattle.transfer_matrix.specs.declared.ThinFilmLayer.{ThinFilmLayer}
-use Rattle.transfer_matrix.specs.declared.Stack.{Stack}
-use Rattle.transfer_matrix.specs.Stack.{step, steps}
-use Rattle.evaluation.specs.Walk.{ordered, no-layer, nth-index}
-use Rattle.evaluation.proofs.Order.{done, as-long, within, goes-on}
+use Rattle.thin_film_solver.specs.declared.ThinFilmLayer.{ThinFilmLayer}
+use Rattle.thin_film_solver.specs.declared.Stack.{Stack}
+use Rattle.thin_film_solver.specs.Stack.{step, steps}
+use Rattle.thin_film_layers.specs.Walk.{ordered, no-layer, nth-index}
+use Rattle.thin_film_layers.proofs.Order.{done, as-long, within, goes-on}
 use Rattle.sheet_values.specs.Values.{films, layers-at}
 use Rattle.sheet_answers.proofs.Behind.{many, nth}
 use Rattle.sheet_answers.proofs.through.Statement.{statement}

@@ -13,7 +13,7 @@ use Rattle.refusal.specs.Outcome.{Outcome, answer, refusal}
 use Rattle.sheet.specs.Sheet.{Sheet}
 use Rattle.sheet.proofs.Scan.{never}
 use Rattle.gate.specs.Gate.{gated, outcome}
-use Rattle.optical_train.specs.Train.{Ran, ran, run}
+use Rattle.train_steps.specs.Train.{Ran, ran, run}
 use Rattle.train.proofs.train.Statement.{statement}
 use Rattle.train.proofs.train.Tie as tie
 

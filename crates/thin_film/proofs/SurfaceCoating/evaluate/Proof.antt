@@ -39,33 +39,33 @@ use denote.Triple.Table.{entered, cited}
 use denote.Triple.Clauses.{ensured, lasts}
 use denote.Triple.Walked.{says, Stays, stay-dropped, walkOf, goes-dropped, Walks, ends-at, walked, walk-meets}
 use denote.Exit.{yes}
-use Rattle.transfer_matrix.specs.declared.ThinFilmLayer.{ThinFilmLayer}
-use Rattle.transfer_matrix.proofs.ThinFilmLayer as L
+use Rattle.thin_film_solver.specs.declared.ThinFilmLayer.{ThinFilmLayer}
+use Rattle.thin_film_solver.proofs.ThinFilmLayer as L
 use Rattle.thin_film.specs.declared.SurfaceCoating.{SurfaceCoating}
-use Rattle.evaluation.specs.declared.Pending.{Pending}
-use Rattle.evaluation.specs.declared.Evaluation.{Evaluation}
-use Rattle.evaluation.specs.Walk.{outcome}
+use Rattle.thin_film_layers.specs.declared.Pending.{Pending}
+use Rattle.thin_film_layers.specs.declared.Evaluation.{Evaluation}
+use Rattle.thin_film_layers.specs.Walk.{outcome}
 use Rattle.thin_film.specs.Evaluate.{evaluate-surface}
-use Rattle.evaluation.specs.Walk as Walk
-use Rattle.evaluation.proofs.Lent.{Through, Conclude, v, to-through, goes-through, through-said, to-conclude, goes-conclude, conclude-said}
+use Rattle.thin_film_layers.specs.Walk as Walk
+use Rattle.thin_film_layers.proofs.Lent.{Through, Conclude, v, to-through, goes-through, through-said, to-conclude, goes-conclude, conclude-said}
 use Rattle.thin_film.proofs.SurfaceCoating as T
 use Rattle.thin_film.proofs.SurfaceCoating.Laws as T′
-use Rattle.evaluation.proofs.Evaluation as E
-use Rattle.evaluation.proofs.Evaluation.Laws as E′
-use Rattle.evaluation.proofs.Pending as S
-use Rattle.evaluation.proofs.Pending.Laws as S′
+use Rattle.thin_film_layers.proofs.Evaluation as E
+use Rattle.thin_film_layers.proofs.Evaluation.Laws as E′
+use Rattle.thin_film_layers.proofs.Pending as S
+use Rattle.thin_film_layers.proofs.Pending.Laws as S′
 use Rattle.thin_film.proofs.reading.prepare_surface as prepare
 use Rattle.thin_film.proofs.reading.prepare_surface.Symbol as prepare-def
 use Rattle.thin_film.proofs.reading.prepare_surface.Symbol.{name as #thin-film·prepare-surface}
 use Rattle.thin_film.proofs.reading.prepare_surface.Met as prepare-thm
-use Rattle.evaluation.proofs.through as through
-use Rattle.evaluation.proofs.through.Symbol as through-def
-use Rattle.evaluation.proofs.through.Symbol.{name as #evaluation·through}
-use Rattle.evaluation.proofs.through.Met as through-thm
-use Rattle.evaluation.proofs.conclude as conclude
-use Rattle.evaluation.proofs.conclude.Symbol as conclude-def
-use Rattle.evaluation.proofs.conclude.Symbol.{name as #evaluation·conclude}
-use Rattle.evaluation.proofs.conclude.Met as conclude-thm
+use Rattle.thin_film_layers.proofs.through as through
+use Rattle.thin_film_layers.proofs.through.Symbol as through-def
+use Rattle.thin_film_layers.proofs.through.Symbol.{name as #evaluation·through}
+use Rattle.thin_film_layers.proofs.through.Met as through-thm
+use Rattle.thin_film_layers.proofs.conclude as conclude
+use Rattle.thin_film_layers.proofs.conclude.Symbol as conclude-def
+use Rattle.thin_film_layers.proofs.conclude.Symbol.{name as #evaluation·conclude}
+use Rattle.thin_film_layers.proofs.conclude.Met as conclude-thm
 use Rattle.thin_film.proofs.SurfaceCoating.evaluate.Key.{name as #thin-film·evaluate}
 use Rattle.thin_film.proofs.SurfaceCoating.evaluate as f
 use Rattle.thin_film.proofs.SurfaceCoating.evaluate.Statement as stated

@@ -1,8 +1,8 @@
 -- `thin_film::SurfaceCoating::evaluate_without_layers` meets its contract. Assumes nothing.
 use mathlib.Core.Path.{refl, sym, _∙_, ap}
 use mathlib.Core.List.{[]}
-use Rattle.evaluation.specs.Walk.{outcome, conclude}
-use Rattle.evaluation.proofs.Order.{none-lent}
+use Rattle.thin_film_layers.specs.Walk.{outcome, conclude}
+use Rattle.thin_film_layers.proofs.Order.{none-lent}
 use borrow.Author.Needs.{needs}
 use Rattle.thin_film.proofs.SurfaceCoating.evaluate_without_layers.Statement.{statement}
 use Rattle.thin_film.proofs.SurfaceCoating.evaluate_without_layers.Tie as tie

@@ -1,5 +1,5 @@
 -- `thin_film::presets::broadband_ar` meets its contract. Assumes nothing.
-use Rattle.preset_layers.specs.Layers.{broadband-layers}
+use Rattle.thin_film_presets.specs.Layers.{broadband-layers}
 use borrow.Author.Needs.{needs}
 use Rattle.thin_film.proofs.presets.broadband_ar.Statement.{statement}
 use Rattle.thin_film.proofs.presets.broadband_ar.Tie as tie

@@ -2,12 +2,12 @@
 use mathlib.Core.Path.{_≡_, refl, sym, _∙_, ap}
 use mathlib.Core.List.{[]}
 use lib.ListN.{length}
-use Rattle.coating.specs.declared.Coating.{Coating}
-use Rattle.coating.specs.declared.Coating.the-variants as C
+use Rattle.thin_film_coating.specs.declared.Coating.{Coating}
+use Rattle.thin_film_coating.specs.declared.Coating.the-variants as C
 use Rattle.thin_film.specs.declared.SurfaceCoating.{SurfaceCoating}
 use Rattle.thin_film.specs.declared.SurfaceCoating.the-variants as S
 use Rattle.thin_film.specs.Coating.{layers-of, mgf2-layers, mirror-layers}
-use Rattle.preset_layers.specs.Layers.{broadband-layers, bragg-layers}
+use Rattle.thin_film_presets.specs.Layers.{broadband-layers, bragg-layers}
 use borrow.Author.Needs.{needs}
 use Rattle.thin_film.proofs.presets.preset_count.Statement.{statement}
 use Rattle.thin_film.proofs.presets.preset_count.Tie as tie

@@ -8,15 +8,15 @@ use lib.ListN.{length, getD}
 use lib.Ieee.{Float}
 use types.Run.{OneOf, miss}
 use denote.Enum.Declared.{tagOf}
-use Rattle.transfer_matrix.specs.declared.ThinFilmLayer.{ThinFilmLayer}
-use Rattle.transfer_matrix.specs.Solve.{dielectric}
-use Rattle.coating.specs.declared.Coating.the-variants as C
+use Rattle.thin_film_solver.specs.declared.ThinFilmLayer.{ThinFilmLayer}
+use Rattle.thin_film_solver.specs.Solve.{dielectric}
+use Rattle.thin_film_coating.specs.declared.Coating.the-variants as C
 use Rattle.thin_film.specs.declared.SurfaceCoating.{SurfaceCoating}
 use Rattle.thin_film.specs.declared.SurfaceCoating.the-variants as S
 use Rattle.thin_film.specs.Coating.{n-mgf2, standard-wavelength, mgf2-layers, mirror-layers, layers-of}
-use Rattle.preset_layers.specs.Layers.{n-sio2, n-tio2, quarter-wave, bragg-layers, broadband-layers, broadband-last}
-use Rattle.preset_layers.proofs.Nth.{default, alike}
-use Rattle.evaluation.specs.Walk.{no-layer}
+use Rattle.thin_film_presets.specs.Layers.{n-sio2, n-tio2, quarter-wave, bragg-layers, broadband-layers, broadband-last}
+use Rattle.thin_film_presets.proofs.Nth.{default, alike}
+use Rattle.thin_film_layers.specs.Walk.{no-layer}
 use Rattle.thin_film.proofs.SurfaceCoating.{the-type}
 use borrow.Author.Needs.{needs}
 use Rattle.thin_film.proofs.presets.preset_layer.Statement.{statement}

@@ -5,12 +5,12 @@ use mathlib.Core.Path.{_≡_, refl, sym, _∙_, ap}
 use mathlib.Core.Bool.{Bool}
 use mathlib.Core.List.{List, []}
 use lib.ListN.{length, getD, drop}
-use Rattle.transfer_matrix.specs.declared.ThinFilmLayer.{ThinFilmLayer}
-use Rattle.transfer_matrix.specs.declared.Stack.{Stack}
-use Rattle.transfer_matrix.specs.Stack.{step, steps}
+use Rattle.thin_film_solver.specs.declared.ThinFilmLayer.{ThinFilmLayer}
+use Rattle.thin_film_solver.specs.declared.Stack.{Stack}
+use Rattle.thin_film_solver.specs.Stack.{step, steps}
 use Rattle.thin_film.specs.Coating.{layers-of}
-use Rattle.evaluation.specs.Walk.{ordered, no-layer, nth-index}
-use Rattle.evaluation.proofs.Order.{done, as-long, within, goes-on}
+use Rattle.thin_film_layers.specs.Walk.{ordered, no-layer, nth-index}
+use Rattle.thin_film_layers.proofs.Order.{done, as-long, within, goes-on}
 use borrow.Author.Needs.{needs}
 use Rattle.thin_film.proofs.presets.through_layers.Statement.{statement}
 use Rattle.thin_film.proofs.presets.through_layers.Tie as tie

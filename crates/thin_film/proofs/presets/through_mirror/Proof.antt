@@ -2,9 +2,9 @@
 use Prim.Native.Nat.{ℕ, _-_, _≤_}
 use native.Mathlib.Omega.{arith}
 use mathlib.Core.Path.{_≡_, ap, _∙_}
-use Rattle.transfer_matrix.specs.declared.Stack.{Stack}
-use Rattle.transfer_matrix.specs.Stack.{film-of, steps}
-use Rattle.preset_layers.specs.Layers.{n-sio2, n-tio2}
+use Rattle.thin_film_solver.specs.declared.Stack.{Stack}
+use Rattle.thin_film_solver.specs.Stack.{film-of, steps}
+use Rattle.thin_film_presets.specs.Layers.{n-sio2, n-tio2}
 use Rattle.thin_film.specs.Coating.{standard-wavelength, mirror-layers}
 use Rattle.thin_film.proofs.Mirror.{layers, Films, first, next}
 use borrow.Author.Needs.{needs}

@@ -2,9 +2,9 @@
 use mathlib.Core.Path.{_≡_, sym, ap, _∙_}
 use mathlib.Core.Bool.{Bool}
 use mathlib.Core.List.{[]}
-use Rattle.transfer_matrix.specs.declared.Stack.{Stack}
-use Rattle.transfer_matrix.specs.Stack.{steps}
-use Rattle.evaluation.specs.Walk.{ordered}
+use Rattle.thin_film_solver.specs.declared.Stack.{Stack}
+use Rattle.thin_film_solver.specs.Stack.{steps}
+use Rattle.thin_film_layers.specs.Walk.{ordered}
 use Rattle.thin_film.specs.declared.SurfaceCoating.{SurfaceCoating}
 use Rattle.thin_film.specs.declared.SurfaceCoating.the-variants as S
 use Rattle.thin_film.specs.Coating.{mirror-layers, layers-of}

@@ -8,20 +8,20 @@ use lib.ListN.{length}
 use lib.Ieee.{Float}
 use borrow.Author.Tests.{not-true, not-false}
 use Rattle.refusal.specs.Outcome.{answer}
-use Rattle.transfer_matrix.specs.declared.CoatingResponse.{CoatingResponse}
-use Rattle.transfer_matrix.specs.declared.Stack.{Stack}
-use Rattle.transfer_matrix.specs.Stack.{begin, steps, finish}
-use Rattle.transfer_matrix.proofs.Steps.{evaluates}
-use Rattle.coating.specs.declared.Coating.the-variants as C
+use Rattle.thin_film_solver.specs.declared.CoatingResponse.{CoatingResponse}
+use Rattle.thin_film_solver.specs.declared.Stack.{Stack}
+use Rattle.thin_film_solver.specs.Stack.{begin, steps, finish}
+use Rattle.thin_film_solver.proofs.Steps.{evaluates}
+use Rattle.thin_film_coating.specs.declared.Coating.the-variants as C
 use Rattle.thin_film.specs.declared.SurfaceCoating.{SurfaceCoating}
 use Rattle.thin_film.specs.declared.SurfaceCoating.the-variants as S
 use Rattle.thin_film.specs.Coating.{layers-of, mgf2-layers, mirror-layers}
-use Rattle.evaluation.specs.Walk.{ordered}
-use Rattle.preset_layers.specs.Layers.{broadband-layers, bragg-layers}
-use Rattle.before_layers.specs.Valid.{valid}
-use Rattle.coating.specs.Evaluate.{evaluate-coating}
-use Rattle.evaluation.proofs.Order.{as-long}
-use Rattle.coating.proofs.Answers.{invalid, solved}
+use Rattle.thin_film_layers.specs.Walk.{ordered}
+use Rattle.thin_film_presets.specs.Layers.{broadband-layers, bragg-layers}
+use Rattle.thin_film_valid.specs.Valid.{valid}
+use Rattle.thin_film_coating.specs.Evaluate.{evaluate-coating}
+use Rattle.thin_film_layers.proofs.Order.{as-long}
+use Rattle.thin_film_coating.proofs.Answers.{invalid, solved}
 use borrow.Author.Needs.{needs}
 use Rattle.thin_film.proofs.reading.evaluate_preset.Statement.{statement}
 use Rattle.thin_film.proofs.reading.evaluate_preset.Tie as tie

@@ -5,18 +5,18 @@ use mathlib.Core.List.{List, [], _∷_}
 use lib.Ieee.{Float, lt}
 use types.Run.{OneOf, miss}
 use denote.Enum.Declared.{tagOf}
-use Rattle.transfer_matrix.specs.declared.ThinFilmLayer.{ThinFilmLayer}
-use Rattle.coating.specs.declared.Coating.{Coating}
-use Rattle.coating.specs.declared.Coating.the-variants as C
+use Rattle.thin_film_solver.specs.declared.ThinFilmLayer.{ThinFilmLayer}
+use Rattle.thin_film_coating.specs.declared.Coating.{Coating}
+use Rattle.thin_film_coating.specs.declared.Coating.the-variants as C
 use Rattle.thin_film.specs.declared.SurfaceCoating.{SurfaceCoating}
 use Rattle.thin_film.specs.declared.SurfaceCoating.the-variants as S
 use Rattle.thin_film.specs.Coating.{layers-of}
-use Rattle.evaluation.specs.Walk.{ordered}
-use Rattle.coating.specs.Evaluate.{respond, evaluate-coating}
+use Rattle.thin_film_layers.specs.Walk.{ordered}
+use Rattle.thin_film_coating.specs.Evaluate.{respond, evaluate-coating}
 use Rattle.thin_film.specs.Evaluate.{evaluate-surface}
 use Rattle.thin_film.proofs.SurfaceCoating.{the-type}
-use Rattle.evaluation.proofs.Answers.{at-once}
-use Rattle.coating.proofs.Answers.{prepared}
+use Rattle.thin_film_layers.proofs.Answers.{at-once}
+use Rattle.thin_film_coating.proofs.Answers.{prepared}
 use borrow.Author.Needs.{needs}
 use Rattle.thin_film.proofs.reading.prepare_surface.Statement.{statement}
 use Rattle.thin_film.proofs.reading.prepare_surface.Tie as tie

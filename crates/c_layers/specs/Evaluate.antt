@@ -1,0 +1,31 @@
+-- SurfaceCoating::evaluate of a coating by its code, its layers in a flat list. Definitions only.
+use Prim.Native.Nat.{ℕ, _%_}
+use mathlib.Core.Bool.{cond}
+use mathlib.Core.List.{List, [], _∷_}
+use lib.Dec.{eqb}
+use lib.ListN.{length}
+use lib.Ieee.{Float}
+use Rattle.refusal.specs.Outcome.{Outcome, invalid-parameter}
+use Rattle.thin_film_solver.specs.declared.ThinFilmLayer.{ThinFilmLayer}
+use Rattle.thin_film_solver.specs.declared.CoatingResponse.{CoatingResponse}
+use Rattle.thin_film.specs.Evaluate.{evaluate-surface}
+use Rattle.gate_limits.specs.declared.Interface.{Interface}
+use Rattle.gate_limits.specs.declared.Interface.the-variants.{Bare, Coated}
+use Rattle.gate_limits.specs.Coating.{coded}
+
+-- n, k and thickness of one layer after the other; one or two numbers past the last layer are none
+unfoldable pub layers : List Float → List ThinFilmLayer
+layers [] = []
+layers (n ∷ []) = []
+layers (n ∷ k ∷ []) = []
+layers (n ∷ k ∷ thickness ∷ flat) = record { n = n; k = k; «thickness_nm» = thickness } ∷ layers flat
+
+-- SurfaceCoating::evaluate of a coating; where a code has none it is 1
+unfoldable pub evaluate-coded : Interface → List Float → Float → Float → Float → Float → Outcome CoatingResponse
+evaluate-coded (Coated surface) flat n-incident n-substrate angle wavelength = evaluate-surface surface (layers flat) n-incident n-substrate angle wavelength
+evaluate-coded Bare flat n-incident n-substrate angle wavelength = invalid-parameter
+
+-- 1 for a flat list that is no multiple of 3
+unfoldable pub evaluate : ℕ → Float → Float → Float → Float → Float → List Float → Outcome CoatingResponse
+evaluate code design n-incident n-substrate angle wavelength flat =
+    cond (eqb (length flat % 3) 0) (evaluate-coded (coded code design) flat n-incident n-substrate angle wavelength) invalid-parameter

@@ -1,0 +1,20 @@
+-- `math_trig::fold` meets its contract. Assumes nothing.
+use Rattle.math_trig.specs.Trig.{wrap, fold}
+use Rattle.math_trig.proofs.Constants.{minus-pi-is}
+use Rattle.math_trig.proofs.fold.Statement.{statement}
+use Rattle.math_trig.proofs.fold.Tie as tie
+
+returns : tie.Need-returns
+unfolding fold wrap
+returns c = simp (c .if1 .taken)
+
+returns-2 : tie.Need-returns-2
+unfolding fold wrap
+returns-2 c = simp (c .before .if1 .left, minus-pi-is, c .if2 .taken)
+
+returns-3 : tie.Need-returns-3
+unfolding fold wrap
+returns-3 c = simp (c .before .if1 .left, minus-pi-is, c .if2 .left)
+
+pub fold-spec : {M : Type 1} → statement M
+fold-spec = tie.close (tie.spec returns returns-2 returns-3)

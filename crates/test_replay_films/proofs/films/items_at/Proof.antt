@@ -1,0 +1,28 @@
+-- `test_replay_films::films::items_at` is safe and ends. Assumes nothing.
+use Prim.Native.Nat.{_-_, _≤_}
+use borrow.Author.Needs.{needs}
+use Rattle.test_replay_films.proofs.films.items_at.Statement.{statement}
+use Rattle.test_replay_films.proofs.films.items_at.Tie as tie
+
+abbrev Inv-loop : tie.InvT-loop
+Inv-loop a from items₀ i₀ items i = i ≤ 72
+
+abbrev μ-loop : tie.MeasureT-loop
+μ-loop a from items₀ i₀ items i = 72 - i
+
+pub items-at-spec : {M : Type 1} → statement M
+items-at-spec =
+    tie.close
+    (tie.spec
+    Inv-loop
+    μ-loop
+    (λ c. search needs)
+    (λ c. search needs)
+    (λ c. search needs)
+    (λ c κs. search needs)
+    (λ c. search needs)
+    (λ c. search needs)
+    (λ c. search needs)
+    (λ c. search needs)
+    (λ c. search needs)
+    (λ c. search needs))

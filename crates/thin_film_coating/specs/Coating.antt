@@ -1,0 +1,43 @@
+-- `Coating` of thin_film.rs with its layers by value. Definitions only.
+use Prim.Native.Nat.{ℕ, _-_}
+use mathlib.Core.Bool.{cond}
+use mathlib.Core.List.{List, [], _∷_, _++_}
+use lib.Dec.{leb}
+use lib.ListN.{length, replicate}
+use lib.Ieee.{Float, binary64}
+use Rattle.ieee.specs.Operators.{_⊗_}
+use Rattle.math_root.specs.Root.{squareRoot}
+use Rattle.thin_film_solver.specs.declared.ThinFilmLayer.{ThinFilmLayer}
+use Rattle.thin_film_solver.specs.Solve.{dielectric}
+use Rattle.thin_film_layers.specs.Walk.{no-layer}
+use Rattle.thin_film_presets.specs.Layers.{quarter-wave, bragg-layers}
+use Rattle.thin_film_coating.specs.declared.Coating.{Coating}
+use Rattle.thin_film_coating.specs.declared.Coating.the-variants as C
+use Rattle.thin_film_coating.specs.declared.Layers.{Layers}
+use Rattle.thin_film_coating.specs.declared.Built.{Built}
+
+-- quarter_wave_ar: n_opt = (n_ambient * n_substrate).sqrt()
+unfoldable pub quarter-wave-layers : Float → Float → Float → List ThinFilmLayer
+quarter-wave-layers n-ambient n-substrate design =
+    let n-opt = squareRoot binary64 (n-ambient ⊗ n-substrate) in
+    dielectric n-opt (quarter-wave design n-opt) ∷ []
+
+-- the layers in the first of 64 places
+abbrev pub layers-in : List ThinFilmLayer → Layers
+layers-in layers = record { items = layers ++ replicate (64 - length layers) no-layer; count = length layers }
+
+-- a coating and its layers
+abbrev pub built : Coating → List ThinFilmLayer → Built
+built coating layers = record { refusal = 0; coating = coating; layers = layers-in layers }
+
+-- 3: more layers than there are places for
+abbrev pub too-many : Built
+too-many = record { refusal = 3; coating = C.IdealAr; layers = layers-in [] }
+
+-- quarter_wave_ar
+abbrev pub quarter-wave-ar : Float → Float → Float → Built
+quarter-wave-ar n-ambient n-substrate design = built C.Multilayer (quarter-wave-layers n-ambient n-substrate design)
+
+-- bragg_mirror; 3 over 31 pairs
+abbrev pub bragg-mirror : Float → Float → ℕ → Float → Built
+bragg-mirror n-high n-low pairs design = cond (leb pairs 31) (built C.Multilayer (bragg-layers n-high n-low pairs design)) too-many

@@ -1,0 +1,87 @@
+-- 01 section 7: the train. Definitions only.
+use mathlib.Core.Bool.{Bool, cond}
+use mathlib.Core.List.{List, [], _∷_, _++_}
+use Prim.Native.Nat.{ℕ, _+_, _*_}
+use lib.Dec.{leb, ltb}
+use lib.ListN.{length, drop}
+use lib.Ieee.{Float, nan}
+use Rattle.ieee.specs.Operators.{_⊗_, _⊕_}
+use Rattle.refusal.specs.Outcome.{Outcome, answer, refusal, refused, map}
+use Rattle.surface.specs.declared.Powers.{Powers}
+use Rattle.surface.specs.Answers.{powers}
+use Rattle.sheet.specs.Sheet.{SheetSurface, Sheet}
+use Rattle.sheet_values.specs.Nth.{nth}
+use Rattle.sheet_values.specs.Values.{value, films, surface-value}
+use Rattle.gate.specs.Gate.{gated}
+use Rattle.train_steps.specs.declared.Chosen.{Chosen}
+use Rattle.train_steps.specs.declared.State.{State}
+use Rattle.train_steps.specs.declared.Started.{Started}
+use Rattle.train_steps.specs.declared.Started.the-variants as S
+use Rattle.train_steps.specs.declared.Stepped.{Stepped}
+
+-- ---- a surface
+-- the R_s or T_s and the R_p or T_p of its answers, as chosen by the lowest payload bit
+abbrev pub chosen : Bool → Powers → Chosen
+chosen reflected r = record { s = cond reflected (r .«reflectance_s») (r .«transmittance_s»); p = cond reflected (r .«reflectance_p») (r .«transmittance_p») }
+
+-- NaN where a surface has no powers, which no surface within the limits is without (crate `train_claim`)
+abbrev pub chosen-of : Bool → Outcome Powers → Chosen
+chosen-of reflected (answer r) = chosen reflected r
+chosen-of reflected (refusal number place) = record { s = nan; p = nan }
+
+unfoldable pub chosen-powers : Float → SheetSurface → Chosen
+chosen-powers wavelength y = chosen-of (surface-value y .reflected) (powers wavelength (surface-value y) (films (y .layers)))
+
+-- ---- Start: 0 and the BEAM's powers; a train in that state is fresh
+abbrev pub fresh : Sheet → State
+fresh x = record { done = 0; s = value (x .s); p = value (x .p) }
+
+unfoldable pub start : List ℕ → Outcome State
+start src = map fresh (gated src)
+
+-- document 01's number and values for each case
+abbrev pub outcome : Started → Outcome State
+outcome (S.Fresh st) = answer st
+outcome (S.Refused r) = refused r
+
+-- Sum is s + p
+abbrev pub sum : Float → Float → Float
+sum s p = s ⊕ p
+
+-- ---- a step takes the surface after those done: it multiplies s and p by its chosen powers and adds one to the surfaces done
+unfoldable pub after-one : Float → State → SheetSurface → State
+after-one wavelength st y = let c = chosen-powers wavelength y in record { done = st .done + 1; s = st .s ⊗ c .s; p = st .p ⊗ c .p }
+
+-- a refusal's number is 0 where there is none; 7 when surfaces done is the sheet's count or more; the state is as before where the step is refused
+abbrev pub stepped : State → Outcome Sheet → Stepped
+stepped st (answer x) =
+    cond (ltb (st .done) (length (x .surfaces)))
+    (record { refusal = record { number = 0; place = 0 }; state = after-one (value (x .wavelength)) st (nth (x .surfaces) (st .done)) })
+    (record { refusal = record { number = 7; place = 0 }; state = st })
+stepped st (refusal number place) = record { refusal = record { number = number; place = place }; state = st }
+
+-- it gates the sheet anew
+unfoldable pub step : List ℕ → State → Stepped
+step src st = stepped st (gated src)
+
+-- ---- a whole run: s, p after each surface, as one step after another gives them
+unfoldable pub after-each : Float → State → List SheetSurface → List Float
+after-each wavelength st [] = []
+after-each wavelength st (y ∷ ys) = let next = after-one wavelength st y in next .s ∷ next .p ∷ after-each wavelength next ys
+
+-- the count of surfaces or a refusal, and the lent list
+pub record Ran : Type 0 where
+  pub result : Outcome ℕ
+  pub list : List Float
+
+-- 8 when the list is shorter than 2 × surfaces; the rest of a longer list is untouched
+abbrev pub ran : List Float → Outcome Sheet → Ran
+ran list (answer x) =
+    let n = length (x .surfaces) in
+    cond (leb (2 * n) (length list))
+    (record { result = answer n; list = after-each (value (x .wavelength)) (fresh x) (x .surfaces) ++ drop (2 * n) list })
+    (record { result = refusal 8 0; list = list })
+ran list (refusal number place) = record { result = refusal number place; list = list }
+
+unfoldable pub run : List ℕ → List Float → Ran
+run src list = ran list (gated src)

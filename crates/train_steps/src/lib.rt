@@ -1,0 +1,180 @@
+// The train of document 01, section 7: start, step and whole run. Each is handed the sheet's bytes and
+// gates them anew.
+ghost use mathlib.Core.Path.{_≡_};
+ghost use mathlib.Core.List.{_++_};
+ghost use Prim.Native.Nat.{_+_, _*_, _≤_, _<_};
+ghost use lib.ListN.{length, drop};
+ghost use Rattle.sheet.specs.Sheet.{Sheet};
+ghost use Rattle.sheet.specs.Read.{read, decode, surface-at};
+ghost use Rattle.sheet.specs.Scan.{layer-run};
+ghost use Rattle.sheet_values.specs.Values.{layers-at};
+ghost use Rattle.gate.specs.Gate as Gate;
+ghost use Rattle.train_steps.specs.Train.{chosen, chosen-powers, fresh, start, outcome, after-one, step, after-each, run, sum};
+use gate::Gated;
+use refusal::Refusal;
+use sheet_answers::PowersReply;
+use surface::Powers;
+
+// ---- a surface
+
+// The powers of a surface that s and p are multiplied by.
+pub struct Chosen {
+    pub s: f64,
+    pub p: f64,
+}
+
+// Those of the reflected or of the transmitted light.
+fn choose(reflected: bool, r: Powers) -> Chosen
+    ensures { λ c. ⌜ c ≡ chosen reflected r ⌝ }
+{
+    if reflected {
+        Chosen {
+            s: r.reflectance_s,
+            p: r.reflectance_p,
+        }
+    } else {
+        Chosen {
+            s: r.transmittance_s,
+            p: r.transmittance_p,
+        }
+    }
+}
+
+// Of the surface at a place with the n LAYERs behind it. No surface within the limits is refused.
+fn chosen_at(src: &[u8], at: usize, n: usize, wavelength_nm: f64) -> Chosen
+    ensures { λ r. ⌜ r ≡ chosen-powers «wavelength_nm» (surface-at (now (src .entry)) at (layers-at (now (src .entry)) (at + 7) n)) ⌝ }
+{
+    match sheet_answers::powers_at(src, at, n, wavelength_nm) {
+        PowersReply::Powers(r) => choose(sheet_values::surface_at(src, at).reflected, r),
+        PowersReply::Refused(_) => Chosen {
+            s: 0.0 / 0.0,
+            p: 0.0 / 0.0,
+        },
+    }
+}
+
+// ---- the train
+
+// Document 01's State: surfaces done, s and p.
+pub struct State {
+    pub done: u32,
+    pub s: f64,
+    pub p: f64,
+}
+
+pub fn sum(s: f64, p: f64) -> f64
+    ensures { λ r. ⌜ r ≡ sum s p ⌝ }
+{
+    s + p
+}
+
+// A fresh train, or a refusal.
+pub enum Started {
+    Fresh(State),
+    Refused(Refusal),
+}
+
+// A train before the first surface of its sheet.
+pub fn start(src: &[u8]) -> Started
+    ensures { λ r. ⌜ outcome r ≡ start (now (src .entry)) ⌝ }
+{
+    match gate::gate(src) {
+        Gated::Admitted(_) => Started::Fresh(State {
+            done: 0,
+            s: sheet::float_from(src, 4),
+            p: sheet::float_from(src, 6),
+        }),
+        Gated::Refused(r) => Started::Refused(r),
+    }
+}
+
+// A state, and a refusal, whose number is 0 where there is none.
+pub struct Stepped {
+    pub refusal: Refusal,
+    pub state: State,
+}
+
+// The state after the surface whose SURFACE word is at a place.
+fn after_one(src: &[u8], at: usize, wavelength_nm: f64, state: State) -> State
+    requires { ⌜ state .done < 0xFFFF_FFFF ⌝ }
+    ensures { λ r. ⌜ r ≡ after-one «wavelength_nm» state (surface-at (now (src .entry)) at (layers-at (now (src .entry)) (at + 7) (layer-run 16 (now (src .entry)) at))) ⌝ }
+{
+    let c = chosen_at(src, at, sheet::layer_run(src, at), wavelength_nm);
+    State {
+        done: state.done + 1,
+        s: state.s * c.s,
+        p: state.p * c.p,
+    }
+}
+
+// One surface on from any state; a refusal returns the state as it was.
+pub fn step(src: &[u8], state: State) -> Stepped
+    ensures { λ r. ⌜ r ≡ step (now (src .entry)) state ⌝ }
+{
+    match gate::gate(src) {
+        Gated::Admitted(count) => {
+            if state.done >= count {
+                return Stepped {
+                    refusal: Refusal {
+                        number: 7,
+                        place: 0,
+                    },
+                    state,
+                };
+            }
+            let at = sheet_values::place_of(src, state.done);
+            let next = after_one(src, at, sheet::float_from(src, 2), state);
+            Stepped {
+                refusal: Refusal {
+                    number: 0,
+                    place: 0,
+                },
+                state: next,
+            }
+        }
+        Gated::Refused(refusal) => Stepped { refusal, state },
+    }
+}
+
+// ---- a whole run
+
+// The powers after each of count surfaces, written to a list that has room for them.
+fn write_each(src: &[u8], count: usize, wavelength_nm: f64, list: &mut [f64])
+    requires { ⌜ (count ≤ 0xFFFF_FFFF) × (2 * count ≤ length (now list)) ⌝ }
+    ensures { λ r. ⌜ ((x : Sheet) → decode (now (src .entry)) ≡ read x → length (x .surfaces) ≡ count → now (list .exit) ≡ after-each «wavelength_nm» (fresh x) (x .surfaces) ++ drop (2 * count) (now (list .entry))) ⌝ }
+{
+    let mut s = sheet::float_from(src, 4);
+    let mut p = sheet::float_from(src, 6);
+    let mut at = 8;
+    let mut i = 0;
+    while i < count {
+        let n = sheet::layer_run(src, at);
+        let c = chosen_at(src, at, n, wavelength_nm);
+        s = s * c.s;
+        p = p * c.p;
+        list[2 * i] = s;
+        list[2 * i + 1] = p;
+        at += 7 + 7 * n;
+        i += 1;
+    }
+}
+
+// A run over the whole sheet from its start: s, p after each surface go to the lent list.
+pub fn run(src: &[u8], list: &mut [f64]) -> Gated
+    ensures { λ r. ⌜ record { result = Gate.outcome r; list = now (list .exit) } ≡ run (now (src .entry)) (now (list .entry)) ⌝ }
+{
+    match gate::gate(src) {
+        Gated::Admitted(count) => {
+            let n = count as usize;
+            if list.len() < 2 * n {
+                return Gated::Refused(Refusal {
+                    number: 8,
+                    place: 0,
+                });
+            }
+            write_each(src, n, sheet::float_from(src, 2), list);
+            Gated::Admitted(count)
+        }
+        Gated::Refused(r) => Gated::Refused(r),
+    }
+}
