@@ -1,53 +1,53 @@
 -- The gate's claim. Assumes nothing.
 use mathlib.Core.Path.{_≡_, refl, sym, ap, _∙_, subst}
-use mathlib.Core.Logic.{_⊎_, inl, inr}
 use mathlib.Core.Bool.{Bool, true, false, cond}
-use mathlib.Core.List.{List}
-use Prim.Native.Nat.{ℕ}
+use mathlib.Core.Logic.{_⊎_, inl, inr}
+use mathlib.Core.List.{List, [], _∷_}
+use Prim.Native.Nat.{ℕ, zero, suc, _<_}
 use native.Mathlib.Omega.{arith}
 use lib.Dec.{T}
+use lib.ListN.{length, getD}
 use lib.Ieee.Bits.{is-true}
 use Rattle.ieee.proofs.Signs.{of-true}
 use Rattle.refusal.specs.Outcome.{Outcome, answer, refusal}
-use Rattle.sheet.specs.Sheet.{Sheet, WellFormed, encode}
-use Rattle.sheet.specs.Read.{Result, read, fault, decode}
+use Rattle.sheet.specs.Blocks.{Result, read, fault}
+use Rattle.sheet.specs.Sheet.{Sheet, WellFormed, blocks, encode, places}
+use Rattle.sheet.specs.Read.{decode, graded}
 use Rattle.sheet.specs.Claim.{Bytes, length-fits, Fault}
 use Rattle.sheet.proofs.Claim.{grammar-claim}
-use Rattle.gate.specs.Gate.{tests, judged, within-limits, gated}
+use Rattle.gate.specs.Gate.{verdicts, judged, within-limits, gated}
 use Rattle.gate.specs.Claim.{WithinLimits, FirstOutside, GateClaim}
-use Rattle.gate.proofs.Placed as Placed
-use Rattle.gate.proofs.Judged.{Passed, Judged, all-pass, one-fails, judging, passed-judged, first-judged, within-passed, passed-within}
+use Rattle.gate.proofs.Verdicts.{Passed, each, within-passed, passed-within, First, Judged, all-pass, one-fails, judging, passed-judged, first-judged}
 
--- ---- the gate, case by case
+many : (x : Sheet) → length (verdicts x) ≡ length (places x)
+many x = each x ∙ sym (grammar-claim .placed x .0)
+
 pub data Case (src : List ℕ) : Outcome Sheet → Type 0 where
   short : length-fits src ≡ false → Case src (refusal 4 0)
   broken : T (length-fits src) → (place : ℕ) → decode src ≡ fault place → Case src (refusal 5 place)
   outside : T (length-fits src) → (x : Sheet) → decode src ≡ read x → (place : ℕ) → FirstOutside x place → Case src (refusal 6 place)
-  inside : T (length-fits src) → (x : Sheet) → decode src ≡ read x → Passed (tests x) → Case src (answer x)
+  inside : T (length-fits src) → (x : Sheet) → decode src ≡ read x → Passed (verdicts x) → Case src (answer x)
 
 pub cases : (src : List ℕ) → Case src (gated src)
 unfolding gated
 cases src = go (length-fits src) refl
   where
-    sheet : T (length-fits src) → (x : Sheet) → decode src ≡ read x → {o : Outcome Sheet} → Judged x (tests x) o → Case src o
+    sheet : T (length-fits src) → (x : Sheet) → decode src ≡ read x → {o : Outcome Sheet} → Judged x (places x) (verdicts x) o → Case src o
     sheet t x e (all-pass h) = inside t x e h
-    sheet t x e (one-fails place f) = outside t x e place record { before = f .before; after = f .after; split = f .split; inside = f .inside }
+    sheet t x e (one-fails i f) = outside t x e _ record { block = i; inside = omega (arith, f .inside, each x); outside = f .outside; first = f .first; stands = refl }
 
-    fits : T (length-fits src) → (q : Result Sheet) → decode src ≡ q → Case src (within-limits q)
-    fits t (read x) e = sheet t x e (judging x (tests x))
+    fits : T (length-fits src) → (q : Result Sheet) → decode src ≡ q → Case src (within-limits (graded q))
+    fits t (read x) e = sheet t x e (judging x (places x) (verdicts x) (many x))
     fits t (fault place) e = broken t place e
 
-    go : (b : Bool) → length-fits src ≡ b → Case src (cond b (within-limits (decode src)) (refusal 4 0))
+    go : (b : Bool) → length-fits src ≡ b → Case src (cond b (within-limits (graded (decode src))) (refusal 4 0))
     go true e = fits (of-true _ e) (decode src) refl
     go false e = short e
 
--- ---- and the other way
-module _ (src : List ℕ) (t : T (length-fits src)) where
-  by-grammar : (q : Result Sheet) → decode src ≡ q → gated src ≡ within-limits q
-  unfolding gated
-  by-grammar q e = simp (is-true (length-fits src) t) (ap within-limits e)
+by-grammar : (src : List ℕ) → T (length-fits src) → (q : Result Sheet) → decode src ≡ q → gated src ≡ within-limits (graded q)
+unfolding gated
+by-grammar src t q e = simp (is-true (length-fits src) t) (ap (λ (r : Result Sheet). within-limits (graded r)) e)
 
--- ---- numbers and places
 abbrev number : Outcome Sheet → ℕ
 number (answer x) = 0
 number (refusal n place) = n
@@ -75,13 +75,11 @@ module _ (src : List ℕ) where
   is-six (outside t x d q f) place e = (t, (x, (d, subst (FirstOutside x) (ap at e) f)))
   is-six (inside t x d h) place e = absurd (omega (arith, ap number e))
 
-  is-admitted : {o : Outcome Sheet} → Case src o → (x : Sheet) → o ≡ answer x → T (length-fits src) × ((decode src ≡ read x) × Passed (tests x))
+  pub is-admitted : {o : Outcome Sheet} → Case src o → (x : Sheet) → o ≡ answer x → T (length-fits src) × ((decode src ≡ read x) × Passed (verdicts x))
   is-admitted (short f) x e = absurd (omega (arith, ap number e))
   is-admitted (broken t q d) x e = absurd (omega (arith, ap number e))
   is-admitted (outside t y d q f) x e = absurd (omega (arith, ap number e))
-  is-admitted (inside t y d h) x e =
-      let p : y ≡ x = cc in
-      (t, (d ∙ ap read p, subst (λ (z : Sheet). Passed (tests z)) p h))
+  is-admitted (inside t y d h) x e = let p : y ≡ x = cc in (t, (d ∙ ap read p, subst (λ (z : Sheet). Passed (verdicts z)) p h))
 
   is-number : {o : Outcome Sheet} → Case src o → (n place : ℕ) → o ≡ refusal n place → (n ≡ 4) ⊎ ((n ≡ 5) ⊎ (n ≡ 6))
   is-number (short f) n place e = inl (sym (ap number e))
@@ -92,7 +90,6 @@ module _ (src : List ℕ) where
       never : answer x ≡ refusal n place → ⊥
       never e = let z : _≡_ {A = ℕ} 0 1 = cc in omega arith
 
--- ---- the claim
 module _ (src : List ℕ) (bs : Bytes src) where
   fits : (x : Sheet) → WellFormed x → encode x ≡ src → T (length-fits src)
   fits x h e = subst (λ (l : List ℕ). T (length-fits l)) e (grammar-claim .fits x h .0)
@@ -101,12 +98,12 @@ module _ (src : List ℕ) (bs : Bytes src) where
   admitted x e =
       let a = is-admitted src (cases src) x e in
       let g = grammar-claim .reads src bs (a .0) x .0 (a .1 .0) in
-      ((g .0, passed-within x (a .1 .1)), g .1)
+      ((g .0, passed-within x (g .0) (a .1 .1)), g .1)
 
   admits : (x : Sheet) → (WellFormed x × WithinLimits x) × (encode x ≡ src) → gated src ≡ answer x
   admits x h =
       let t = fits x (h .0 .0) (h .1) in
-      by-grammar src t (read x) (grammar-claim .reads src bs t x .1 (h .0 .0, h .1)) ∙ passed-judged x (tests x) (within-passed x (h .0 .1))
+      by-grammar src t (read x) (grammar-claim .reads src bs t x .1 (h .0 .0, h .1)) ∙ passed-judged x (places x) (verdicts x) (within-passed x (h .0 .0) (h .0 .1))
 
   turned-back : (place : ℕ) → (length-fits src ≡ false) × (place ≡ 0) → gated src ≡ refusal 4 place
   unfolding gated
@@ -125,7 +122,7 @@ module _ (src : List ℕ) (bs : Bytes src) where
   limits-out : (place : ℕ) → (x : Sheet) → (WellFormed x × (encode x ≡ src)) → FirstOutside x place → gated src ≡ refusal 6 place
   limits-out place x h f =
       let t = fits x (h .0) (h .1) in
-      by-grammar src t (read x) (grammar-claim .reads src bs t x .1 h) ∙ ap (judged x) (f .split) ∙ first-judged x (f .before) (f .after) place (f .inside)
+      by-grammar src t (read x) (grammar-claim .reads src bs t x .1 h) ∙ first-judged x (places x) (verdicts x) (many x) (f .block) record { inside = omega (arith, f .inside, each x); outside = f .outside; first = f .first } ∙ ap (refusal 6) (sym (f .stands))
 
 pub gate-claim : GateClaim
 gate-claim = record {
@@ -133,6 +130,6 @@ gate-claim = record {
   four = λ src bs place. (is-four src (cases src) place, turned-back src bs place);
   five = λ src bs place. (out-of-grammar src bs place, λ h. by-grammar src (h .0) (fault place) (grammar-claim .faults src bs (h .0) place .1 (h .1)));
   six = λ src bs place. (out-of-limits src bs place, λ h. limits-out src bs place (h .0) (h .1 .0) (h .1 .1));
-  placed = Placed.placed;
+  each = each;
   no-other = λ src number place e. is-number src (cases src) number place e;
 }

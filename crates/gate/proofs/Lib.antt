@@ -1,6 +1,5 @@
--- Facts on the limits of a sheet, and the gate's claim.
-pub mod Blocks
-pub mod Judged
-pub mod Placed
+-- The verdicts of a sheet's blocks, the gate's claim, the walk over the blocks, and what a caller of the gate knows.
+pub mod Verdicts
 pub mod Claim
+pub mod Walk
 pub mod Admitted

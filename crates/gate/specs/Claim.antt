@@ -3,31 +3,30 @@
 use mathlib.Core.Path.{_≡_}
 use mathlib.Core.Logic.{_⊎_}
 use mathlib.Core.Bool.{true, false}
-use mathlib.Core.List.{List, [], _∷_, _++_, map}
-use Prim.Native.Nat.{ℕ}
+use mathlib.Core.List.{List}
+use Prim.Native.Nat.{ℕ, _<_}
 use lib.Dec.{T}
+use lib.ListN.{length, getD}
 use Rattle.refusal.specs.Outcome.{answer, refusal}
 use Rattle.gate_limits.specs.Limits.{beam-passes, passes}
-use Rattle.sheet.specs.Sheet.{SheetSurface, Sheet, All, WellFormed, encode, places}
+use Rattle.sheet.specs.Blocks.{All}
+use Rattle.sheet.specs.Sheet.{SheetSurface, Sheet, WellFormed, blocks, encode, places}
 use Rattle.sheet.specs.Claim.{_⇔_, Bytes, length-fits, Fault}
 use Rattle.sheet_values.specs.Values.{value, films, surface-value}
-use Rattle.gate.specs.Gate.{Test, tests, gated}
+use Rattle.gate.specs.Gate.{verdicts, gated}
 
 -- ---- section 3: the BEAM, and each surface with its layers at the BEAM's wavelength
 pub record WithinLimits (x : Sheet) : Type 0 where
   pub beam : T (beam-passes (value (x .wavelength)) (value (x .s)) (value (x .p)))
   pub surfaces : All (λ (y : SheetSurface). T (passes (value (x .wavelength)) (surface-value y) (films (y .layers)))) (x .surfaces)
 
--- the first BEAM, SURFACE or LAYER outside stands at a place
+-- the first BEAM, SURFACE or LAYER outside is some block of the sheet, and stands at its kind word's place
 pub record FirstOutside (x : Sheet) (place : ℕ) : Type 0 where
-  pub before : List Test
-  pub after : List Test
-  pub split : tests x ≡ before ++ (record { at = place; passes = false } ∷ after)
-  pub inside : All (λ (t : Test). t .passes ≡ true) before
-
--- where each test stands
-abbrev pub tested : List Test → List ℕ
-tested ts = map (λ (t : Test). t .at) ts
+  pub block : ℕ
+  pub inside : block < length (blocks x)
+  pub outside : getD (verdicts x) block true ≡ false
+  pub first : (i : ℕ) → i < block → getD (verdicts x) i true ≡ true
+  pub stands : place ≡ getD (places x) block 0
 
 pub record GateClaim : Type 0 where
   -- admitted exactly when the bytes are those of a well-formed sheet within the limits; that sheet is then the answer, so it is the only one
@@ -38,7 +37,7 @@ pub record GateClaim : Type 0 where
   pub five : (src : List ℕ) → Bytes src → (place : ℕ) → (gated src ≡ refusal 5 place) ⇔ (T (length-fits src) × (((x : Sheet) → WellFormed x → encode x ≡ src → ⊥) × Fault src place))
   -- 6 exactly when a well-formed sheet does and is outside the limits
   pub six : (src : List ℕ) → Bytes src → (place : ℕ) → (gated src ≡ refusal 6 place) ⇔ ((x : Sheet) × ((WellFormed x × (encode x ≡ src)) × FirstOutside x place))
-  -- the tests stand at the kind words in their order, each at its own: all of them but OPEN's, in front, and END's
-  pub placed : (x : Sheet) → (end : ℕ) × (0 ∷ (tested (tests x) ++ (end ∷ [])) ≡ places x)
+  -- a verdict for each block, and where a sheet's places are is `GrammarClaim`'s `placed`
+  pub each : (x : Sheet) → length (verdicts x) ≡ length (blocks x)
   -- and there is no other refusal
   pub no-other : (src : List ℕ) → (number place : ℕ) → gated src ≡ refusal number place → (number ≡ 4) ⊎ ((number ≡ 5) ⊎ (number ≡ 6))

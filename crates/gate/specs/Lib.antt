@@ -1,3 +1,4 @@
 -- The gate of document 01: what is admitted, and what is claimed of it.
 pub mod Gate
 pub mod Claim
+pub mod Internal

@@ -1,11 +1,13 @@
 // The gate of document 01: any bytes of any length are admitted, with their count of surfaces, or
 // refused with 4, 5 or 6, in that order over the whole sheet.
 ghost use mathlib.Core.Path.{_≡_};
+ghost use lib.Dec.{T};
 ghost use Rattle.sheet.specs.Claim.{length-fits};
-ghost use Rattle.sheet.specs.Read.{read, decode};
-ghost use Rattle.sheet.specs.Scan.{surface-count};
-ghost use Rattle.refusal.specs.Outcome.{refusal, map};
-ghost use Rattle.gate.specs.Gate.{outcome, within-limits, surfaces-of, gate};
+ghost use Rattle.sheet.specs.Read.{decode, graded, surfaces-of, grammar};
+ghost use Rattle.refusal.specs.Outcome.{answer, refusal, map};
+ghost use Rattle.gate.specs.Gate.{outcome, within-limits, gate};
+ghost use Rattle.gate.specs.Internal.{judgement-at};
+use gate_limits::Judgement;
 use refusal::Refusal;
 use sheet::Verdict;
 
@@ -30,39 +32,50 @@ fn outside(place: usize) -> Gated
     Gated::Refused(Refusal { number: 6, place })
 }
 
+// Whether the block at a place is within the limits, and n_incident * abs(sin) after it.
+fn judge(src: &[u8], at: usize, snell: f64) -> Judgement
+    ensures { λ r. ⌜ r ≡ judgement-at (now (src .entry)) at snell ⌝ }
+{
+    let kind = sheet::word_from(src, at) / 0x1000_0000;
+    if kind == 2 {
+        let beam = sheet_values::beam_at(src, at);
+        return Judgement {
+            passes: gate_limits::beam_passes(beam.wavelength_nm, beam.s, beam.p),
+            snell,
+        };
+    }
+    if kind == 3 {
+        return gate_limits::judge_surface(sheet_values::surface_at(src, at));
+    }
+    if kind == 4 {
+        return Judgement {
+            passes: gate_limits::layer_within(snell, sheet_values::layer_at(src, at)),
+            snell,
+        };
+    }
+    Judgement {
+        passes: true,
+        snell,
+    }
+}
+
 // The limits of a sheet that is in grammar, block after block.
 fn limits(src: &[u8], count: u32) -> Gated
-    requires { ⌜ surface-count (decode (now src)) ≡ read count ⌝ }
-    ensures { λ r. ⌜ outcome r ≡ map surfaces-of (within-limits (decode (now (src .entry)))) ⌝ }
+    requires { ⌜ T (length-fits (now src)) × (grammar (now src) ≡ answer count) ⌝ }
+    ensures { λ r. ⌜ outcome r ≡ map surfaces-of (within-limits (graded (decode (now (src .entry))))) ⌝ }
 {
-    if !gate_limits::beam_passes(
-        sheet::float_from(src, 2),
-        sheet::float_from(src, 4),
-        sheet::float_from(src, 6),
-    ) {
-        return outside(1);
-    }
-    let mut at = 8;
+    let total = src.len() / 4;
+    let mut at: usize = 0;
     let mut snell = 0.0;
-    loop {
-        let kind = sheet::word_from(src, at) / 0x1000_0000;
-        if kind == 3 {
-            let s = sheet_values::surface_at(src, at);
-            let judgement = gate_limits::judge_surface(s);
-            if !judgement.passes {
-                return outside(at);
-            }
-            snell = judgement.snell;
-            at += 7;
-        } else if kind == 4 {
-            if !gate_limits::layer_within(snell, sheet_values::layer_at(src, at)) {
-                return outside(at);
-            }
-            at += 7;
-        } else {
-            return Gated::Admitted(count);
+    while at < total {
+        let judgement = judge(src, at, snell);
+        if !judgement.passes {
+            return outside(at);
         }
+        snell = judgement.snell;
+        at = sheet::next_place(src, at);
     }
+    Gated::Admitted(count)
 }
 
 // The gate: the length, then the grammar, then the limits.

@@ -23,3 +23,8 @@ too-many-layers = refusal 3 0
 abbrev pub map : {A B : Type 0} → (A → B) → Outcome A → Outcome B
 map f (answer a) = answer (f a)
 map f (refusal number place) = refusal number place
+
+-- an answer through f, which may refuse; a refusal as it is
+abbrev pub bind : {A B : Type 0} → Outcome A → (A → Outcome B) → Outcome B
+bind (answer a) f = f a
+bind (refusal number place) f = refusal number place

@@ -1,160 +1,164 @@
--- One block after the other: what a place's `found` says of the rest of a sheet. The functions that scan a sheet cite these. Assumes nothing.
-use mathlib.Core.Path.{_≡_, refl, sym, ap, _∙_, subst}
-use mathlib.Core.Bool.{true, false}
-use mathlib.Core.List.{List, []}
+-- What is left of a sheet from a place on: how many SURFACEs, or a fault. One block more, and the three ways in which there is none. Assumes nothing.
+use mathlib.Core.Path.{_≡_, refl, sym, ap, _∙_}
+use mathlib.Core.Bool.{Bool, true, false, not, _&&_, cond}
+use mathlib.Core.List.{List, [], _∷_}
 use Prim.Native.Nat.{ℕ, zero, suc, _+_, _-_, _≤_, _<_}
-use native.Mathlib.Nat.{zero-add, add-zero}
+use native.Mathlib.Nat.{add-zero}
 use native.Mathlib.Numerals.{add-one}
 use native.Mathlib.Omega.{arith}
-use lib.Dec.{eqb}
-use lib.ListN.{length}
-use Rattle.sheet.specs.Sheet.{SheetLayer}
-use Rattle.sheet.specs.Words.{word, count, payload}
-use Rattle.sheet.specs.Read.{Result, read, fault, Follows, surface, layer, end, wrong, room-after, found, Rest, layer-at, with-layer, with-surface, rest, with-beam, decode}
-use Rattle.sheet.specs.Scan.{surface-count}
-use Rattle.sheet.proofs.Standing.{Stands, stands}
+use lib.Dec.{eqb, leb}
+use lib.ListN.{length, getD, take, drop, length-drop, drop-of-length-le}
+use lib.Seq.{drop-cons, drop-drop}
+use borrow.Author.Tests.{le-leb, lt-leb, eqb-true, ne-eqb, not-true, not-false}
+use Rattle.refusal.specs.Outcome.{Outcome, answer, refusal, map}
+use Rattle.sheet.specs.Words.{word, count, kind, words-of}
+use Rattle.sheet.specs.Blocks.{Block, Grammar, Result, read, fault, mapped, blocks-from}
+use Rattle.sheet.specs.Sheet.{kind-word}
+use Rattle.sheet.specs.Read.{Standing, at-open, at-beam, among, ended, may, after, may-end, raws, sheet-grammar, Rest, put, gathered, sheet-of, decode, graded, surfaces-of, grammar}
+use Rattle.sheet.proofs.Measure.{words-of-length, words-of-at}
+use Rattle.sheet.specs.Internal.{counted}
+use Rattle.sheet.proofs.KindWords.{Comes, comes-surface, comes-layer, comes-end, comes, after-surface, after-layer, after-end}
 
-pub never : {A : Type 0} → _≡_ {A = ℕ} 0 1 → A
-never e = absurd (no e)
-  where
-    no : _≡_ {A = ℕ} 0 1 → ⊥
-    no e = omega arith
+-- ---- SURFACEs among blocks
+unfoldable pub count3 : List Block → ℕ
+count3 [] = 0
+count3 (b ∷ bs) = cond (eqb (kind (b .word)) 3) (suc (count3 bs)) (count3 bs)
 
--- ---- a block that is found
-module _ (src : List ℕ) (at done room : ℕ) where
-  pub a-surface : found src at done room ≡ surface → Stands src at done room surface
-  a-surface e = subst (Stands src at done room) e (stands src at done room)
+one-of : (n : ℕ) (t f : Bool) (A B C : Rest) → length (A .surfaces) ≡ suc n → length (B .surfaces) ≡ n → length (C .surfaces) ≡ n → length ((cond t A (cond f B C)) .surfaces) ≡ cond t (suc n) n
+one-of n true f A B C a b c = a
+one-of n false true A B C a b c = b
+one-of n false false A B C a b c = c
 
-  pub a-layer : found src at done room ≡ layer → Stands src at done room layer
-  a-layer e = subst (Stands src at done room) e (stands src at done room)
+put-length : (b : Block) (r : Rest) → length (put b r .surfaces) ≡ cond (eqb (kind (b .word)) 3) (suc (length (r .surfaces))) (length (r .surfaces))
+unfolding put
+put-length b r = one-of (length (r .surfaces)) (eqb (kind (b .word)) 3) (eqb (kind (b .word)) 4) _ _ _ refl refl refl
 
-  pub an-end : found src at done room ≡ end → Stands src at done room end
-  an-end e = subst (Stands src at done room) e (stands src at done room)
+gathered-length : (bs : List Block) → length (gathered bs .surfaces) ≡ count3 bs
+unfolding gathered count3
+gathered-length [] = refl
+gathered-length (b ∷ bs) = put-length b (gathered bs) ∙ ap (λ (n : ℕ). cond (eqb (kind (b .word)) 3) (suc n) n) (gathered-length bs)
 
 -- ---- how much fuel does not matter, as long as there is enough
-module _ (src : List ℕ) where
-  spent : (at f : ℕ) → at + 7 ≤ count src → count src < at + suc f → count src < at + 7 + f
-  spent at f h l = omega arith
+fuel-same : (g : Grammar) (f e : ℕ) (s : g .Standing) (at : ℕ) (ws : List ℕ) → length ws < f → length ws < e → blocks-from g f s at ws ≡ blocks-from g e s at ws
+unfolding blocks-from
+fuel-same g zero e s at ws l m = absurd (omega arith)
+fuel-same g (suc f) zero s at ws l m = absurd (omega arith)
+fuel-same g (suc f) (suc e) s at [] l m = refl
+fuel-same g (suc f) (suc e) s at (w ∷ ws) l m =
+    let n = g .raws w in
+    ap (λ (r : Result (List Block)). cond (g .may s w && leb n (length ws)) (mapped (λ bs. record { word = w; raw = take n ws } ∷ bs) r) (fault at))
+    (fuel-same g f e (g .after s w) (at + suc n) (drop n ws) (omega (arith, length-drop n ws)) (omega (arith, length-drop n ws)))
 
-  none : (at : ℕ) → at + 7 ≤ count src → count src < at + 1 → ⊥
-  none at h l = omega arith
+-- ---- what is left
+unfoldable pub left : List ℕ → Standing → ℕ → Result ℕ
+left src s at = let ws = words-of src in mapped count3 (blocks-from sheet-grammar (suc (length ws)) s at (drop at ws))
 
-  fuel-at : (f : ℕ) (what : Follows) (g at done room : ℕ) → Stands src at done room what → count src < at + suc f → count src < at + suc g → rest src (suc f) what at done room ≡ rest src (suc g) what at done room
-  unfolding rest
-  fuel-at zero (wrong place) g at done room h l m = refl
-  fuel-at zero end g at done room h l m = refl
-  fuel-at zero surface g at done room h l m = absurd (none at (h .0) l)
-  fuel-at zero layer g at done room h l m = absurd (none at (h .0) l)
-  fuel-at (suc f) (wrong place) g at done room h l m = refl
-  fuel-at (suc f) end g at done room h l m = refl
-  fuel-at (suc f) surface zero at done room h l m = absurd (none at (h .0) m)
-  fuel-at (suc f) surface (suc g) at done room h l m =
-      let next = room-after (payload (word src at)) in
-      ap (with-surface src at) (fuel-at f (found src (at + 7) (suc done) next) g (at + 7) (suc done) next (stands src (at + 7) (suc done) next) (spent at (suc f) (h .0) l) (spent at (suc g) (h .0) m))
-  fuel-at (suc f) layer zero at done room h l m = absurd (none at (h .0) m)
-  fuel-at (suc f) layer (suc g) at done room h l m =
-      ap (with-layer (layer-at src at)) (fuel-at f (found src (at + 7) done (room - 1)) g (at + 7) done (room - 1) (stands src (at + 7) done (room - 1)) (spent at (suc f) (h .0) l) (spent at (suc g) (h .0) m))
+abbrev pub tally : ℕ → Result ℕ → Result ℕ
+tally n (read k) = read (n + k)
+tally n (fault place) = fault place
 
-  -- ---- what is left of a sheet from a place on
-  enough : (at : ℕ) → count src < at + suc (count src)
-  enough at = omega arith
-
-  unfoldable pub left : ℕ → ℕ → ℕ → Result Rest
-  left at done room = rest src (suc (count src)) (found src at done room) at done room
-
-  less : (at : ℕ) → at + 7 ≤ count src → (n : ℕ) × (count src ≡ suc n)
-  less at h = go (count src) h
-    where
-      go : (c : ℕ) → at + 7 ≤ c → (n : ℕ) × (c ≡ suc n)
-      go zero h = absurd (bad at h)
-        where
-          bad : (at : ℕ) → at + 7 ≤ 0 → ⊥
-          bad at h = omega arith
-      go (suc n) h = (n, refl)
-
-  pub left-surface : (at done room : ℕ) → found src at done room ≡ surface
-      → left at done room ≡ with-surface src at (left (at + 7) (suc done) (room-after (payload (word src at))))
-  unfolding left rest
-  left-surface at done room e =
-      let h = a-surface src at done room e .0 in
-      let next = room-after (payload (word src at)) in
-      let n = less at h .0 in
-      let c = less at h .1 in
-      ap (λ (f : Follows). rest src (suc (count src)) f at done room) e
-      ∙ ap (λ (k : ℕ). with-surface src at (rest src k (found src (at + 7) (suc done) next) (at + 7) (suc done) next)) c
-      ∙ ap (with-surface src at) (fuel-at n (found src (at + 7) (suc done) next) (count src) (at + 7) (suc done) next (stands src (at + 7) (suc done) next) (over n c) (enough (at + 7)))
-    where
-      over : (n : ℕ) → count src ≡ suc n → count src < at + 7 + suc n
-      over n e = omega arith
-
-  pub left-layer : (at done room : ℕ) → found src at done room ≡ layer → left at done room ≡ with-layer (layer-at src at) (left (at + 7) done (room - 1))
-  unfolding left rest
-  left-layer at done room e =
-      let h = a-layer src at done room e .0 in
-      let n = less at h .0 in
-      let c = less at h .1 in
-      ap (λ (f : Follows). rest src (suc (count src)) f at done room) e
-      ∙ ap (λ (k : ℕ). with-layer (layer-at src at) (rest src k (found src (at + 7) done (room - 1)) (at + 7) done (room - 1))) c
-      ∙ ap (with-layer (layer-at src at)) (fuel-at n (found src (at + 7) done (room - 1)) (count src) (at + 7) done (room - 1) (stands src (at + 7) done (room - 1)) (over n c) (enough (at + 7)))
-    where
-      over : (n : ℕ) → count src ≡ suc n → count src < at + 7 + suc n
-      over n e = omega arith
-
-  pub left-end : (at done room : ℕ) → found src at done room ≡ end → left at done room ≡ read (record { layers = []; surfaces = [] })
-  unfolding left rest
-  left-end at done room e = ap (λ (f : Follows). rest src (suc (count src)) f at done room) e
-
-  pub left-wrong : (at done room place : ℕ) → found src at done room ≡ wrong place → left at done room ≡ fault place
-  unfolding left rest
-  left-wrong at done room place e = ap (λ (f : Follows). rest src (suc (count src)) f at done room) e
-
--- ---- the count of SURFACEs
-abbrev pub tally : ℕ → Result Rest → Result ℕ
-tally done (read r) = read (done + length (r .surfaces))
-tally done (fault place) = fault place
-
-tally-surface : (src : List ℕ) (at done : ℕ) (r : Result Rest) → tally done (with-surface src at r) ≡ tally (done + 1) r
-tally-surface src at done (read r) = ap read (go done (length (r .surfaces)))
+pub whole : (src : List ℕ) → graded (tally 0 (left src at-open 0)) ≡ grammar src
+unfolding left decode sheet-of grammar
+whole src = by (blocks-from sheet-grammar (suc (length (words-of src))) at-open 0 (words-of src))
   where
-    go : (d n : ℕ) → d + suc n ≡ d + 1 + n
-    go d n = omega arith
-tally-surface src at done (fault place) = refl
+    by : (r : Result (List Block)) → graded (tally 0 (mapped count3 r)) ≡ map surfaces-of (graded (mapped sheet-of r))
+    by (read bs) = ap answer (omega (arith, gathered-length bs))
+    by (fault place) = refl
 
-tally-layer : (l : SheetLayer) (done : ℕ) (r : Result Rest) → tally done (with-layer l r) ≡ tally done r
-tally-layer l done (read r) = refl
-tally-layer l done (fault place) = refl
+module _ (src : List ℕ) (s : Standing) (at w : ℕ) (lt : at < count src) (is : w ≡ word src at) where
+  front : drop at (words-of src) ≡ w ∷ drop (suc at) (words-of src)
+  front = drop-cons (words-of src) at 0 (omega (arith, words-of-length src)) ∙ ap (λ (v : ℕ). v ∷ drop (suc at) (words-of src)) (words-of-at src at ∙ sym is)
 
--- past a SURFACE, and past a LAYER
-pub scan-surface : (src : List ℕ) (at done room next w : ℕ) → found src at done room ≡ surface → w ≡ word src at → next ≡ room-after (payload w)
-    → tally (done + 1) (left src (at + 7) (done + 1) next) ≡ tally done (left src at done room)
-scan-surface src at done room next w e p q =
-    ap (λ (r : ℕ). tally (done + 1) (left src (at + 7) (done + 1) r)) (q ∙ ap (λ (v : ℕ). room-after (payload v)) p)
-    ∙ ap (λ (d : ℕ). tally (done + 1) (left src (at + 7) d (room-after (payload (word src at))))) (add-one done)
-    ∙ sym (tally-surface src at done (left src (at + 7) (suc done) (room-after (payload (word src at)))))
-    ∙ ap (tally done) (sym (left-surface src at done room e))
+  pub not-here : may s w ≡ false → left src s at ≡ fault at
+  unfolding left blocks-from
+  not-here e = rw (front, e) refl
 
-pub scan-layer : (src : List ℕ) (at done room : ℕ) → found src at done room ≡ layer → tally done (left src (at + 7) done (room - 1)) ≡ tally done (left src at done room)
-scan-layer src at done room e = sym (tally-layer (layer-at src at) done (left src (at + 7) done (room - 1))) ∙ ap (tally done) (sym (left-layer src at done room e))
+  pub past-end : may s w ≡ true → count src ≤ at + raws w → left src s at ≡ fault at
+  unfolding left blocks-from
+  past-end e le = rw (front, e, lt-leb (raws w) (length (drop (suc at) (words-of src))) (omega (arith, length-drop (suc at) (words-of src), words-of-length src))) refl
 
-pub scan-end : (src : List ℕ) (at done room : ℕ) → found src at done room ≡ end → read done ≡ tally done (left src at done room)
-scan-end src at done room e = ap read (sym (add-zero done)) ∙ ap (tally done) (sym (left-end src at done room e))
+  pub onward : (n : ℕ) → may s w ≡ true → at + raws w < count src → tally n (left src s at) ≡ tally (cond (eqb (kind w) 3) (n + 1) n) (left src (after s w) (at + (raws w + 1)))
+  unfolding left blocks-from count3
+  onward n e l =
+      let ws = words-of src in
+      let k = raws w in
+      let place : at + suc k ≡ at + (k + 1) = omega arith in
+      let there : suc at + k ≡ at + suc k = omega arith in
+      let rest : drop k (drop (suc at) ws) ≡ drop (at + suc k) ws = drop-drop k (suc at) ws ∙ ap (λ (j : ℕ). drop j ws) there in
+      rw (
+        front,
+        e,
+        le-leb k (length (drop (suc at) ws)) (omega (arith, length-drop (suc at) ws, words-of-length src)),
+        rest,
+        fuel-same sheet-grammar (length ws) (suc (length ws)) (after s w) (at + suc k) (drop (at + suc k) ws) (omega (arith, length-drop (at + suc k) ws, words-of-length src)) (omega (arith, length-drop (at + suc k) ws)),
+        ← place,
+      )
+      (by (blocks-from sheet-grammar (suc (length ws)) (after s w) (at + suc k) (drop (at + suc k) ws)))
+    where
+      more : (t : Bool) (k : ℕ) → n + cond t (suc k) k ≡ cond t (n + 1) n + k
+      more true k = omega arith
+      more false k = refl
 
-pub scan-wrong : (src : List ℕ) (at done room place : ℕ) → found src at done room ≡ wrong place → fault place ≡ tally done (left src at done room)
-scan-wrong src at done room place e = ap (tally done) (sym (left-wrong src at done room place e))
+      by : (r : Result (List Block)) → tally n (mapped count3 (mapped (λ bs. record { word = w; raw = take (raws w) (drop (suc at) (words-of src)) } ∷ bs) r)) ≡ tally (cond (eqb (kind w) 3) (n + 1) n) (mapped count3 r)
+      by (fault place) = refl
+      by (read bs) = ap read (more (eqb (kind w) 3) (count3 bs))
 
--- after OPEN and BEAM
-pub counted-left : (src : List ℕ) → eqb (word src 0) 0x1000_0001 ≡ true → eqb (word src 1) 0x2000_0000 ≡ true → surface-count (decode src) ≡ tally 0 (left src 8 0 0)
-unfolding decode left
-counted-left src e f = simp (e, f) (go (rest src (suc (count src)) (found src 8 0 0) 8 0 0))
+pub at-end : (src : List ℕ) (s : Standing) (at : ℕ) → count src ≤ at → left src s at ≡ cond (may-end s) (read 0) (fault at)
+unfolding left blocks-from count3
+at-end src s at le = rw (drop-of-length-le (words-of src) {i = at} (omega (arith, words-of-length src))) (by (may-end s))
   where
-    go : (r : Result Rest) → surface-count (with-beam src r) ≡ tally 0 r
-    go (read r) = ap read (sym (zero-add (length (r .surfaces))))
-    go (fault place) = refl
+    by : (t : Bool) → mapped count3 (cond t (read []) (fault at)) ≡ cond t (read 0) (fault at)
+    by true = refl
+    by false = refl
 
-pub not-open : (src : List ℕ) → eqb (word src 0) 0x1000_0001 ≡ false → fault 0 ≡ surface-count (decode src)
-unfolding decode
-not-open src e = simp e
+-- ---- the loop: what is left tallies to o
+module _ (src : List ℕ) (s : Standing) (at n : ℕ) (o : Outcome ℕ) (inv : graded (tally n (left src s at)) ≡ o) where
+  module _ (w : ℕ) (lt : at < count src) (is : w ≡ word src at) (r : Bool) (can : r ≡ may s w) where
+    pub stop-kind : not r ≡ true → refusal 5 at ≡ o
+    stop-kind e = sym (ap (λ (r : Result ℕ). graded (tally n r)) (not-here src s at w lt is (sym can ∙ not-true r e))) ∙ inv
 
-pub not-beam : (src : List ℕ) → eqb (word src 0) 0x1000_0001 ≡ true → eqb (word src 1) 0x2000_0000 ≡ false → fault 1 ≡ surface-count (decode src)
-unfolding decode
-not-beam src e f = simp (e, f)
+    module _ (e : not r ≡ false) (k : ℕ) (size : k ≡ raws w) where
+      pub stop-raw : count src - at ≤ k → refusal 5 at ≡ o
+      stop-raw le = sym (ap (λ (r : Result ℕ). graded (tally n r)) (past-end src s at w lt is (sym can ∙ not-false r e) (omega arith))) ∙ inv
+
+      pub go-on : k < count src - at → (t : Standing) → t ≡ after s w → (n′ : ℕ) → n′ ≡ counted w n → graded (tally n′ (left src t (at + (k + 1)))) ≡ o
+      go-on lt′ t q n′ c = rw (q, size, c) (sym (ap graded (onward src s at w lt is n (sym can ∙ not-false r e) (omega arith))) ∙ inv)
+
+  module _ (le : count src ≤ at) (r : Bool) (ends : r ≡ may-end s) where
+    pub end-whole : r ≡ true → answer n ≡ o
+    end-whole e = ap answer (sym (add-zero n)) ∙ sym (ap (λ (r : Result ℕ). graded (tally n r)) (at-end src s at le ∙ ap (λ (b : Bool). cond b (read 0) (fault at)) (sym ends ∙ e))) ∙ inv
+
+    pub end-missing : r ≡ false → refusal 5 at ≡ o
+    end-missing e = sym (ap (λ (r : Result ℕ). graded (tally n r)) (at-end src s at le ∙ ap (λ (b : Bool). cond b (read 0) (fault at)) (sym ends ∙ e))) ∙ inv
+
+-- ---- the SURFACEs so far are those that the standing counts: 64 at the most
+abbrev pub Counts : Standing → ℕ → Type 0
+Counts at-open n = n ≡ 0
+Counts at-beam n = n ≡ 0
+Counts (among done most) n = (n ≡ done) × (done ≤ 64)
+Counts ended n = n ≤ 64
+
+pub counts-few : (s : Standing) (n : ℕ) → Counts s n → n ≤ 64
+counts-few at-open n c = omega arith
+counts-few at-beam n c = omega arith
+counts-few (among done most) n c = omega (arith, c .0, c .1)
+counts-few ended n c = c
+
+module _ (w n : ℕ) where
+  other : (k : ℕ) → kind w ≡ k → ¬ (k ≡ 3) → counted w n ≡ n
+  other k e h = rw (ne-eqb (kind w) 3 (λ q. h (sym e ∙ q)))
+
+  one-more : kind w ≡ 3 → counted w n ≡ suc n
+  one-more e = rw e (add-one n)
+
+  pub counts-on : (s : Standing) → Counts s n → may s w ≡ true → Counts (after s w) (counted w n)
+  unfolding may after
+  counts-on at-open c e = other 1 (let q : w ≡ kind-word 1 1 = eqb-true w (kind-word 1 1) e in omega arith) (λ q. omega arith) ∙ c
+  counts-on at-beam c e = (other 2 (let q : w ≡ kind-word 2 0 = eqb-true w (kind-word 2 0) e in omega arith) (λ q. omega arith) ∙ c, omega arith)
+  counts-on (among done most) c e = by (comes done most w e)
+    where
+      by : Comes done most w → Counts (after (among done most) w) (counted w n)
+      by (comes-surface k d p) = rw (after-surface done most w k) (one-more k ∙ ap suc (c .0), d)
+      by (comes-layer k r p) = rw (after-layer done most w k) (other 4 k (λ q. omega arith) ∙ c .0, c .1)
+      by (comes-end k p) = rw (after-end done most w k) (omega (arith, other 5 k (λ q. omega arith), c .0, c .1))
+  counts-on ended c e = absurd (let z : _≡_ {A = ℕ} 0 1 = cc in omega arith)

@@ -7,9 +7,10 @@ use mathlib.Core.List.{List, List·Memᴰ}
 use Prim.Native.Nat.{ℕ, suc, _%_, _≤_, _<_}
 use lib.Dec.{T, eqb, leb}
 use lib.ListN.{length, getD}
-use Rattle.sheet.specs.Sheet.{Sheet, All, WellFormed, words, encode, places}
 use Rattle.sheet.specs.Words.{word, count}
-use Rattle.sheet.specs.Read.{read, fault, decode}
+use Rattle.sheet.specs.Blocks.{All, read, fault}
+use Rattle.sheet.specs.Sheet.{Sheet, WellFormed, blocks, words, encode, places}
+use Rattle.sheet.specs.Read.{decode, no-block}
 
 infixr 1 _⇔_
 -- both ways
@@ -59,3 +60,5 @@ pub record GrammarClaim : Type 0 where
   pub fits : (x : Sheet) → WellFormed x → T (length-fits (encode x)) × Bytes (encode x)
   -- at fault exactly when no well-formed sheet encodes to the bytes, and where
   pub faults : (src : List ℕ) → Bytes src → T (length-fits src) → (place : ℕ) → (decode src ≡ fault place) ⇔ (((x : Sheet) → WellFormed x → encode x ≡ src → ⊥) × Fault src place)
+  -- the places are those of the kind words: as many as blocks, and at each stands its block's kind word
+  pub placed : (x : Sheet) → (length (places x) ≡ length (blocks x)) × ((i : ℕ) → i < length (blocks x) → getD (words x) (getD (places x) i 0) 0 ≡ getD (blocks x) i no-block .word)

@@ -1,92 +1,128 @@
--- 01 section 1 as a reader: the sheet that a list of bytes holds, or the first word that is out of grammar. Definitions only.
--- `Claim` says what it has to do with `encode`.
-use mathlib.Core.Bool.{Bool, _&&_, cond}
+-- 01 section 1 as a reader: the kind words that may follow each other, and the sheet that some bytes hold, or the first word that is out of grammar.
+-- Definitions only. `Claim` says what it has to do with `WellFormed` and `encode`.
+use mathlib.Core.Bool.{Bool, true, false, _&&_, _||_, cond}
 use mathlib.Core.List.{List, [], _∷_}
-use Prim.Native.Nat.{ℕ, zero, suc, _+_, _-_, _/_}
+use Prim.Native.Nat.{ℕ, suc, _-_, _*_, _/_}
 use lib.Dec.{eqb, leb, ltb}
-use Rattle.sheet.specs.Sheet.{SheetLayer, SheetSurface, Sheet, kind-word}
-use Rattle.sheet.specs.Words.{word, count, kind, payload, float}
+use lib.ListN.{length, getD}
+use Rattle.ieee.specs.Functions.{joined}
+use Rattle.sheet.specs.Words.{kind, payload, words-of}
+use Rattle.refusal.specs.Outcome.{Outcome, answer, refusal, map}
+use Rattle.sheet.specs.declared.Verdict.{Verdict}
+use Rattle.sheet.specs.declared.Verdict.the-variants as K
+use Rattle.sheet.specs.Blocks.{Block, Grammar, Result, read, fault, mapped, blocks-from}
+use Rattle.sheet.specs.Sheet.{SheetLayer, layer, SheetSurface, Sheet, kind-word}
 
--- what is read, or the place of the word at fault
-pub data Result (A : Type 0) : Type 0 where
-  read : A → Result A
-  fault : ℕ → Result A
+-- ---- how many floats follow a kind: 01's table
+unfoldable pub floats-after : ℕ → ℕ
+floats-after k = cond (eqb k 2 || (eqb k 3 || eqb k 4)) 3 0
 
--- ---- what follows a kind word
-pub data Follows : Type 0 where
-  surface : Follows
-  layer : Follows
-  end : Follows
-  wrong : ℕ → Follows
+-- two raw words to a float
+unfoldable pub raws : ℕ → ℕ
+raws w = 2 * floats-after (kind w)
 
--- room for LAYERs after a SURFACE: 16 after a coating 5, else none
-abbrev pub room-after : ℕ → ℕ
-room-after p = cond (eqb (p / 2) 5) 16 0
+-- ---- where one stands between two blocks
+pub data Standing : Type 0 where
+  at-open : Standing
+  -- after OPEN
+  at-beam : Standing
+  -- after BEAM, a SURFACE or a LAYER: the SURFACEs so far, and how many LAYERs may come
+  among : ℕ → ℕ → Standing
+  ended : Standing
 
--- SURFACE: at most 64 of them, payload 0 to 15, its six raw words not past the end
-abbrev pub is-surface : ℕ → ℕ → ℕ → ℕ → Bool
-is-surface total at w done = eqb (kind w) 3 && (ltb done 64 && (leb (payload w) 15 && leb (at + 7) total))
+-- how many LAYERs may come after a SURFACE: 16 after a coating 5, else none
+abbrev pub layers-after : ℕ → ℕ
+layers-after p = cond (eqb (p / 2) 5) 16 0
 
--- LAYER: only where there is room, payload 0, its six raw words not past the end
-abbrev pub is-layer : ℕ → ℕ → ℕ → ℕ → Bool
-is-layer total at w room = eqb (kind w) 4 && (ltb 0 room && (eqb (payload w) 0 && leb (at + 7) total))
+-- SURFACE: at most 64 of them, payload 0 to 15
+abbrev pub is-surface : ℕ → ℕ → Bool
+is-surface done w = eqb (kind w) 3 && (ltb done 64 && leb (payload w) 15)
+
+-- LAYER: only where one may come, payload 0
+abbrev pub is-layer : ℕ → ℕ → Bool
+is-layer most w = eqb (kind w) 4 && (ltb 0 most && eqb (payload w) 0)
 
 -- END: with the count of SURFACEs
 abbrev pub is-end : ℕ → ℕ → Bool
-is-end w done = eqb (kind w) 5 && eqb (payload w) done
+is-end done w = eqb (kind w) 5 && eqb (payload w) done
 
--- the word w at the place `at` of `total`, with `done` SURFACEs before it and room for `room` LAYERs; nothing after END
-unfoldable pub follows : ℕ → ℕ → ℕ → ℕ → ℕ → Follows
-follows total at w done room =
-    cond (is-surface total at w done) surface
-    (cond (is-layer total at w room) layer
-    (cond (is-end w done) (cond (eqb (at + 1) total) end (wrong (at + 1)))
-    (wrong at)))
+-- the kind words that may come: OPEN of edition 1, BEAM, SURFACEs and LAYERs, END, nothing after
+unfoldable pub may : Standing → ℕ → Bool
+may at-open w = eqb w (kind-word 1 1)
+may at-beam w = eqb w (kind-word 2 0)
+may (among done most) w = is-surface done w || (is-layer most w || is-end done w)
+may ended w = false
 
--- refusal 5 where the block is wrong; END missing: the word count
-unfoldable pub found : List ℕ → ℕ → ℕ → ℕ → Follows
-found src at done room = cond (ltb at (count src)) (follows (count src) at (word src at) done room) (wrong at)
+unfoldable pub after : Standing → ℕ → Standing
+after at-open w = at-beam
+after at-beam w = among 0 0
+after (among done most) w = cond (eqb (kind w) 3) (among (suc done) (layers-after (payload w))) (cond (eqb (kind w) 5) ended (among done (most - 1)))
+after ended w = ended
 
--- ---- the blocks after the BEAM
--- the LAYERs of the SURFACE before, and the SURFACEs after them
+unfoldable pub may-end : Standing → Bool
+may-end at-open = false
+may-end at-beam = false
+may-end (among done most) = false
+may-end ended = true
+
+abbrev pub sheet-grammar : Grammar
+sheet-grammar = record { Standing = Standing; may-end = may-end; may = may; after = after; raws = raws }
+
+-- ---- from blocks to the sheet
+-- the floats of a block
+unfoldable pub numbers : List ℕ → List ℕ
+numbers [] = []
+numbers (h ∷ []) = []
+numbers (h ∷ l ∷ more) = joined h l ∷ numbers more
+
+abbrev pub number : Block → ℕ → ℕ
+number b i = getD (numbers (b .raw)) i 0
+
+-- what stands from a block on: LAYERs of the SURFACE before it, and SURFACEs
 pub record Rest : Type 0 where
   pub layers : List SheetLayer
   pub surfaces : List SheetSurface
 
--- LAYER: n, k, thickness
-abbrev pub layer-at : List ℕ → ℕ → SheetLayer
-layer-at src at = record { n = float src (at + 1); k = float src (at + 3); thickness = float src (at + 5) }
+abbrev pub layer-of : Block → SheetLayer
+layer-of b = layer (number b 0) (number b 1) (number b 2)
 
-abbrev pub with-layer : SheetLayer → Result Rest → Result Rest
-with-layer l (read r) = read (record { layers = l ∷ r .layers; surfaces = r .surfaces })
-with-layer l (fault place) = fault place
+abbrev pub surface-of : Block → List SheetLayer → SheetSurface
+surface-of b layers = record { payload = payload (b .word); n-incident = number b 0; n-substrate = number b 1; angle = number b 2; layers = layers }
 
--- SURFACE: n_incident, n_substrate, angle, and its LAYERs
-abbrev pub surface-at : List ℕ → ℕ → List SheetLayer → SheetSurface
-surface-at src at layers = record { payload = payload (word src at); n-incident = float src (at + 1); n-substrate = float src (at + 3); angle = float src (at + 5); layers = layers }
+unfoldable pub put : Block → Rest → Rest
+put b r =
+    cond (eqb (kind (b .word)) 3) (record { layers = []; surfaces = surface-of b (r .layers) ∷ r .surfaces })
+    (cond (eqb (kind (b .word)) 4) (record { layers = layer-of b ∷ r .layers; surfaces = r .surfaces }) r)
 
-abbrev pub with-surface : List ℕ → ℕ → Result Rest → Result Rest
-with-surface src at (read r) = read (record { layers = []; surfaces = surface-at src at (r .layers) ∷ r .surfaces })
-with-surface src at (fault place) = fault place
+unfoldable pub gathered : List Block → Rest
+gathered [] = record { layers = []; surfaces = [] }
+gathered (b ∷ bs) = put b (gathered bs)
 
--- from the place `at` on, where `Follows` says what stands there; `fuel` is more than the blocks that are left
-unfoldable pub rest : List ℕ → ℕ → Follows → ℕ → ℕ → ℕ → Result Rest
-rest src zero what at done room = fault at
-rest src (suc fuel) (wrong place) at done room = fault place
-rest src (suc fuel) end at done room = read (record { layers = []; surfaces = [] })
-rest src (suc fuel) surface at done room =
-    let next = room-after (payload (word src at)) in
-    with-surface src at (rest src fuel (found src (at + 7) (suc done) next) (at + 7) (suc done) next)
-rest src (suc fuel) layer at done room = with-layer (layer-at src at) (rest src fuel (found src (at + 7) done (room - 1)) (at + 7) done (room - 1))
+abbrev pub no-block : Block
+no-block = record { word = 0; raw = [] }
 
--- ---- the whole sheet
-abbrev pub with-beam : List ℕ → Result Rest → Result Sheet
-with-beam src (read r) = read (record { wavelength = float src 2; s = float src 4; p = float src 6; surfaces = r .surfaces })
-with-beam src (fault place) = fault place
+unfoldable pub sheet-of : List Block → Sheet
+sheet-of bs =
+    let beam = getD bs 1 no-block in
+    record { wavelength = number beam 0; s = number beam 1; p = number beam 2; surfaces = gathered bs .surfaces }
 
--- OPEN of edition 1, BEAM, the blocks
+-- ---- from bytes to the sheet
 unfoldable pub decode : List ℕ → Result Sheet
-decode src =
-    cond (eqb (word src 0) (kind-word 1 1))
-    (cond (eqb (word src 1) (kind-word 2 0)) (with-beam src (rest src (suc (count src)) (found src 8 0 0) 8 0 0)) (fault 1))
-    (fault 0)
+decode src = let ws = words-of src in mapped sheet-of (blocks-from sheet-grammar (suc (length ws)) at-open 0 ws)
+
+-- refusal 5 at the place of the word at fault
+abbrev pub graded : {A : Type 0} → Result A → Outcome A
+graded (read a) = answer a
+graded (fault place) = refusal 5 place
+
+-- the count of SURFACEs
+abbrev pub surfaces-of : Sheet → ℕ
+surfaces-of x = length (x .surfaces)
+
+unfoldable pub grammar : List ℕ → Outcome ℕ
+grammar src = map surfaces-of (graded (decode src))
+
+-- document 01's number and values for each case
+abbrev pub outcome : Verdict → Outcome ℕ
+outcome (K.Whole n) = answer n
+outcome (K.Fault place) = refusal 5 place

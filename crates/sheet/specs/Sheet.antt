@@ -1,17 +1,16 @@
--- 01 section 1: a sheet as data, and its words and bytes. There is no reader here. Definitions only.
--- A float is its 64-bit pattern: the payload of a NaN is part of the bytes.
+-- 01 section 1: a sheet as data, its blocks, and from these its words, its bytes and the places of its kind words. There is no reader here.
+-- Definitions only. A float is its 64-bit pattern: the payload of a NaN is part of the bytes.
 use mathlib.Core.Path.{_≡_}
 use mathlib.Core.Logic.{_⊎_}
-use mathlib.Core.List.{List, [], _∷_, _++_}
+use mathlib.Core.List.{List, [], _∷_}
 use Prim.Native.Nat.{ℕ, _+_, _*_, _/_, _%_, _^_, _≤_, _<_}
-use lib.ListN.{length}
+use lib.ListN.{length, getD}
+use Rattle.sheet.specs.Blocks.{Block, All, flat, starts}
 
 -- ---- the data
 -- LAYER: n, k, thickness nm
-pub record SheetLayer : Type 0 where
-  pub n : ℕ
-  pub k : ℕ
-  pub thickness : ℕ
+pub data SheetLayer : Type 0 where
+  layer : ℕ → ℕ → ℕ → SheetLayer
 
 -- SURFACE: its payload, n_incident, n_substrate, angle rad; and the LAYERs after it
 pub record SheetSurface : Type 0 where
@@ -28,28 +27,29 @@ pub record Sheet : Type 0 where
   pub p : ℕ
   pub surfaces : List SheetSurface
 
+-- the i-th of some surfaces, counted from 0
+abbrev pub no-surface : SheetSurface
+no-surface = record { payload = 0; n-incident = 0; n-substrate = 0; angle = 0; layers = [] }
+
+abbrev pub nth : List SheetSurface → ℕ → SheetSurface
+nth ys i = getD ys i no-surface
+
 -- ---- which data a sheet can hold
 abbrev pub Pattern : ℕ → Type 0
 Pattern x = x < 2 ^ 64
 
-pub record GoodLayer (l : SheetLayer) : Type 0 where
-  pub n : Pattern (l .n)
-  pub k : Pattern (l .k)
-  pub thickness : Pattern (l .thickness)
-
-abbrev pub All : {A : Type 0} → (A → Type 0) → List A → Type 0
-All P [] = Unit
-All P (x ∷ xs) = P x × All P xs
+abbrev pub GoodLayer : SheetLayer → Type 0
+GoodLayer (layer n k thickness) = Pattern n × (Pattern k × Pattern thickness)
 
 -- payload 0 to 15; 0 to 16 LAYERs, and only after a coating 5
-pub record GoodSurface (x : SheetSurface) : Type 0 where
-  pub payload : x .payload ≤ 15
-  pub n-incident : Pattern (x .n-incident)
-  pub n-substrate : Pattern (x .n-substrate)
-  pub angle : Pattern (x .angle)
-  pub layers : All GoodLayer (x .layers)
-  pub few : length (x .layers) ≤ 16
-  pub custom : (x .layers ≡ []) ⊎ (x .payload / 2 ≡ 5)
+pub record GoodSurface (y : SheetSurface) : Type 0 where
+  pub payload : y .payload ≤ 15
+  pub n-incident : Pattern (y .n-incident)
+  pub n-substrate : Pattern (y .n-substrate)
+  pub angle : Pattern (y .angle)
+  pub layers : All GoodLayer (y .layers)
+  pub few : length (y .layers) ≤ 16
+  pub custom : (y .layers ≡ []) ⊎ (y .payload / 2 ≡ 5)
 
 -- 01's grammar, of the data: 0 to 64 SURFACEs
 pub record WellFormed (x : Sheet) : Type 0 where
@@ -59,40 +59,50 @@ pub record WellFormed (x : Sheet) : Type 0 where
   pub surfaces : All GoodSurface (x .surfaces)
   pub few : length (x .surfaces) ≤ 64
 
--- ---- the words
+-- ---- the blocks
 -- a kind word: its kind in the top 4 bits and a payload in the low 28
 abbrev pub kind-word : ℕ → ℕ → ℕ
 kind-word kind payload = kind * 2 ^ 28 + payload
 
 -- two raw words to an f64: bits, high word first
-abbrev pub float-words : ℕ → List ℕ
-float-words x = x / 2 ^ 32 ∷ x % 2 ^ 32 ∷ []
+unfoldable pub raw-words : List ℕ → List ℕ
+raw-words [] = []
+raw-words (x ∷ xs) = x / 2 ^ 32 ∷ x % 2 ^ 32 ∷ raw-words xs
+
+abbrev pub block : ℕ → ℕ → List ℕ → Block
+block kind payload floats = record { word = kind-word kind payload; raw = raw-words floats }
 
 -- kind 4
-unfoldable pub layer-words : SheetLayer → List ℕ
-layer-words l = kind-word 4 0 ∷ float-words (l .n) ++ float-words (l .k) ++ float-words (l .thickness)
+abbrev pub layer-block : SheetLayer → Block
+layer-block (layer n k thickness) = block 4 0 (n ∷ k ∷ thickness ∷ [])
 
-unfoldable pub layers-words : List SheetLayer → List ℕ
-layers-words [] = []
-layers-words (l ∷ ls) = layer-words l ++ layers-words ls
+-- kind 3
+abbrev pub surface-block : SheetSurface → Block
+surface-block y = block 3 (y .payload) (y .n-incident ∷ y .n-substrate ∷ y .angle ∷ [])
 
--- kind 3, then its LAYERs
-unfoldable pub surface-words : SheetSurface → List ℕ
-surface-words x = (kind-word 3 (x .payload) ∷ float-words (x .n-incident) ++ float-words (x .n-substrate) ++ float-words (x .angle)) ++ layers-words (x .layers)
+-- LAYERs with `more` blocks after them
+unfoldable pub layers-blocks : List SheetLayer → List Block → List Block
+layers-blocks [] more = more
+layers-blocks (l ∷ ls) more = layer-block l ∷ layers-blocks ls more
 
-unfoldable pub surfaces-words : List SheetSurface → List ℕ
-surfaces-words [] = []
-surfaces-words (x ∷ xs) = surface-words x ++ surfaces-words xs
+-- SURFACEs, each before its LAYERs, with `more` blocks after them
+unfoldable pub surfaces-blocks : List SheetSurface → List Block → List Block
+surfaces-blocks [] more = more
+surfaces-blocks (y ∷ ys) more = surface-block y ∷ layers-blocks (y .layers) (surfaces-blocks ys more)
 
--- kind 2
-unfoldable pub beam-words : Sheet → List ℕ
-beam-words x = kind-word 2 0 ∷ float-words (x .wavelength) ++ float-words (x .s) ++ float-words (x .p)
+-- kind 5: the count of SURFACEs
+abbrev pub end-block : ℕ → Block
+end-block n = block 5 n []
 
--- OPEN of edition 1, BEAM, the SURFACEs, END with their count, nothing after
-unfoldable pub words : Sheet → List ℕ
-words x = kind-word 1 1 ∷ beam-words x ++ surfaces-words (x .surfaces) ++ (kind-word 5 (length (x .surfaces)) ∷ [])
+-- OPEN of edition 1, BEAM, the SURFACEs, END, nothing after
+unfoldable pub blocks : Sheet → List Block
+blocks x = block 1 1 [] ∷ block 2 0 (x .wavelength ∷ x .s ∷ x .p ∷ []) ∷ surfaces-blocks (x .surfaces) (end-block (length (x .surfaces)) ∷ [])
 
--- ---- the bytes: 32-bit words, high byte first
+-- ---- all three from the blocks: the words, the bytes, the places of the kind words counted in words from 0
+abbrev pub words : Sheet → List ℕ
+words x = flat (blocks x)
+
+-- 32-bit words, high byte first
 unfoldable pub bytes : List ℕ → List ℕ
 bytes [] = []
 bytes (w ∷ ws) = w / 2 ^ 24 ∷ w / 2 ^ 16 % 256 ∷ w / 2 ^ 8 % 256 ∷ w % 256 ∷ bytes ws
@@ -100,15 +110,5 @@ bytes (w ∷ ws) = w / 2 ^ 24 ∷ w / 2 ^ 16 % 256 ∷ w / 2 ^ 8 % 256 ∷ w % 2
 unfoldable pub encode : Sheet → List ℕ
 encode x = bytes (words x)
 
--- the places of its kind words, counted in words from 0
-unfoldable pub layer-places : ℕ → List SheetLayer → List ℕ
-layer-places at [] = []
-layer-places at (l ∷ ls) = at ∷ layer-places (at + 7) ls
-
-unfoldable pub surface-places : ℕ → List SheetSurface → List ℕ
-surface-places at [] = at ∷ []
-surface-places at (x ∷ xs) = at ∷ layer-places (at + 7) (x .layers) ++ surface-places (at + 7 + 7 * length (x .layers)) xs
-
--- OPEN, BEAM, each SURFACE and LAYER, END
-unfoldable pub places : Sheet → List ℕ
-places x = 0 ∷ 1 ∷ surface-places 8 (x .surfaces)
+abbrev pub places : Sheet → List ℕ
+places x = starts 0 (blocks x)

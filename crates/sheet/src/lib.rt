@@ -1,10 +1,12 @@
 // Sheets of document 01, section 1: the reader of their words, and the grammar.
 ghost use mathlib.Core.Path.{_≡_};
+ghost use mathlib.Core.Bool.{true};
 ghost use Prim.Native.Nat.{_<_};
 ghost use lib.Ieee.{binary64, ofBits};
 ghost use Rattle.sheet.specs.Words.{big-endian, word as wordOf, float};
 ghost use Rattle.sheet.specs.Read as Read;
-ghost use Rattle.sheet.specs.Scan.{block-of, verdict-of, surface-count, layer-follows, layer-run};
+ghost use Rattle.sheet.specs.Read.{outcome, grammar};
+ghost use Rattle.sheet.specs.Internal.{standing-of, counted, next-place, place-on, layer-run, place};
 
 // ---- words
 
@@ -30,6 +32,34 @@ fn word_at(src: &[u8], at: usize) -> u32
         big_endian(src[i], src[i + 1], src[i + 2], src[i + 3])
     } else {
         0
+    }
+}
+
+// How many raw words follow a kind word.
+fn raws(w: u32) -> usize
+    ensures { λ r. ⌜ r ≡ Read.raws w ⌝ }
+{
+    let k = w / 0x1000_0000;
+    if k == 2 {
+        return 6;
+    }
+    if k == 3 {
+        return 6;
+    }
+    if k == 4 {
+        return 6;
+    }
+    0
+}
+
+// The place after the block at a place; past the last word the place itself.
+pub fn next_place(src: &[u8], at: usize) -> usize
+    ensures { λ r. ⌜ r ≡ next-place (now (src .entry)) at ⌝ }
+{
+    if at < src.len() / 4 {
+        at + raws(word_at(src, at)) + 1
+    } else {
+        at
     }
 }
 
@@ -61,6 +91,13 @@ pub fn word_from(src: &[u8], at: usize) -> u32
     word(moved(new(src), at))
 }
 
+// The kind word after the block at a place.
+fn word_after(src: &[u8], at: usize) -> u32
+    ensures { λ r. ⌜ r ≡ wordOf (now (src .entry)) (next-place (now (src .entry)) at) ⌝ }
+{
+    word_from(src, next_place(src, at))
+}
+
 // The float in two raw words.
 pub fn float_from(src: &[u8], at: usize) -> f64
     ensures { λ r. ⌜ r ≡ ofBits binary64 (float (now (src .entry)) at) ⌝ }
@@ -74,18 +111,17 @@ pub fn float_from(src: &[u8], at: usize) -> f64
 
 // ---- grammar
 
-// What follows a kind word: the raw words of a SURFACE or a LAYER, nothing after END, or a fault at
-// a place.
-pub enum Block {
-    Surface,
-    Layer,
-    End,
-    Wrong(usize),
+// Where one stands between two blocks: before OPEN, before BEAM, among the blocks after it (SURFACEs
+// so far, LAYERs that may come), after END.
+pub enum Standing {
+    AtOpen,
+    AtBeam,
+    Among(u32, u32),
+    Ended,
 }
 
-fn is_surface(total: usize, at: usize, w: u32, done: u32) -> bool
-    requires { ⌜ at < total ⌝ }
-    ensures { λ r. ⌜ r ≡ Read.is-surface total at w done ⌝ }
+fn is_surface(done: u32, w: u32) -> bool
+    ensures { λ r. ⌜ r ≡ Read.is-surface done w ⌝ }
 {
     if w / 0x1000_0000 != 3 {
         return false;
@@ -93,30 +129,23 @@ fn is_surface(total: usize, at: usize, w: u32, done: u32) -> bool
     if done >= 64 {
         return false;
     }
-    if w % 0x1000_0000 > 15 {
-        return false;
-    }
-    total - at >= 7
+    w % 0x1000_0000 <= 15
 }
 
-fn is_layer(total: usize, at: usize, w: u32, room: u32) -> bool
-    requires { ⌜ at < total ⌝ }
-    ensures { λ r. ⌜ r ≡ Read.is-layer total at w room ⌝ }
+fn is_layer(most: u32, w: u32) -> bool
+    ensures { λ r. ⌜ r ≡ Read.is-layer most w ⌝ }
 {
     if w / 0x1000_0000 != 4 {
         return false;
     }
-    if room == 0 {
+    if most == 0 {
         return false;
     }
-    if w % 0x1000_0000 != 0 {
-        return false;
-    }
-    total - at >= 7
+    w % 0x1000_0000 == 0
 }
 
-fn is_end(w: u32, done: u32) -> bool
-    ensures { λ r. ⌜ r ≡ Read.is-end w done ⌝ }
+fn is_end(done: u32, w: u32) -> bool
+    ensures { λ r. ⌜ r ≡ Read.is-end done w ⌝ }
 {
     if w / 0x1000_0000 != 5 {
         return false;
@@ -124,43 +153,71 @@ fn is_end(w: u32, done: u32) -> bool
     w % 0x1000_0000 == done
 }
 
-// The word w at the place at of total, with done SURFACEs before it and room for so many LAYERs.
-fn follows(total: usize, at: usize, w: u32, done: u32, room: u32) -> Block
-    requires { ⌜ at < total ⌝ }
-    ensures { λ r. ⌜ block-of r ≡ Read.follows total at w done room ⌝ }
+// Whether a kind word may come there.
+fn may(s: Standing, w: u32) -> bool
+    ensures { λ r. ⌜ r ≡ Read.may (standing-of s) w ⌝ }
 {
-    if is_surface(total, at, w, done) {
-        return Block::Surface;
-    }
-    if is_layer(total, at, w, room) {
-        return Block::Layer;
-    }
-    if is_end(w, done) {
-        if at + 1 == total {
-            return Block::End;
+    match s {
+        Standing::AtOpen => w == 0x1000_0001,
+        Standing::AtBeam => w == 0x2000_0000,
+        Standing::Among(done, most) => {
+            if is_surface(done, w) {
+                return true;
+            }
+            if is_layer(most, w) {
+                return true;
+            }
+            is_end(done, w)
         }
-        return Block::Wrong(at + 1);
-    }
-    Block::Wrong(at)
-}
-
-// What stands at a place of a sheet; END is missing where that is past the last word.
-pub fn found(src: &[u8], at: usize, done: u32, room: u32) -> Block
-    ensures { λ r. ⌜ block-of r ≡ Read.found (now (src .entry)) at done room ⌝ }
-{
-    let total = src.len() / 4;
-    if at < total {
-        follows(total, at, word_from(src, at), done, room)
-    } else {
-        Block::Wrong(at)
+        Standing::Ended => false,
     }
 }
 
-// Room for LAYERs after a SURFACE of this payload.
-fn room_after(payload: u32) -> u32
-    ensures { λ r. ⌜ r ≡ Read.room-after payload ⌝ }
+// How many LAYERs may come after a SURFACE of this payload.
+fn layers_after(payload: u32) -> u32
+    ensures { λ r. ⌜ r ≡ Read.layers-after payload ⌝ }
 {
     if payload / 2 == 5 { 16 } else { 0 }
+}
+
+// Where one stands after a kind word that may come.
+fn after(s: Standing, w: u32) -> Standing
+    requires { ⌜ Read.may (standing-of s) w ≡ true ⌝ }
+    ensures { λ r. ⌜ standing-of r ≡ Read.after (standing-of s) w ⌝ }
+{
+    match s {
+        Standing::AtOpen => Standing::AtBeam,
+        Standing::AtBeam => Standing::Among(0, 0),
+        Standing::Among(done, most) => {
+            if w / 0x1000_0000 == 3 {
+                return Standing::Among(done + 1, layers_after(w % 0x1000_0000));
+            }
+            if w / 0x1000_0000 == 5 {
+                return Standing::Ended;
+            }
+            Standing::Among(done, most - 1)
+        }
+        Standing::Ended => Standing::Ended,
+    }
+}
+
+fn has_ended(s: Standing) -> bool
+    ensures { λ r. ⌜ r ≡ Read.may-end (standing-of s) ⌝ }
+{
+    match s {
+        Standing::AtOpen => false,
+        Standing::AtBeam => false,
+        Standing::Among(_, _) => false,
+        Standing::Ended => true,
+    }
+}
+
+// One more where the kind word is a SURFACE's.
+fn counted(w: u32, n: u32) -> u32
+    requires { ⌜ n < 0xFFFF_FFFF ⌝ }
+    ensures { λ r. ⌜ r ≡ counted w n ⌝ }
+{
+    if w / 0x1000_0000 == 3 { n + 1 } else { n }
 }
 
 // A sheet in grammar with its count of SURFACEs, or the place of the first word out of it.
@@ -171,46 +228,45 @@ pub enum Verdict {
 
 // The grammar over the whole sheet.
 pub fn grammar(src: &[u8]) -> Verdict
-    ensures { λ r. ⌜ verdict-of r ≡ surface-count (Read.decode (now (src .entry))) ⌝ }
+    ensures { λ r. ⌜ outcome r ≡ grammar (now (src .entry)) ⌝ }
 {
-    if word_from(src, 0) != 0x1000_0001 {
-        return Verdict::Fault(0);
-    }
-    if word_from(src, 1) != 0x2000_0000 {
-        return Verdict::Fault(1);
-    }
-    let mut at = 8;
-    let mut done: u32 = 0;
-    let mut room: u32 = 0;
-    loop {
-        match found(src, at, done, room) {
-            Block::Surface => {
-                room = room_after(word_from(src, at) % 0x1000_0000);
-                done += 1;
-                at += 7;
-            }
-            Block::Layer => {
-                room -= 1;
-                at += 7;
-            }
-            Block::End => return Verdict::Whole(done),
-            Block::Wrong(place) => return Verdict::Fault(place),
+    let total = src.len() / 4;
+    let mut s = Standing::AtOpen;
+    let mut at: usize = 0;
+    let mut count: u32 = 0;
+    while at < total {
+        let w = word_from(src, at);
+        if !may(s, w) {
+            return Verdict::Fault(at);
         }
+        let n = raws(w);
+        if total - at <= n {
+            return Verdict::Fault(at);
+        }
+        count = counted(w, count);
+        s = after(s, w);
+        at += n + 1;
+    }
+    if has_ended(s) {
+        Verdict::Whole(count)
+    } else {
+        Verdict::Fault(at)
     }
 }
 
-// Whether a LAYER's kind word stands after the block at a place.
-fn layer_follows(src: &[u8], at: usize) -> bool
-    ensures { λ r. ⌜ r ≡ layer-follows (now (src .entry)) at ⌝ }
+// ---- places
+
+// The place n blocks on.
+pub fn place_on(src: &[u8], at: usize, n: usize) -> usize
+    ensures { λ r. ⌜ r ≡ place-on (now (src .entry)) at n ⌝ }
 {
-    let total = src.len() / 4;
-    if total <= at {
-        return false;
+    let mut place = at;
+    let mut i = 0;
+    while i < n {
+        place = next_place(src, place);
+        i += 1;
     }
-    if total - at <= 7 {
-        return false;
-    }
-    word_from(src, at + 7) / 0x1000_0000 == 4
+    place
 }
 
 // How many LAYERs stand directly after the block at a place: 16 at the most.
@@ -218,13 +274,26 @@ pub fn layer_run(src: &[u8], at: usize) -> usize
     ensures { λ r. ⌜ r ≡ layer-run 16 (now (src .entry)) at ⌝ }
 {
     let mut n = 0;
-    let mut next = at;
+    let mut place = at;
     while n < 16 {
-        if !layer_follows(src, next) {
+        if word_after(src, place) / 0x1000_0000 != 4 {
             return n;
         }
-        next += 7;
+        place = next_place(src, place);
         n += 1;
     }
     n
+}
+
+// The place of the n-th SURFACE of a sheet in grammar, counted from 0.
+pub fn place_of(src: &[u8], n: u32) -> usize
+    ensures { λ r. ⌜ r ≡ place (now (src .entry)) n ⌝ }
+{
+    let mut at = place_on(src, 0, 2);
+    let mut i = 0;
+    while i < n {
+        at = place_on(src, at, layer_run(src, at) + 1);
+        i += 1;
+    }
+    at
 }

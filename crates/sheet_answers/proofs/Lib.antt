@@ -1,2 +1,2 @@
--- Facts on the LAYERs behind a block.
-pub mod Behind
+-- The LAYERs after the block at a place, as a list.
+pub mod After

@@ -1,11 +1,8 @@
-// The answers of a surface of a sheet, from the sheet's bytes: document 01, section 7. The surface's
-// SURFACE word is at a place, n LAYERs stand behind it, and neither need be so: past the last word
-// every word is zero.
+// The answers of a surface of a sheet, from the sheet's bytes: document 01, section 7. The SURFACE's kind
+// word is at a place and n LAYERs follow it; neither need be so: past the last word every word is zero.
 ghost use mathlib.Core.Path.{_≡_};
-ghost use mathlib.Core.List.{[]};
-ghost use Prim.Native.Nat.{_+_, _*_};
-ghost use Rattle.sheet.specs.Read.{layer-at, surface-at};
-ghost use Rattle.sheet_values.specs.Values.{film, films, surface-value, layers-at};
+ghost use Rattle.sheet.specs.Internal.{next-place, place-on, layer-at, layers-at};
+ghost use Rattle.sheet_values.specs.Values.{film, films};
 ghost use Rattle.thin_film_solver.specs.Stack.{steps};
 ghost use Rattle.thin_film_layers.specs.Walk.{ordered, outcome};
 ghost use Rattle.thin_film.specs.Evaluate.{evaluate-surface};
@@ -27,35 +24,28 @@ pub enum PowersReply {
     Refused(Refusal),
 }
 
-// The j-th LAYER behind the block at a place. Past the last word all are alike.
-pub fn layer_behind(src: &[u8], at: usize, j: usize) -> ThinFilmLayer
-    ensures { λ r. ⌜ r ≡ film (layer-at (now (src .entry)) (at + 7 + 7 * j)) ⌝ }
+// The j-th LAYER after the block at a place.
+pub fn layer_after(src: &[u8], at: usize, j: usize) -> ThinFilmLayer
+    ensures { λ r. ⌜ r ≡ film (layer-at (now (src .entry)) (place-on (now (src .entry)) (next-place (now (src .entry)) at) j)) ⌝ }
 {
-    let total = src.len() / 4;
-    if total <= at {
-        return sheet_values::layer_at(src, total);
-    }
-    if (total - at) / 7 <= j {
-        return sheet_values::layer_at(src, total);
-    }
-    sheet_values::layer_at(src, at + 7 + 7 * j)
+    sheet_values::layer_at(src, sheet::place_on(src, sheet::next_place(src, at), j))
 }
 
-// The stack with the n LAYERs behind the block at a place, read from either end.
+// The stack with the n LAYERs after the block at a place, read from either end.
 fn through(src: &[u8], at: usize, n: usize, far: bool, start: Stack) -> Stack
-    ensures { λ r. ⌜ r ≡ steps start (ordered far (films (layers-at (now (src .entry)) (at + 7) n))) ⌝ }
+    ensures { λ r. ⌜ r ≡ steps start (ordered far (films (layers-at (now (src .entry)) (next-place (now (src .entry)) at) n))) ⌝ }
 {
     let mut stack = start;
     let mut i = 0;
     while i < n {
         let j = thin_film_layers::nth_index(far, n, i);
-        stack = thin_film_solver::step(stack, layer_behind(src, at, j));
+        stack = thin_film_solver::step(stack, layer_after(src, at, j));
         i += 1;
     }
     stack
 }
 
-// A coated surface. Only Custom(Multilayer) has the LAYERs behind it, which are read from the far end
+// A coated surface. Only Custom(Multilayer) has the LAYERs after it, which are read from the far end
 // where light goes from the denser medium to the rarer one.
 fn evaluate_at(
     src: &[u8],
@@ -65,7 +55,7 @@ fn evaluate_at(
     coating: SurfaceCoating,
     wavelength_nm: f64,
 ) -> Evaluation
-    ensures { λ r. ⌜ outcome r ≡ evaluate-surface coating (films (layers-at (now (src .entry)) (at + 7) n)) (surface .«n_incident») (surface .«n_substrate») (surface .«angle_rad») «wavelength_nm» ⌝ }
+    ensures { λ r. ⌜ outcome r ≡ evaluate-surface coating (films (layers-at (now (src .entry)) (next-place (now (src .entry)) at) n)) (surface .«n_incident») (surface .«n_substrate») (surface .«angle_rad») «wavelength_nm» ⌝ }
 {
     let pending = thin_film::reading::prepare_surface(
         coating,
@@ -83,11 +73,16 @@ fn evaluate_at(
     }
 }
 
-// The powers of the surface at a place with the n LAYERs behind it.
-pub fn powers_at(src: &[u8], at: usize, n: usize, wavelength_nm: f64) -> PowersReply
-    ensures { λ r. ⌜ outcome-of r ≡ powers «wavelength_nm» (surface-value (surface-at (now (src .entry)) at [])) (films (layers-at (now (src .entry)) (at + 7) n)) ⌝ }
+// The powers of the surface at a place with the n LAYERs after it.
+pub fn powers_at(
+    src: &[u8],
+    at: usize,
+    n: usize,
+    surface: Surface,
+    wavelength_nm: f64,
+) -> PowersReply
+    ensures { λ r. ⌜ outcome-of r ≡ powers «wavelength_nm» surface (films (layers-at (now (src .entry)) (next-place (now (src .entry)) at) n)) ⌝ }
 {
-    let surface = sheet_values::surface_at(src, at);
     match gate_limits::interface_of(surface.coating) {
         Interface::Bare => PowersReply::Powers(surface::bare_powers(surface)),
         Interface::Coated(coating) => {
@@ -99,11 +94,16 @@ pub fn powers_at(src: &[u8], at: usize, n: usize, wavelength_nm: f64) -> PowersR
     }
 }
 
-// The answers of the surface at a place with the n LAYERs behind it.
-pub fn answers_at(src: &[u8], at: usize, n: usize, wavelength_nm: f64) -> AnswersReply
-    ensures { λ r. ⌜ r ≡ returned (answers «wavelength_nm» (surface-value (surface-at (now (src .entry)) at [])) (films (layers-at (now (src .entry)) (at + 7) n))) ⌝ }
+// The answers of the surface at a place with the n LAYERs after it.
+pub fn answers_at(
+    src: &[u8],
+    at: usize,
+    n: usize,
+    surface: Surface,
+    wavelength_nm: f64,
+) -> AnswersReply
+    ensures { λ r. ⌜ r ≡ returned (answers «wavelength_nm» surface (films (layers-at (now (src .entry)) (next-place (now (src .entry)) at) n))) ⌝ }
 {
-    let surface = sheet_values::surface_at(src, at);
     match gate_limits::interface_of(surface.coating) {
         Interface::Bare => surface::bare_answers(surface),
         Interface::Coated(coating) => {

@@ -10,9 +10,9 @@ use lib.Ieee.Fits.{and-l}
 use Rattle.gate_limits.specs.Limits.{wavelength-passes, beam-passes, passes}
 use Rattle.surface.specs.Finite.{Answered}
 use Rattle.surface.proofs.Finite.{every-surface-answered}
-use Rattle.sheet.specs.Sheet.{SheetLayer, SheetSurface, Sheet, All}
-use Rattle.sheet_values.specs.Nth.{nth}
-use Rattle.sheet_values.specs.Values.{value, films, surface-value, layers-at}
+use Rattle.sheet.specs.Blocks.{All}
+use Rattle.sheet.specs.Sheet.{SheetLayer, SheetSurface, nth, Sheet}
+use Rattle.sheet_values.specs.Values.{value, films, surface-value}
 use Rattle.gate.specs.Claim.{WithinLimits}
 
 pub all-nth : (P : SheetSurface → Type 0) (ys : List SheetSurface) (i : ℕ) → All P ys → i < length ys → P (nth ys i)
@@ -20,15 +20,10 @@ all-nth P [] i a h = absurd (omega arith)
 all-nth P (y ∷ ys) zero a h = a .0
 all-nth P (y ∷ ys) (suc i) a h = all-nth P ys i (a .1) (omega arith)
 
-films-length : (ls : List SheetLayer) → length (films ls) ≡ length ls
+pub films-length : (ls : List SheetLayer) → length (films ls) ≡ length ls
 unfolding films
 films-length [] = λ i. 0
 films-length (l ∷ ls) = ap suc (films-length ls)
-
-pub layers-length : (src : List ℕ) (at n : ℕ) → length (layers-at src at n) ≡ n
-unfolding layers-at
-layers-length src at zero = λ i. 0
-layers-length src at (suc n) = ap suc (layers-length src (at + 7) n)
 
 pub wavelength-within : (x : Sheet) → WithinLimits x → T (wavelength-passes (value (x .wavelength)))
 unfolding beam-passes

@@ -1,43 +1,32 @@
 -- The surface of a number: of an admitted sheet, and of one that is not. Assumes nothing.
-use mathlib.Core.Path.{_≡_, sym, ap, _∙_}
-use mathlib.Core.List.{List, []}
-use Prim.Native.Nat.{ℕ, _+_, _*_, _≤_, _<_}
+use mathlib.Core.Path.{_≡_, refl, sym, ap, _∙_}
+use mathlib.Core.List.{List, [], _∷_}
+use Prim.Native.Nat.{ℕ, suc, _+_, _*_, _≤_, _<_}
 use native.Mathlib.Omega.{arith}
 use borrow.Author.Tests.{lt-ltb, le-ltb}
-use lib.ListN.{length}
+use lib.ListN.{length, getD, drop}
 use Rattle.refusal.specs.declared.Refusal.{Refusal}
 use Rattle.refusal.specs.Outcome.{Outcome, answer, refusal, refused, map}
 use Rattle.thin_film_solver.specs.declared.ThinFilmLayer.{ThinFilmLayer}
 use Rattle.gate_limits.specs.declared.Surface as Value
-use Rattle.sheet.specs.Sheet.{SheetSurface, Sheet}
-use Rattle.sheet.specs.Read.{layer-at, surface-at}
-use Rattle.sheet.specs.Scan.{layer-run}
-use Rattle.sheet_values.specs.Nth.{place}
-use Rattle.sheet_values.specs.Values.{film, surface-value, layers-at}
-use Rattle.sheet_values.proofs.Along.{placed}
-use Rattle.sheet_answers.proofs.Behind as Behind
+use Rattle.sheet.specs.Sheet.{SheetSurface, nth, Sheet, surfaces-blocks, end-block}
+use Rattle.sheet.specs.Internal.{next-place, place-on, layer-run, layer-at, surface-at, layers-at, place}
+use Rattle.sheet.proofs.Stands.{SurfaceHere, Known, placed}
+use Rattle.sheet_values.specs.Values.{film, films, surface-value}
+use Rattle.sheet_values.proofs.Here.{value-here, films-here}
+use Rattle.sheet_answers.proofs.After as After
 use Rattle.gate.specs.Gate.{gate, gated}
-use Rattle.gate.proofs.Admitted.{admitted, turned-back}
+use Rattle.gate.proofs.Admitted.{Admitted, admitted, turned-back}
 use Rattle.sheet_surfaces.specs.Surfaces.{of-surface, numbered, nth-surface, no-film, layer-of, nth-layer}
-use Rattle.sheet_surfaces.proofs.Answers.{layers-length}
-
--- the surface whose SURFACE word is at a place, with the LAYERs behind it
-abbrev pub standing : List ℕ → ℕ → SheetSurface
-standing src at = surface-at src at (layers-at src (at + 7) (layer-run 16 src at))
 
 -- ---- what is said of the i-th surface
 module _ {A : Type 0} (f : Sheet → SheetSurface → Outcome A) (src : List ℕ) (i : ℕ) where
-  module _ (n : ℕ) (e : answer n ≡ gate src) where
+  module _ (n : ℕ) (a : Admitted src n) where
     pub none : n ≤ i → refusal 7 0 ≡ of-surface f i (gated src)
-    none h =
-        let a = admitted src n e in
-        sym (ap (of-surface f i) (a .is) ∙ rw (le-ltb i (length (a .sheet .surfaces)) (omega (arith, a .counts))))
+    none h = sym (ap (of-surface f i) (a .is) ∙ rw (le-ltb i (length (a .sheet .surfaces)) (omega (arith, a .counts))))
 
-    pub there : i < n → (at : ℕ) → at ≡ place src i → f (admitted src n e .sheet) (standing src at) ≡ of-surface f i (gated src)
-    there h at q =
-        let a = admitted src n e in
-        let d : i < length (a .sheet .surfaces) = omega (arith, a .counts) in
-        sym (ap (of-surface f i) (a .is) ∙ rw (lt-ltb i (length (a .sheet .surfaces)) d) (ap (f (a .sheet)) (sym (placed src i at q (a .sheet) (a .reads) d))))
+    pub there : i < n → f (a .sheet) (nth (a .sheet .surfaces) i) ≡ of-surface f i (gated src)
+    there h = sym (ap (of-surface f i) (a .is) ∙ rw (lt-ltb i (length (a .sheet .surfaces)) (omega (arith, a .counts))))
 
   pub not-admitted : (r : Refusal) → refused r ≡ gate src → refused r ≡ of-surface f i (gated src)
   not-admitted r e = sym (ap (of-surface f i) (turned-back src (r .number) (r .place) e))
@@ -46,33 +35,49 @@ module _ (src : List ℕ) (i : ℕ) where
   abbrev itself : Sheet → SheetSurface → Outcome SheetSurface
   itself x y = answer y
 
-  module _ (n : ℕ) (e : answer n ≡ gate src) where
+  module _ (n : ℕ) (known : Known src) (e : answer n ≡ gate src) where
+    abbrev a : Admitted src n
+    a = admitted src n known e
+
+    -- where it stands
+    pub here : (h : i < n) → SurfaceHere src (place src i) (nth (a .sheet .surfaces) i) (surfaces-blocks (drop (suc i) (a .sheet .surfaces)) (end-block (length (a .sheet .surfaces)) ∷ []))
+    here h = placed src (a .sheet) (a .stands) i (omega (arith, a .counts))
+
     -- ---- its words
     pub no-surface-there : n ≤ i → refusal 7 0 ≡ nth-surface src i
     unfolding nth-surface
-    no-surface-there h = ap (map numbered) (none itself src i n e h)
+    no-surface-there h = ap (map numbered) (none itself src i n a h)
 
     pub surface-there : i < n → (at : ℕ) → at ≡ place src i → (s : Value.Surface) → s ≡ surface-value (surface-at src at []) → (m : ℕ) → m ≡ layer-run 16 src at → answer (record { surface = s; layers = m }) ≡ nth-surface src i
     unfolding nth-surface
     surface-there h at q s es m em =
-        ap answer (λ k. record { surface = es k; layers = (em ∙ sym (layers-length src (at + 7) (layer-run 16 src at))) k }) ∙ ap (map numbered) (there itself src i n e h at q)
+        let w : s ≡ surface-value (nth (a .sheet .surfaces) i) = es ∙ ap (λ (k : ℕ). surface-value (surface-at src k [])) q ∙ value-here src (place src i) _ _ (here h) in
+        let l : m ≡ length (nth (a .sheet .surfaces) i .layers) = em ∙ ap (layer-run 16 src) q ∙ here h .run in
+        ap answer (λ k. record { surface = w k; layers = l k }) ∙ ap (map numbered) (there itself src i n a h)
 
     -- ---- its LAYERs
     module _ (j : ℕ) where
       pub no-layer-there : n ≤ i → refusal 7 0 ≡ nth-layer src i j
       unfolding nth-layer
-      no-layer-there h = ap (layer-of j) (none itself src i n e h)
+      no-layer-there h = ap (layer-of j) (none itself src i n a h)
 
       module _ (h : i < n) (at : ℕ) (q : at ≡ place src i) (m : ℕ) (em : m ≡ layer-run 16 src at) where
+        abbrev y : SheetSurface
+        y = nth (a .sheet .surfaces) i
+
+        many : m ≡ length (y .layers)
+        many = em ∙ ap (layer-run 16 src) q ∙ here h .run
+
         pub past-layers : m ≤ j → refusal 7 0 ≡ nth-layer src i j
         unfolding nth-layer
-        past-layers l = sym (rw (le-ltb j (length (layers-at src (at + 7) (layer-run 16 src at))) (omega (arith, layers-length src (at + 7) (layer-run 16 src at))))) ∙ ap (layer-of j) (there itself src i n e h at q)
+        past-layers l = sym (rw (le-ltb j (length (y .layers)) (omega (arith, many)))) ∙ ap (layer-of j) (there itself src i n a h)
 
-        pub layer-there : j < m → (z : ThinFilmLayer) → z ≡ film (layer-at src (at + 7 + 7 * j)) → answer z ≡ nth-layer src i j
+        pub layer-there : j < m → (z : ThinFilmLayer) → z ≡ film (layer-at src (place-on src (next-place src at) j)) → answer z ≡ nth-layer src i j
         unfolding nth-layer
         layer-there l z ez =
-            ap answer (ez ∙ sym (Behind.nth src (at + 7) (layer-run 16 src at) j no-film (omega arith)))
-            ∙ sym (rw (lt-ltb j (length (layers-at src (at + 7) (layer-run 16 src at))) (omega (arith, layers-length src (at + 7) (layer-run 16 src at))))) ∙ ap (layer-of j) (there itself src i n e h at q)
+            let all : films (layers-at src (next-place src at) m) ≡ films (y .layers) = ap (λ (k : ℕ). films (layers-at src (next-place src k) m)) q ∙ films-here src (place src i) y _ (here h) m (em ∙ ap (layer-run 16 src) q) in
+            ap answer (ez ∙ sym (After.nth src (next-place src at) m j no-film l) ∙ ap (λ (ls : List ThinFilmLayer). getD ls j no-film) all)
+            ∙ sym (rw (lt-ltb j (length (y .layers)) (omega (arith, many)))) ∙ ap (layer-of j) (there itself src i n a h)
 
   pub surface-refused : (r : Refusal) → refused r ≡ gate src → refused r ≡ nth-surface src i
   unfolding nth-surface

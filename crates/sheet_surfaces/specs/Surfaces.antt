@@ -9,8 +9,7 @@ use Rattle.refusal.specs.Outcome.{Outcome, answer, refusal, refused, map}
 use Rattle.thin_film_solver.specs.declared.ThinFilmLayer.{ThinFilmLayer}
 use Rattle.surface.specs.declared.Answers.{Answers}
 use Rattle.surface.specs.Answers.{answers, no-answers}
-use Rattle.sheet.specs.Sheet.{SheetSurface, Sheet}
-use Rattle.sheet_values.specs.Nth.{nth}
+use Rattle.sheet.specs.Sheet.{SheetSurface, nth, Sheet}
 use Rattle.sheet_values.specs.Values.{value, films, surface-value}
 use Rattle.gate.specs.Gate.{gated}
 use Rattle.sheet_surfaces.specs.declared.SurfaceReply.{SurfaceReply}

@@ -37,9 +37,11 @@ pub fn surface_answers(src: &[u8], i: u32) -> SurfaceReply
                     place: 0,
                 });
             }
-            let at = sheet_values::place_of(src, i);
+            let at = sheet::place_of(src, i);
             let n = sheet::layer_run(src, at);
-            let reply = sheet_answers::answers_at(src, at, n, sheet::float_from(src, 2));
+            let surface = sheet_values::surface_at(src, at);
+            let beam = sheet_values::beam_of(src);
+            let reply = sheet_answers::answers_at(src, at, n, surface, beam.wavelength_nm);
             let answers = reply.answers;
             SurfaceReply {
                 refusal: Refusal {
@@ -55,7 +57,7 @@ pub fn surface_answers(src: &[u8], i: u32) -> SurfaceReply
 
 // ---- its words
 
-// A SURFACE's words, and how many LAYERs stand behind it.
+// A SURFACE's words, and how many LAYERs it has.
 pub struct NumberedSurface {
     pub surface: Surface,
     pub layers: usize,
@@ -78,7 +80,7 @@ pub fn nth_surface(src: &[u8], i: u32) -> NthSurface
                     place: 0,
                 });
             }
-            let at = sheet_values::place_of(src, i);
+            let at = sheet::place_of(src, i);
             let surface = sheet_values::surface_at(src, at);
             let layers = sheet::layer_run(src, at);
             NthSurface::Surface(NumberedSurface { surface, layers })
@@ -104,14 +106,14 @@ pub fn nth_layer(src: &[u8], i: u32, j: usize) -> NthLayer
                     place: 0,
                 });
             }
-            let at = sheet_values::place_of(src, i);
+            let at = sheet::place_of(src, i);
             if j >= sheet::layer_run(src, at) {
                 return NthLayer::Refused(Refusal {
                     number: 7,
                     place: 0,
                 });
             }
-            NthLayer::Layer(sheet_answers::layer_behind(src, at, j))
+            NthLayer::Layer(sheet_answers::layer_after(src, at, j))
         }
         Gated::Refused(r) => NthLayer::Refused(r),
     }

@@ -1,4 +1,3 @@
--- Facts on places past the last word, on a walk over the surfaces of a sheet, and on where each stands.
+-- Facts on places past the last word, and on the values of the blocks of a sheet that stand in some bytes.
 pub mod Past
-pub mod Walk
-pub mod Along
+pub mod Here

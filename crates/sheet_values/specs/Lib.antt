@@ -1,3 +1,3 @@
--- The values that a sheet's SURFACEs and LAYERs hold, and where they stand.
+-- The values that a sheet's BEAM, SURFACEs and LAYERs hold.
 pub mod Values
-pub mod Nth
+pub mod Internal

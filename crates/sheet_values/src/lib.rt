@@ -1,11 +1,43 @@
-// The SURFACEs and LAYERs of a sheet as values, and where a SURFACE stands: document 01, section 1.
+// The BEAM, the SURFACEs and the LAYERs of a sheet as values: document 01, section 1.
 ghost use mathlib.Core.Path.{_≡_};
 ghost use mathlib.Core.List.{[]};
-ghost use Rattle.sheet.specs.Read.{layer-at, surface-at};
-ghost use Rattle.sheet_values.specs.Nth.{place};
+ghost use Rattle.sheet.specs.Internal.{next-place, layer-at, surface-at};
 ghost use Rattle.sheet_values.specs.Values.{film, surface-value};
+ghost use Rattle.sheet_values.specs.Internal.{beam-at};
 use gate_limits::Surface;
 use thin_film_solver::ThinFilmLayer;
+
+// A BEAM: its wavelength, its s and its p power.
+pub struct Beam {
+    pub wavelength_nm: f64,
+    pub s: f64,
+    pub p: f64,
+}
+
+// The BEAM whose kind word is at a place; zero throughout past the last word.
+pub fn beam_at(src: &[u8], at: usize) -> Beam
+    ensures { λ r. ⌜ r ≡ beam-at (now (src .entry)) at ⌝ }
+{
+    if at < src.len() / 4 {
+        return Beam {
+            wavelength_nm: sheet::float_from(src, at + 1),
+            s: sheet::float_from(src, at + 3),
+            p: sheet::float_from(src, at + 5),
+        };
+    }
+    Beam {
+        wavelength_nm: 0.0,
+        s: 0.0,
+        p: 0.0,
+    }
+}
+
+// The BEAM of a sheet: it stands after OPEN.
+pub fn beam_of(src: &[u8]) -> Beam
+    ensures { λ r. ⌜ r ≡ beam-at (now (src .entry)) (next-place (now (src .entry)) 0) ⌝ }
+{
+    beam_at(src, sheet::next_place(src, 0))
+}
 
 // The SURFACE whose kind word is at a place; zero throughout past the last word.
 pub fn surface_at(src: &[u8], at: usize) -> Surface
@@ -46,17 +78,4 @@ pub fn layer_at(src: &[u8], at: usize) -> ThinFilmLayer
         k: 0.0,
         thickness_nm: 0.0,
     }
-}
-
-// The place of the n-th SURFACE of a sheet in grammar, counted from 0.
-pub fn place_of(src: &[u8], n: u32) -> usize
-    ensures { λ r. ⌜ r ≡ place (now (src .entry)) n ⌝ }
-{
-    let mut at = 8;
-    let mut i = 0;
-    while i < n {
-        at += 7 + 7 * sheet::layer_run(src, at);
-        i += 1;
-    }
-    at
 }

@@ -1,3 +1,3 @@
--- Facts on a fresh train, and on what a run writes on the way.
-pub mod Fresh
+-- The powers of a surface within the limits, and what a run writes on the way.
+pub mod Here
 pub mod Written

@@ -8,8 +8,7 @@ use lib.ListN.{length, set, take, drop, length-set, take-append-drop}
 use lib.Seq.{drop-cons, drop-length, take-suc-set, drop-set-lt}
 use lib.Ieee.{Float}
 use Rattle.ieee.specs.Operators.{_⊗_}
-use Rattle.sheet.specs.Sheet.{SheetSurface}
-use Rattle.sheet_values.specs.Nth.{no-surface, nth}
+use Rattle.sheet.specs.Sheet.{SheetSurface, no-surface, nth}
 use Rattle.train_steps.specs.declared.State.{State}
 use Rattle.train_steps.specs.Train.{chosen-powers, after-one, after-each}
 

@@ -6,31 +6,30 @@ use lib.Dec.{leb, ltb}
 use lib.ListN.{length, drop}
 use lib.Ieee.{Float, nan}
 use Rattle.ieee.specs.Operators.{_⊗_, _⊕_}
-use Rattle.refusal.specs.Outcome.{Outcome, answer, refusal, refused, map}
+use Rattle.refusal.specs.Outcome.{Outcome, answer, refusal, refused, map, bind}
 use Rattle.surface.specs.declared.Powers.{Powers}
-use Rattle.surface.specs.Answers.{powers}
-use Rattle.sheet.specs.Sheet.{SheetSurface, Sheet}
-use Rattle.sheet_values.specs.Nth.{nth}
+use Rattle.surface.specs.declared.Answers.{Answers}
+use Rattle.surface.specs.Answers.{answers}
+use Rattle.sheet.specs.Sheet.{SheetSurface, nth, Sheet}
 use Rattle.sheet_values.specs.Values.{value, films, surface-value}
 use Rattle.gate.specs.Gate.{gated}
 use Rattle.train_steps.specs.declared.Chosen.{Chosen}
 use Rattle.train_steps.specs.declared.State.{State}
-use Rattle.train_steps.specs.declared.Started.{Started}
-use Rattle.train_steps.specs.declared.Started.the-variants as S
-use Rattle.train_steps.specs.declared.Stepped.{Stepped}
+use Rattle.train_steps.specs.declared.TrainReply.{TrainReply}
+use Rattle.train_steps.specs.declared.TrainReply.the-variants as S
 
 -- ---- a surface
 -- the R_s or T_s and the R_p or T_p of its answers, as chosen by the lowest payload bit
 abbrev pub chosen : Bool → Powers → Chosen
 chosen reflected r = record { s = cond reflected (r .«reflectance_s») (r .«transmittance_s»); p = cond reflected (r .«reflectance_p») (r .«transmittance_p») }
 
--- NaN where a surface has no powers, which no surface within the limits is without (crate `train_claim`)
+-- NaN where a surface has no answers, which no surface within the limits is without (crate `train_claim`)
 abbrev pub chosen-of : Bool → Outcome Powers → Chosen
 chosen-of reflected (answer r) = chosen reflected r
 chosen-of reflected (refusal number place) = record { s = nan; p = nan }
 
 unfoldable pub chosen-powers : Float → SheetSurface → Chosen
-chosen-powers wavelength y = chosen-of (surface-value y .reflected) (powers wavelength (surface-value y) (films (y .layers)))
+chosen-powers wavelength y = chosen-of (surface-value y .reflected) (map (λ (a : Answers). a .powers) (answers wavelength (surface-value y) (films (y .layers))))
 
 -- ---- Start: 0 and the BEAM's powers; a train in that state is fresh
 abbrev pub fresh : Sheet → State
@@ -40,8 +39,8 @@ unfoldable pub start : List ℕ → Outcome State
 start src = map fresh (gated src)
 
 -- document 01's number and values for each case
-abbrev pub outcome : Started → Outcome State
-outcome (S.Fresh st) = answer st
+abbrev pub outcome : TrainReply → Outcome State
+outcome (S.State st) = answer st
 outcome (S.Refused r) = refused r
 
 -- Sum is s + p
@@ -52,17 +51,18 @@ sum s p = s ⊕ p
 unfoldable pub after-one : Float → State → SheetSurface → State
 after-one wavelength st y = let c = chosen-powers wavelength y in record { done = st .done + 1; s = st .s ⊗ c .s; p = st .p ⊗ c .p }
 
--- a refusal's number is 0 where there is none; 7 when surfaces done is the sheet's count or more; the state is as before where the step is refused
-abbrev pub stepped : State → Outcome Sheet → Stepped
-stepped st (answer x) =
-    cond (ltb (st .done) (length (x .surfaces)))
-    (record { refusal = record { number = 0; place = 0 }; state = after-one (value (x .wavelength)) st (nth (x .surfaces) (st .done)) })
-    (record { refusal = record { number = 7; place = 0 }; state = st })
-stepped st (refusal number place) = record { refusal = record { number = number; place = place }; state = st }
+-- 7 when surfaces done is the sheet's count or more
+abbrev pub stepped : State → Sheet → Outcome State
+stepped st x = cond (ltb (st .done) (length (x .surfaces))) (answer (after-one (value (x .wavelength)) st (nth (x .surfaces) (st .done)))) (refusal 7 0)
 
 -- it gates the sheet anew
-unfoldable pub step : List ℕ → State → Stepped
-step src st = stepped st (gated src)
+unfoldable pub step : List ℕ → State → Outcome State
+step src st = bind (gated src) (stepped st)
+
+-- the state that a call returns, which is the state as before where it was refused
+abbrev pub state-after : State → Outcome State → State
+state-after st (answer next) = next
+state-after st (refusal number place) = st
 
 -- ---- a whole run: s, p after each surface, as one step after another gives them
 unfoldable pub after-each : Float → State → List SheetSurface → List Float

@@ -4,12 +4,12 @@ ghost use mathlib.Core.Path.{_≡_};
 ghost use mathlib.Core.List.{_++_};
 ghost use Prim.Native.Nat.{_+_, _*_, _≤_, _<_};
 ghost use lib.ListN.{length, drop};
+ghost use Rattle.refusal.specs.Outcome.{answer};
 ghost use Rattle.sheet.specs.Sheet.{Sheet};
-ghost use Rattle.sheet.specs.Read.{read, decode, surface-at};
-ghost use Rattle.sheet.specs.Scan.{layer-run};
-ghost use Rattle.sheet_values.specs.Values.{layers-at};
+ghost use Rattle.sheet_values.specs.Values.{value};
 ghost use Rattle.gate.specs.Gate as Gate;
-ghost use Rattle.train_steps.specs.Train.{chosen, chosen-powers, fresh, start, outcome, after-one, step, after-each, run, sum};
+ghost use Rattle.train_steps.specs.Train.{chosen, fresh, start, outcome, step, after-each, run, sum};
+ghost use Rattle.train_steps.specs.Internal.{chosen-at, moved-at};
 use gate::Gated;
 use refusal::Refusal;
 use sheet_answers::PowersReply;
@@ -40,12 +40,13 @@ fn choose(reflected: bool, r: Powers) -> Chosen
     }
 }
 
-// Of the surface at a place with the n LAYERs behind it. No surface within the limits is refused.
+// Of the surface at a place with the n LAYERs after it. No surface within the limits is refused.
 fn chosen_at(src: &[u8], at: usize, n: usize, wavelength_nm: f64) -> Chosen
-    ensures { λ r. ⌜ r ≡ chosen-powers «wavelength_nm» (surface-at (now (src .entry)) at (layers-at (now (src .entry)) (at + 7) n)) ⌝ }
+    ensures { λ r. ⌜ r ≡ chosen-at (now (src .entry)) at n «wavelength_nm» ⌝ }
 {
-    match sheet_answers::powers_at(src, at, n, wavelength_nm) {
-        PowersReply::Powers(r) => choose(sheet_values::surface_at(src, at).reflected, r),
+    let surface = sheet_values::surface_at(src, at);
+    match sheet_answers::powers_at(src, at, n, surface, wavelength_nm) {
+        PowersReply::Powers(r) => choose(surface.reflected, r),
         PowersReply::Refused(_) => Chosen {
             s: 0.0 / 0.0,
             p: 0.0 / 0.0,
@@ -68,36 +69,33 @@ pub fn sum(s: f64, p: f64) -> f64
     s + p
 }
 
-// A fresh train, or a refusal.
-pub enum Started {
-    Fresh(State),
+// A train's state, or a refusal.
+pub enum TrainReply {
+    State(State),
     Refused(Refusal),
 }
 
 // A train before the first surface of its sheet.
-pub fn start(src: &[u8]) -> Started
+pub fn start(src: &[u8]) -> TrainReply
     ensures { λ r. ⌜ outcome r ≡ start (now (src .entry)) ⌝ }
 {
     match gate::gate(src) {
-        Gated::Admitted(_) => Started::Fresh(State {
-            done: 0,
-            s: sheet::float_from(src, 4),
-            p: sheet::float_from(src, 6),
-        }),
-        Gated::Refused(r) => Started::Refused(r),
+        Gated::Admitted(_) => {
+            let beam = sheet_values::beam_of(src);
+            TrainReply::State(State {
+                done: 0,
+                s: beam.s,
+                p: beam.p,
+            })
+        }
+        Gated::Refused(r) => TrainReply::Refused(r),
     }
 }
 
-// A state, and a refusal, whose number is 0 where there is none.
-pub struct Stepped {
-    pub refusal: Refusal,
-    pub state: State,
-}
-
 // The state after the surface whose SURFACE word is at a place.
-fn after_one(src: &[u8], at: usize, wavelength_nm: f64, state: State) -> State
+fn moved_at(src: &[u8], at: usize, wavelength_nm: f64, state: State) -> State
     requires { ⌜ state .done < 0xFFFF_FFFF ⌝ }
-    ensures { λ r. ⌜ r ≡ after-one «wavelength_nm» state (surface-at (now (src .entry)) at (layers-at (now (src .entry)) (at + 7) (layer-run 16 (now (src .entry)) at))) ⌝ }
+    ensures { λ r. ⌜ r ≡ moved-at (now (src .entry)) at «wavelength_nm» state ⌝ }
 {
     let c = chosen_at(src, at, sheet::layer_run(src, at), wavelength_nm);
     State {
@@ -107,54 +105,46 @@ fn after_one(src: &[u8], at: usize, wavelength_nm: f64, state: State) -> State
     }
 }
 
-// One surface on from any state; a refusal returns the state as it was.
-pub fn step(src: &[u8], state: State) -> Stepped
-    ensures { λ r. ⌜ r ≡ step (now (src .entry)) state ⌝ }
+// One surface on from any state; a refusal leaves the state as it was.
+pub fn step(src: &[u8], state: State) -> TrainReply
+    ensures { λ r. ⌜ outcome r ≡ step (now (src .entry)) state ⌝ }
 {
     match gate::gate(src) {
         Gated::Admitted(count) => {
             if state.done >= count {
-                return Stepped {
-                    refusal: Refusal {
-                        number: 7,
-                        place: 0,
-                    },
-                    state,
-                };
-            }
-            let at = sheet_values::place_of(src, state.done);
-            let next = after_one(src, at, sheet::float_from(src, 2), state);
-            Stepped {
-                refusal: Refusal {
-                    number: 0,
+                return TrainReply::Refused(Refusal {
+                    number: 7,
                     place: 0,
-                },
-                state: next,
+                });
             }
+            let at = sheet::place_of(src, state.done);
+            let beam = sheet_values::beam_of(src);
+            TrainReply::State(moved_at(src, at, beam.wavelength_nm, state))
         }
-        Gated::Refused(refusal) => Stepped { refusal, state },
+        Gated::Refused(r) => TrainReply::Refused(r),
     }
 }
 
 // ---- a whole run
 
 // The powers after each of count surfaces, written to a list that has room for them.
-fn write_each(src: &[u8], count: usize, wavelength_nm: f64, list: &mut [f64])
+fn write_each(src: &[u8], count: usize, list: &mut [f64])
     requires { ⌜ (count ≤ 0xFFFF_FFFF) × (2 * count ≤ length (now list)) ⌝ }
-    ensures { λ r. ⌜ ((x : Sheet) → decode (now (src .entry)) ≡ read x → length (x .surfaces) ≡ count → now (list .exit) ≡ after-each «wavelength_nm» (fresh x) (x .surfaces) ++ drop (2 * count) (now (list .entry))) ⌝ }
+    ensures { λ r. ⌜ ((x : Sheet) → Gate.gated (now (src .entry)) ≡ answer x → length (x .surfaces) ≡ count → now (list .exit) ≡ after-each (value (x .wavelength)) (fresh x) (x .surfaces) ++ drop (2 * count) (now (list .entry))) ⌝ }
 {
-    let mut s = sheet::float_from(src, 4);
-    let mut p = sheet::float_from(src, 6);
-    let mut at = 8;
+    let beam = sheet_values::beam_of(src);
+    let mut s = beam.s;
+    let mut p = beam.p;
+    let mut at = sheet::place_of(src, 0);
     let mut i = 0;
     while i < count {
         let n = sheet::layer_run(src, at);
-        let c = chosen_at(src, at, n, wavelength_nm);
+        let c = chosen_at(src, at, n, beam.wavelength_nm);
         s = s * c.s;
         p = p * c.p;
         list[2 * i] = s;
         list[2 * i + 1] = p;
-        at += 7 + 7 * n;
+        at = sheet::place_on(src, at, n + 1);
         i += 1;
     }
 }
@@ -172,7 +162,7 @@ pub fn run(src: &[u8], list: &mut [f64]) -> Gated
                     place: 0,
                 });
             }
-            write_each(src, n, sheet::float_from(src, 2), list);
+            write_each(src, n, list);
             Gated::Admitted(count)
         }
         Gated::Refused(r) => Gated::Refused(r),

@@ -1,82 +1,68 @@
--- `sheet::grammar` meets its contract. The loop's invariant: what is left from this place on, with the SURFACEs done, tallies to the whole sheet's count.
+-- `sheet::grammar` meets its contract. The loop's invariant: what is left from this place on, with the SURFACEs so far, tallies to the whole sheet's count.
 -- The measure is what is left of the words. Assumes nothing.
-use mathlib.Core.Path.{_≡_, sym, ap, _∙_}
-use Prim.Native.Nat.{_+_, _-_, _≤_}
+use mathlib.Core.Path.{_≡_, refl, sym, ap, _∙_, subst}
+use mathlib.Core.Bool.{Bool, true, false, not}
+use Prim.Native.Nat.{ℕ, _+_, _-_, _≤_, _<_}
 use native.Mathlib.Omega.{arith}
 use borrow.Author.Needs.{needs}
-use borrow.Author.Tests.{eq-eqb, ne-eqb}
+use borrow.Author.Tests.{not-true, not-false}
 use Rattle.sheet.specs.Words.{count}
-use Rattle.sheet.specs.Read.{decode}
-use Rattle.sheet.specs.Scan.{block-of, surface-count}
-use Rattle.sheet.proofs.Scan.{a-surface, a-layer, left, tally, scan-surface, scan-layer, scan-end, scan-wrong, counted-left, not-open, not-beam}
+use Rattle.sheet.specs.Read.{Standing, may, after, graded, grammar}
+use Rattle.sheet.specs.Internal.{standing-of, counted}
+use Rattle.sheet.proofs.Scan.{left, tally, whole, stop-kind, stop-raw, go-on, end-whole, end-missing, Counts, counts-few, counts-on}
 use Rattle.sheet.proofs.grammar.Statement.{statement}
 use Rattle.sheet.proofs.grammar.Tie as tie
 
 abbrev Inv-loop : tie.InvT-loop
-Inv-loop src at₀ done₀ room₀ at done room = (at ≤ count src + 8) × ((done ≤ 64) × (tally done (left src at done room) ≡ surface-count (decode src)))
+Inv-loop src total s₀ at₀ count₀ s at n = (at ≤ count src) × (Counts (standing-of s) n × (graded (tally n (left src (standing-of s) at)) ≡ grammar src))
 
 abbrev μ-loop : tie.MeasureT-loop
-μ-loop src at₀ done₀ room₀ at done room = count src + 8 - at
+μ-loop src total s₀ at₀ count₀ s at n = count src - at
+
+few : (s : Standing) (n : ℕ) → Counts s n → n < 0xFFFF_FFFF
+few s n c = let h = counts-few s n c in omega arith
+
+counts-again : (s t : Standing) (w n n′ : ℕ) (r : Bool) → Counts s n → r ≡ may s w → not r ≡ false → t ≡ after s w → n′ ≡ counted w n → Counts t n′
+counts-again s t w n n′ r c m e q k = rw (q, k) (counts-on w n s c (sym m ∙ not-false r e))
 
 returns : tie.Need-returns Inv-loop μ-loop
-returns c = not-open _ (ne-eqb _ _ (λ e. c .if1 .taken (c .before .word-from .ensures ∙ e)))
+returns c = stop-kind _ _ _ _ _ (c .before .before .before .before .loop .inv .1 .1) _ (c .before .before .before .loop-test .taken) (c .before .before .word-from .ensures) _ (c .before .may .ensures) (c .if1 .taken)
+
+sub-if2 : tie.Need-sub-if2 Inv-loop μ-loop
+sub-if2 c = c .before .before .before .before .before .loop .inv .0
 
 returns-2 : tie.Need-returns-2 Inv-loop μ-loop
-returns-2 c = not-beam _ (eq-eqb _ _ (sym (c .before .before .before .word-from .ensures) ∙ c .before .before .if1 .left)) (ne-eqb _ _ (λ e. c .if2 .taken (c .before .word-from2 .ensures ∙ e)))
+returns-2 c = stop-raw _ _ _ _ _ (c .before .before .before .before .before .before .loop .inv .1 .1) _ (c .before .before .before .before .before .loop-test .taken) (c .before .before .before .before .word-from .ensures) _ (c .before .before .before .may .ensures) (c .before .before .if1 .left) _ (c .before .raws .ensures) (c .if2 .taken)
 
-loop-holds : tie.Need-loop-holds Inv-loop μ-loop
-loop-holds c = (omega arith, (omega arith, sym (counted-left _ (eq-eqb _ _ (sym (c .before .before .before .word-from .ensures) ∙ c .before .before .if1 .left)) (eq-eqb _ _ (sym (c .before .word-from2 .ensures) ∙ c .if2 .left)))))
+counted-requires : tie.Need-counted-requires Inv-loop μ-loop
+counted-requires c κs = few (standing-of (c .before .before .before .before .before .before .loop .s)) _ (c .before .before .before .before .before .before .loop .inv .1 .0)
+
+after-requires : tie.Need-after-requires Inv-loop μ-loop
+after-requires c κs = sym (c .before .before .before .before .may .ensures) ∙ not-false _ (c .before .before .before .if1 .left)
+
+add-at : tie.Need-add-at Inv-loop μ-loop
+add-at c = omega (arith, c .before .before .if2 .left, c .before .before .before .before .before .before .before .loop-test .taken)
+
+add-at-2 : tie.Need-add-at-2 Inv-loop μ-loop
+add-at-2 c = omega (arith, c .before .before .if2 .left, c .before .before .before .before .before .before .before .loop-test .taken)
 
 loop-less : tie.Need-loop-less Inv-loop μ-loop
-loop-less c = omega (arith, a-surface _ _ _ _ (sym (c .before .before .before .before .found .ensures) ∙ ap block-of (c .before .before .enum-told .given .1)) .0)
+loop-less c = omega (arith, c .before .before .if2 .left, c .before .before .before .before .before .before .before .loop-test .taken)
 
 loop-again : tie.Need-loop-again Inv-loop μ-loop
-loop-again c =
-    let h = a-surface _ _ _ _ (sym (c .before .before .before .before .found .ensures) ∙ ap block-of (c .before .before .enum-told .given .1)) in
-    (omega (arith, h .0), (omega (arith, h .1 .few), scan-surface _ _ _ _ _ _ (sym (c .before .before .before .before .found .ensures) ∙ ap block-of (c .before .before .enum-told .given .1)) (c .before .word-from3 .ensures) (c .room-after .ensures) ∙ c .before .before .before .before .before .loop .inv .1 .1))
-
-sub-room : tie.Need-sub-room Inv-loop μ-loop
-sub-room c = omega (arith, a-layer _ _ _ _ (sym (c .before .before .found .ensures) ∙ ap block-of (c .enum-told2 .given .1)) .1 .fit)
-
-loop-less-2 : tie.Need-loop-less-2 Inv-loop μ-loop
-loop-less-2 c = omega (arith, a-layer _ _ _ _ (sym (c .before .before .found .ensures) ∙ ap block-of (c .enum-told2 .given .1)) .0)
-
-loop-again-2 : tie.Need-loop-again-2 Inv-loop μ-loop
-loop-again-2 c =
-    let h = a-layer _ _ _ _ (sym (c .before .before .found .ensures) ∙ ap block-of (c .enum-told2 .given .1)) in
-    (omega (arith, h .0), (c .before .before .before .loop .inv .1 .0, scan-layer _ _ _ _ (sym (c .before .before .found .ensures) ∙ ap block-of (c .enum-told2 .given .1)) ∙ c .before .before .before .loop .inv .1 .1))
+loop-again c = (
+  omega (arith, c .before .before .if2 .left, c .before .before .before .before .before .before .before .loop-test .taken),
+  (
+    counts-again (standing-of (c .before .before .before .before .before .before .before .before .loop .s)) _ _ _ _ _ (c .before .before .before .before .before .before .before .before .loop .inv .1 .0) (c .before .before .before .before .before .may .ensures) (c .before .before .before .before .if1 .left) (c .after .ensures) (c .before .counted .ensures),
+    go-on _ _ _ _ _ (c .before .before .before .before .before .before .before .before .loop .inv .1 .1) _ (c .before .before .before .before .before .before .before .loop-test .taken) (c .before .before .before .before .before .before .word-from .ensures) _ (c .before .before .before .before .before .may .ensures) (c .before .before .before .before .if1 .left) _ (c .before .before .before .raws .ensures) (c .before .before .if2 .left) _ (c .after .ensures) _ (c .before .counted .ensures),
+  ),
+)
 
 returns-3 : tie.Need-returns-3 Inv-loop μ-loop
-returns-3 c = scan-end _ _ _ _ (sym (c .before .before .found .ensures) ∙ ap block-of (c .enum-told3 .given .1)) ∙ c .before .before .before .loop .inv .1 .1
+returns-3 c = end-whole _ _ _ _ _ (c .before .before .before .loop .inv .1 .1) (c .before .before .loop-test .left) _ (c .before .has-ended .ensures) (c .if3 .taken)
 
 returns-4 : tie.Need-returns-4 Inv-loop μ-loop
-returns-4 c = scan-wrong _ _ _ _ _ (sym (c .before .before .before .found .ensures) ∙ ap block-of (c .before .place .given .1)) ∙ c .before .before .before .before .loop .inv .1 .1
+returns-4 c = end-missing _ _ _ _ _ (c .before .before .before .loop .inv .1 .1) (c .before .before .loop-test .left) _ (c .before .has-ended .ensures) (c .if3 .left)
 
 pub grammar-spec : {M : Type 1} → statement M
-grammar-spec =
-    tie.close
-    (tie.spec
-    Inv-loop
-    μ-loop
-    (λ c κs. search needs)
-    returns
-    (λ c κs. search needs)
-    returns-2
-    loop-holds
-    (λ c κs. search needs)
-    (λ c. search needs)
-    (λ c κs. search needs)
-    (λ c κs. search needs)
-    (λ c. search needs)
-    (λ c. search needs)
-    loop-less
-    loop-again
-    (λ c. search needs)
-    sub-room
-    (λ c. search needs)
-    loop-less-2
-    loop-again-2
-    (λ c. search needs)
-    returns-3
-    (λ c. search needs)
-    returns-4)
+grammar-spec = tie.close (tie.spec Inv-loop μ-loop (λ c. (omega arith, (refl, whole _))) (λ c κs. search needs) (λ c κs. search needs) returns (λ c κs. search needs) sub-if2 returns-2 counted-requires after-requires add-at add-at-2 loop-less loop-again (λ c κs. search needs) returns-3 returns-4)

@@ -1,5 +1,5 @@
 -- `sheet::is_end` meets its contract. Assumes nothing.
-use borrow.Author.Tests.{eq-eqb, ne-eqb}
+use borrow.Author.Tests.{eq-eqb, ne-eqb, lt-ltb, le-ltb, le-leb, lt-leb}
 use Rattle.sheet.proofs.is_end.Statement.{statement}
 use Rattle.sheet.proofs.is_end.Tie as tie
 

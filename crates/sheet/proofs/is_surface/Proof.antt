@@ -1,7 +1,5 @@
 -- `sheet::is_surface` meets its contract. Assumes nothing.
-use borrow.Author.Tests.{eq-eqb, ne-eqb, lt-ltb, le-ltb, lt-leb, le-leb}
-use Rattle.sheet.proofs.Places.{room-is}
-use borrow.Author.Needs.{needs}
+use borrow.Author.Tests.{eq-eqb, ne-eqb, lt-ltb, le-ltb, le-leb, lt-leb}
 use Rattle.sheet.proofs.is_surface.Statement.{statement}
 use Rattle.sheet.proofs.is_surface.Tie as tie
 
@@ -12,10 +10,7 @@ returns-2 : tie.Need-returns-2
 returns-2 c = simp (eq-eqb _ _ (c .before .if1 .left), le-ltb _ _ (c .if2 .taken))
 
 returns-3 : tie.Need-returns-3
-returns-3 c = simp (eq-eqb _ _ (c .before .before .if1 .left), lt-ltb _ _ (c .before .if2 .left), lt-leb _ _ (c .if3 .taken))
-
-returns-4 : tie.Need-returns-4
-returns-4 c = simp (eq-eqb _ _ (c .before .before .if1 .left), lt-ltb _ _ (c .before .if2 .left), le-leb _ _ (c .if3 .left)) (room-is _ _ (c .before .before .before .pre))
+returns-3 c = simp (eq-eqb _ _ (c .before .if1 .left), lt-ltb _ _ (c .if2 .left))
 
 pub is-surface-spec : {M : Type 1} → statement M
-is-surface-spec = tie.close (tie.spec returns returns-2 returns-3 (λ c. search needs) returns-4)
+is-surface-spec = tie.close (tie.spec returns returns-2 returns-3)

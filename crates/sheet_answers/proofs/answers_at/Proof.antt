@@ -22,17 +22,17 @@ use Rattle.surface.specs.Answers.{bare-answers, coated-answers, answers-of, ans
 use Rattle.sheet_answers.proofs.answers_at.Statement.{statement}
 use Rattle.sheet_answers.proofs.answers_at.Tie as tie
 
--- a surface s that is read where x stands, and the interface that its code gives
-module _ (wavelength : Float) (layers : List ThinFilmLayer) (s x : Surface) (s-is : s ≡ x) (i : Interface) (i-is : i ≡ interface (s .coating)) where
-  told : (k : Interface) → i ≡ k → returned (answers-of k wavelength s layers) ≡ returned (answers wavelength x layers)
-  told k e = ap (λ (j : Interface). returned (answers-of j wavelength s layers)) (sym e ∙ i-is) ∙ ap (λ (z : Surface). returned (answers wavelength z layers)) s-is
+-- a surface and the interface that its code gives
+module _ (wavelength : Float) (layers : List ThinFilmLayer) (s : Surface) (i : Interface) (i-is : i ≡ interface (s .coating)) where
+  told : (k : Interface) → i ≡ k → returned (answers-of k wavelength s layers) ≡ returned (answers wavelength s layers)
+  told k e = ap (λ (j : Interface). returned (answers-of j wavelength s layers)) (sym e ∙ i-is)
 
-  bare : i ≡ Bare → returned (bare-answers s) ≡ returned (answers wavelength x layers)
+  bare : i ≡ Bare → returned (bare-answers s) ≡ returned (answers wavelength s layers)
   unfolding answers-of
   bare e = told Bare e
 
   coated : (coating : SurfaceCoating) → i ≡ Coated coating → (a k : Evaluation) → outcome a ≡ evaluate-surface coating layers (s .«n_incident») (s .«n_substrate») (s .«angle_rad») wavelength → a ≡ k
-      → returned (map coated-answers (outcome k)) ≡ returned (answers wavelength x layers)
+      → returned (map coated-answers (outcome k)) ≡ returned (answers wavelength s layers)
   unfolding answers-of
   coated coating e a k a-is h = ap (λ (o : Outcome CoatingResponse). returned (map coated-answers o)) (ap outcome (sym h) ∙ a-is) ∙ told (Coated coating) e
 
@@ -46,25 +46,24 @@ unfolding returned
 refused r v e = e
 
 returns : tie.Need-returns
-returns c = c .bare-answers .ensures ∙ bare _ _ _ _ (c .before .before .before .before .surface-at .ensures) _ (c .before .before .before .interface-of .ensures) (c .before .enum-told .given .1)
+returns c = c .bare-answers .ensures ∙ bare _ _ _ _ (c .before .before .before .interface-of .ensures) (c .before .enum-told .given .1)
 
 returns-2 : tie.Need-returns-2
 returns-2 c =
     response _ _ (c .coated-answers .ensures)
-    ∙ coated _ _ _ _ (c .before .before .before .before .before .before .before .before .before .surface-at .ensures) _ (c .before .before .before .before .before .before .before .before .interface-of .ensures)
+    ∙ coated _ _ _ _ (c .before .before .before .before .before .before .before .before .interface-of .ensures)
     _ (c .before .before .before .before .before .before .coating .given .1) _ _ (c .before .before .before .before .evaluate-at .ensures) (c .before .before .r .given .1)
 
 returns-3 : tie.Need-returns-3
 returns-3 c =
     refused _ _ (c .refused .ensures)
-    ∙ coated _ _ _ _ (c .before .before .before .before .before .before .before .before .before .surface-at .ensures) _ (c .before .before .before .before .before .before .before .before .interface-of .ensures)
+    ∙ coated _ _ _ _ (c .before .before .before .before .before .before .before .before .interface-of .ensures)
     _ (c .before .before .before .before .before .before .coating .given .1) _ _ (c .before .before .before .before .evaluate-at .ensures) (c .before .before .r2 .given .1)
 
 pub answers-at-spec : {M : Type 1} → statement M
 answers-at-spec =
     tie.close
     (tie.spec
-    (λ c κs. search needs)
     (λ c κs. search needs)
     (λ c. search needs)
     (λ c κs. search needs)

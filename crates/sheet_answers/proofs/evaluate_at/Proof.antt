@@ -12,7 +12,7 @@ use Rattle.thin_film_layers.specs.declared.Evaluation.{Evaluation}
 use Rattle.thin_film_layers.specs.declared.Pending.{Pending}
 use Rattle.thin_film_layers.specs.Walk as Walk
 use Rattle.thin_film_layers.specs.Walk.{outcome, ordered}
-use Rattle.sheet_answers.proofs.Behind.{many}
+use Rattle.sheet_answers.proofs.After.{many}
 use Rattle.sheet_answers.proofs.evaluate_at.Statement.{statement}
 use Rattle.sheet_answers.proofs.evaluate_at.Tie as tie
 

@@ -17,39 +17,38 @@ use Rattle.surface.specs.Answers.{bare-powers, coated-powers, powers-of, powers
 use Rattle.sheet_answers.proofs.powers_at.Statement.{statement}
 use Rattle.sheet_answers.proofs.powers_at.Tie as tie
 
--- a surface s that is read where x stands, and the interface that its code gives
-module _ (wavelength : Float) (layers : List ThinFilmLayer) (s x : Surface) (s-is : s ≡ x) (i : Interface) (i-is : i ≡ interface (s .coating)) where
-  told : (k : Interface) → i ≡ k → powers-of k wavelength s layers ≡ powers wavelength x layers
-  told k e = ap (λ (j : Interface). powers-of j wavelength s layers) (sym e ∙ i-is) ∙ ap (λ (z : Surface). powers wavelength z layers) s-is
+-- a surface and the interface that its code gives
+module _ (wavelength : Float) (layers : List ThinFilmLayer) (s : Surface) (i : Interface) (i-is : i ≡ interface (s .coating)) where
+  told : (k : Interface) → i ≡ k → powers-of k wavelength s layers ≡ powers wavelength s layers
+  told k e = ap (λ (j : Interface). powers-of j wavelength s layers) (sym e ∙ i-is)
 
-  bare : i ≡ Bare → answer (bare-powers s) ≡ powers wavelength x layers
+  bare : i ≡ Bare → answer (bare-powers s) ≡ powers wavelength s layers
   unfolding powers-of
   bare e = told Bare e
 
   coated : (coating : SurfaceCoating) → i ≡ Coated coating → (a k : Evaluation) → outcome a ≡ evaluate-surface coating layers (s .«n_incident») (s .«n_substrate») (s .«angle_rad») wavelength → a ≡ k
-      → map coated-powers (outcome k) ≡ powers wavelength x layers
+      → map coated-powers (outcome k) ≡ powers wavelength s layers
   unfolding powers-of
   coated coating e a k a-is h = ap (map coated-powers) (ap outcome (sym h) ∙ a-is) ∙ told (Coated coating) e
 
 returns : tie.Need-returns
-returns c = ap answer (c .bare-powers .ensures) ∙ bare _ _ _ _ (c .before .before .before .before .surface-at .ensures) _ (c .before .before .before .interface-of .ensures) (c .before .enum-told .given .1)
+returns c = ap answer (c .bare-powers .ensures) ∙ bare _ _ _ _ (c .before .before .before .interface-of .ensures) (c .before .enum-told .given .1)
 
 returns-2 : tie.Need-returns-2
 returns-2 c =
     ap answer (c .coated-powers .ensures)
-    ∙ coated _ _ _ _ (c .before .before .before .before .before .before .before .before .before .surface-at .ensures) _ (c .before .before .before .before .before .before .before .before .interface-of .ensures)
+    ∙ coated _ _ _ _ (c .before .before .before .before .before .before .before .before .interface-of .ensures)
     _ (c .before .before .before .before .before .before .coating .given .1) _ _ (c .before .before .before .before .evaluate-at .ensures) (c .before .before .r .given .1)
 
 returns-3 : tie.Need-returns-3
 returns-3 c =
-    coated _ _ _ _ (c .before .before .before .before .before .before .before .before .surface-at .ensures) _ (c .before .before .before .before .before .before .before .interface-of .ensures)
+    coated _ _ _ _ (c .before .before .before .before .before .before .before .interface-of .ensures)
     _ (c .before .before .before .before .before .coating .given .1) _ _ (c .before .before .before .evaluate-at .ensures) (c .before .r2 .given .1)
 
 pub powers-at-spec : {M : Type 1} → statement M
 powers-at-spec =
     tie.close
     (tie.spec
-    (λ c κs. search needs)
     (λ c κs. search needs)
     (λ c. search needs)
     (λ c κs. search needs)

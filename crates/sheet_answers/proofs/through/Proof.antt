@@ -11,13 +11,14 @@ use Rattle.thin_film_solver.specs.declared.Stack.{Stack}
 use Rattle.thin_film_solver.specs.Stack.{step, steps}
 use Rattle.thin_film_layers.specs.Walk.{ordered, no-layer, nth-index}
 use Rattle.thin_film_layers.proofs.Order.{done, as-long, within, goes-on}
-use Rattle.sheet_values.specs.Values.{films, layers-at}
-use Rattle.sheet_answers.proofs.Behind.{many, nth}
+use Rattle.sheet.specs.Internal.{next-place, layers-at}
+use Rattle.sheet_values.specs.Values.{films}
+use Rattle.sheet_answers.proofs.After.{many, nth}
 use Rattle.sheet_answers.proofs.through.Statement.{statement}
 use Rattle.sheet_answers.proofs.through.Tie as tie
 
 abbrev Inv-loop : tie.InvT-loop
-Inv-loop src at n far stack₀ i₀ stack i = (i ≤ n) × (steps stack (drop i (ordered far (films (layers-at src (at + 7) n)))) ≡ steps stack₀ (ordered far (films (layers-at src (at + 7) n))))
+Inv-loop src at n far stack₀ i₀ stack i = (i ≤ n) × (steps stack (drop i (ordered far (films (layers-at src (next-place src at) n)))) ≡ steps stack₀ (ordered far (films (layers-at src (next-place src at) n))))
 
 abbrev μ-loop : tie.MeasureT-loop
 μ-loop src at n far stack₀ i₀ stack i = n - i
@@ -28,7 +29,7 @@ loop-holds c = (search needs, refl)
 loop-again : tie.Need-loop-again Inv-loop μ-loop
 loop-again c =
     let src : List ℕ = c .before .before .before .before .before .before .args .src .now in
-    let from : ℕ = c .before .before .before .before .before .before .args .at + 7 in
+    let from : ℕ = next-place src (c .before .before .before .before .before .before .args .at) in
     let n : ℕ = c .before .before .before .before .before .before .args .n in
     let far : Bool = c .before .before .before .before .before .before .args .far in
     let ls : List ThinFilmLayer = films (layers-at src from n) in
@@ -39,8 +40,8 @@ loop-again c =
     let l : i < length ls = rw n-is h in
     let j : ℕ = c .before .before .nth-index .result in
     let j-is : j ≡ nth-index far n i = c .before .before .nth-index .ensures in
-    let layer-is : c .before .layer-behind .result ≡ getD ls (nth-index far (length ls) i) no-layer =
-    c .before .layer-behind .ensures ∙ sym (nth src from n j no-layer (rw j-is (within far n i h))) ∙ ap (λ (m : ℕ). getD ls m no-layer) (j-is ∙ ap (λ (m : ℕ). nth-index far m i) (sym n-is)) in (
+    let layer-is : c .before .layer-after .result ≡ getD ls (nth-index far (length ls) i) no-layer =
+    c .before .layer-after .ensures ∙ sym (nth src from n j no-layer (rw j-is (within far n i h))) ∙ ap (λ (m : ℕ). getD ls m no-layer) (j-is ∙ ap (λ (m : ℕ). nth-index far m i) (sym n-is)) in (
       search needs,
       ap (λ (a : Stack). steps a (drop (i + 1) (ordered far ls))) (c .step .ensures ∙ ap (step k) layer-is) ∙ goes-on far ls k i no-layer l ∙ c .before .before .before .before .loop .inv .1,
     )
@@ -48,7 +49,7 @@ loop-again c =
 returns : tie.Need-returns Inv-loop μ-loop
 returns c =
     let far : Bool = c .before .before .before .args .far in
-    let ls : List ThinFilmLayer = films (layers-at (c .before .before .before .args .src .now) (c .before .before .before .args .at + 7) (c .before .before .before .args .n)) in
+    let ls : List ThinFilmLayer = films (layers-at (c .before .before .before .args .src .now) (next-place (c .before .before .before .args .src .now) (c .before .before .before .args .at)) (c .before .before .before .args .n)) in
     let n-is : length ls ≡ c .before .before .before .args .n = many _ _ _ in
     sym (done (c .before .loop .stack) _ (c .before .loop .i) (omega (arith, as-long far ls))) ∙ c .before .loop .inv .1
 

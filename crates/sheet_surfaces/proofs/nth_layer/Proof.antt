@@ -7,13 +7,13 @@ use Rattle.sheet_surfaces.proofs.nth_layer.Statement.{statement}
 use Rattle.sheet_surfaces.proofs.nth_layer.Tie as tie
 
 returns : tie.Need-returns
-returns c = no-layer-there _ _ _ (sym (ap Gate.outcome (c .before .before .count .given .1)) ∙ c .before .before .before .before .gate .ensures) _ (c .if1 .taken)
+returns c = no-layer-there _ _ _ (c .before .before .before .before .before .shared-slice-known .given) (sym (ap Gate.outcome (c .before .before .count .given .1)) ∙ c .before .before .before .before .gate .ensures) _ (c .if1 .taken)
 
 returns-2 : tie.Need-returns-2
-returns-2 c = past-layers _ _ _ (sym (ap Gate.outcome (c .before .before .before .before .before .count .given .1)) ∙ c .before .before .before .before .before .before .before .gate .ensures) _ (c .before .before .before .if1 .left) _ (c .before .before .place-of .ensures) _ (c .before .layer-run .ensures) (c .if2 .taken)
+returns-2 c = past-layers _ _ _ (c .before .before .before .before .before .before .before .before .shared-slice-known .given) (sym (ap Gate.outcome (c .before .before .before .before .before .count .given .1)) ∙ c .before .before .before .before .before .before .before .gate .ensures) _ (c .before .before .before .if1 .left) _ (c .before .before .place-of .ensures) _ (c .before .layer-run .ensures) (c .if2 .taken)
 
 returns-3 : tie.Need-returns-3
-returns-3 c = layer-there _ _ _ (sym (ap Gate.outcome (c .before .before .before .before .before .before .count .given .1)) ∙ c .before .before .before .before .before .before .before .before .gate .ensures) _ (c .before .before .before .before .if1 .left) _ (c .before .before .before .place-of .ensures) _ (c .before .before .layer-run .ensures) (c .before .if2 .left) _ (c .layer-behind .ensures)
+returns-3 c = layer-there _ _ _ (c .before .before .before .before .before .before .before .before .before .shared-slice-known .given) (sym (ap Gate.outcome (c .before .before .before .before .before .before .count .given .1)) ∙ c .before .before .before .before .before .before .before .before .gate .ensures) _ (c .before .before .before .before .if1 .left) _ (c .before .before .before .place-of .ensures) _ (c .before .before .layer-run .ensures) (c .before .if2 .left) _ (c .layer-after .ensures)
 
 returns-4 : tie.Need-returns-4
 returns-4 c = layer-refused _ _ _ _ (sym (ap Gate.outcome (c .before .r .given .1)) ∙ c .before .before .before .gate .ensures)

@@ -12,67 +12,70 @@ use Rattle.surface.specs.declared.Answers.{Answers}
 use Rattle.surface.specs.declared.AnswersReply.{AnswersReply}
 use Rattle.surface.specs.Answers.{answers, returned}
 use Rattle.surface.specs.Finite.{Answered}
-use Rattle.sheet.specs.Sheet.{SheetSurface, Sheet}
-use Rattle.sheet.specs.Words.{float}
-use Rattle.sheet.specs.Read.{surface-at}
-use Rattle.sheet.specs.Scan.{layer-run}
-use Rattle.sheet.proofs.Blocks.{begins}
-use Rattle.sheet_values.specs.Nth.{place}
-use Rattle.sheet_values.specs.Values.{value, films, surface-value, layers-at}
-use Rattle.sheet_values.proofs.Along.{placed, few}
+use Rattle.sheet.specs.Sheet.{SheetSurface, nth, Sheet}
+use Rattle.sheet.specs.Internal.{next-place, layer-run, surface-at, layers-at, place}
+use Rattle.sheet.proofs.Stands.{Known}
+use Rattle.sheet_values.specs.declared.Beam.{Beam}
+use Rattle.gate_limits.specs.declared.Surface.{Surface}
+use Rattle.sheet_values.specs.Values.{value, films, surface-value}
+use Rattle.sheet_values.specs.Internal.{beam-at}
+use Rattle.sheet_values.proofs.Here.{beam-here, value-here, films-here}
 use Rattle.gate.specs.Gate as Gate
 use Rattle.gate.specs.Gate.{gate}
-use Rattle.gate.proofs.Admitted.{admitted}
+use Rattle.gate.proofs.Admitted.{Admitted, admitted}
 use Rattle.sheet_surfaces.specs.Surfaces.{surface-answers, given}
-use Rattle.sheet_surfaces.proofs.Nth.{standing, none, there, not-admitted}
-use Rattle.sheet_surfaces.proofs.Answers.{all-nth, Good, layers-length, wavelength-within, answered}
+use Rattle.sheet_surfaces.proofs.Nth.{none, there, here, not-admitted}
+use Rattle.sheet_surfaces.proofs.Answers.{all-nth, wavelength-within, answered}
 use Rattle.sheet_surfaces.proofs.surface_answers.Statement.{statement}
 use Rattle.sheet_surfaces.proofs.surface_answers.Tie as tie
 
 abbrev its-answers : Sheet → SheetSurface → Outcome Answers
 its-answers x y = answers (value (x .wavelength)) (surface-value y) (films (y .layers))
 
-module _ (src : List ℕ) (i n : ℕ) (e : answer n ≡ gate src) where
+module _ (src : List ℕ) (i n : ℕ) (known : Known src) (e : answer n ≡ gate src) where
+  abbrev a : Admitted src n
+  a = admitted src n known e
+
   no-such : n ≤ i → given (refusal 7 0) ≡ given (surface-answers src i)
   unfolding surface-answers
-  no-such h = ap given (none its-answers src i n e h)
+  no-such h = ap given (none its-answers src i n a h)
 
   module _ (h : i < n) (at : ℕ) (q : at ≡ place src i) where
+    abbrev y : SheetSurface
+    y = nth (a .sheet .surfaces) i
+
     -- the surface that stands there is answered
-    answered-there : Answered (value (admitted src n e .sheet .wavelength)) (surface-value (standing src at)) (films (standing src at .layers))
+    answered-there : Answered (value (a .sheet .wavelength)) (surface-value y) (films (y .layers))
     answered-there =
-        let a = admitted src n e in
         let w = value (a .sheet .wavelength) in
         let d : i < length (a .sheet .surfaces) = omega (arith, a .counts) in
-        answered w (wavelength-within (a .sheet) (a .within)) (standing src at)
-        (subst (Good w) (sym (placed src i at q (a .sheet) (a .reads) d)) (all-nth (Good w) (a .sheet .surfaces) i (a .within .surfaces) d))
-        (omega (arith, few (layer-run 16 src at) src at refl, layers-length src (at + 7) (layer-run 16 src at)))
+        answered w (wavelength-within (a .sheet) (a .within)) y (all-nth _ (a .sheet .surfaces) i (a .within .surfaces) d) (all-nth _ (a .sheet .surfaces) i (a .stands .formed .surfaces) d .few)
 
-    whole : (m : ℕ) → m ≡ layer-run 16 src at → (w : Float) → w ≡ value (float src 2) → (reply : AnswersReply) → reply ≡ returned (answers w (surface-value (surface-at src at [])) (films (layers-at src (at + 7) m)))
+    whole : (m : ℕ) → m ≡ layer-run 16 src at → (s : Surface) → s ≡ surface-value (surface-at src at []) → (b : Beam) → b ≡ beam-at src (next-place src 0)
+        → (reply : AnswersReply) → reply ≡ returned (answers (b .«wavelength_nm») s (films (layers-at src (next-place src at) m)))
         → record { refusal = record { number = reply .refusal; place = 0 }; answers = reply .answers } ≡ given (surface-answers src i)
     unfolding returned given surface-answers
-    whole m em w ew reply er =
-        let a = admitted src n e in
-        let v : w ≡ value (a .sheet .wavelength) = ew ∙ ap value (sym (begins src (a .sheet) (a .reads) .wavelength)) in
-        let same : answers w (surface-value (surface-at src at [])) (films (layers-at src (at + 7) m)) ≡ its-answers (a .sheet) (standing src at) =
-        ap (λ (k : ℕ). answers w (surface-value (surface-at src at [])) (films (layers-at src (at + 7) k))) em ∙ ap (λ (z : Float). answers z (surface-value (standing src at)) (films (standing src at .layers))) v
-        in
+    whole m em s es b eb reply er =
+        let p = here src i n known e h in
+        let v : b .«wavelength_nm» ≡ value (a .sheet .wavelength) = ap (λ (z : Beam). z .«wavelength_nm») (eb ∙ beam-here src (a .sheet) (a .stands)) in
+        let t : s ≡ surface-value y = es ∙ ap (λ (k : ℕ). surface-value (surface-at src k [])) q ∙ value-here src (place src i) y _ p in
+        let l : films (layers-at src (next-place src at) m) ≡ films (y .layers) = ap (λ (k : ℕ). films (layers-at src (next-place src k) m)) q ∙ films-here src (place src i) y _ p m (em ∙ ap (layer-run 16 src) q) in
         let r = answered-there in
-        let said : surface-answers src i ≡ answer (r .value) = sym (there its-answers src i n e h at q) ∙ r .is in
-        rw said (ap (λ (z : AnswersReply). record { refusal = record { number = z .refusal; place = 0 }; answers = z .answers }) (er ∙ ap returned (same ∙ r .is)))
+        let said : surface-answers src i ≡ answer (r .value) = sym (there its-answers src i n a h) ∙ r .is in
+        rw said (ap (λ (z : AnswersReply). record { refusal = record { number = z .refusal; place = 0 }; answers = z .answers }) (er ∙ ap returned ((λ k. answers (v k) (t k) (l k)) ∙ r .is)))
 
 not-there : (src : List ℕ) (i : ℕ) (r : Refusal) → refused r ≡ gate src → given (refused r) ≡ given (surface-answers src i)
 unfolding surface-answers
 not-there src i r e = ap given (not-admitted its-answers src i r e)
 
 returns : tie.Need-returns
-returns c = c .refused .ensures ∙ no-such _ _ _ (sym (ap Gate.outcome (c .before .before .before .count .given .1)) ∙ c .before .before .before .before .before .gate .ensures) (c .before .if1 .taken)
+returns c = c .refused .ensures ∙ no-such _ _ _ (c .before .before .before .before .before .before .shared-slice-known .given) (sym (ap Gate.outcome (c .before .before .before .count .given .1)) ∙ c .before .before .before .before .before .gate .ensures) (c .before .if1 .taken)
 
 returns-2 : tie.Need-returns-2
-returns-2 c = whole _ _ _ (sym (ap Gate.outcome (c .before .before .before .before .before .before .before .count .given .1)) ∙ c .before .before .before .before .before .before .before .before .before .gate .ensures) (c .before .before .before .before .before .if1 .left) _ (c .before .before .before .before .place-of .ensures) _ (c .before .before .before .layer-run .ensures) _ (c .before .before .float-from .ensures) _ (c .before .answers-at .ensures)
+returns-2 c = whole _ _ _ (c .before .before .before .before .before .before .before .before .before .before .before .shared-slice-known .given) (sym (ap Gate.outcome (c .before .before .before .before .before .before .before .before .count .given .1)) ∙ c .before .before .before .before .before .before .before .before .before .before .gate .ensures) (c .before .before .before .before .before .before .if1 .left) _ (c .before .before .before .before .before .place-of .ensures) _ (c .before .before .before .before .layer-run .ensures) _ (c .before .before .before .surface-at .ensures) _ (c .before .before .beam-of .ensures) _ (c .before .answers-at .ensures)
 
 returns-3 : tie.Need-returns-3
 returns-3 c = c .refused2 .ensures ∙ not-there _ _ _ (sym (ap Gate.outcome (c .before .before .r .given .1)) ∙ c .before .before .before .before .gate .ensures)
 
 pub surface-answers-spec : {M : Type 1} → statement M
-surface-answers-spec = tie.close (tie.spec (λ c κs. search needs) (λ c. search needs) (λ c κs. search needs) returns (λ c κs. search needs) (λ c κs. search needs) (λ c κs. search needs) (λ c κs. search needs) (λ c. search needs) (λ c κs. search needs) returns-2 returns-3)
+surface-answers-spec = tie.close (tie.spec (λ c κs. search needs) (λ c. search needs) (λ c κs. search needs) returns (λ c κs. search needs) (λ c κs. search needs) (λ c κs. search needs) (λ c κs. search needs) (λ c κs. search needs) (λ c. search needs) (λ c κs. search needs) returns-2 returns-3)

@@ -10,33 +10,31 @@ use lib.Ieee.{Float}
 use Rattle.refusal.specs.declared.Refusal.{Refusal}
 use Rattle.refusal.specs.Outcome.{answer, refusal, refused}
 use Rattle.sheet.specs.Sheet.{Sheet}
-use Rattle.sheet.specs.Words.{float}
-use Rattle.sheet.specs.Read.{read, decode}
-use Rattle.sheet.proofs.Blocks.{begins}
+use Rattle.sheet.proofs.Stands.{Known}
 use Rattle.sheet_values.specs.Values.{value}
 use Rattle.gate.specs.Gate as Gate
-use Rattle.gate.specs.Gate.{gate}
+use Rattle.gate.specs.Gate.{gated, gate}
 use Rattle.gate.proofs.Admitted.{admitted, turned-back}
 use Rattle.train_steps.specs.Train.{fresh, after-each, ran, run}
 use Rattle.train_steps.proofs.run.Statement.{statement}
 use Rattle.train_steps.proofs.run.Tie as tie
 
 module _ (src : List ℕ) (list : List Float) where
-  module _ (n : ℕ) (e : answer n ≡ gate src) where
+  module _ (n : ℕ) (known : Known src) (e : answer n ≡ gate src) where
     too-short : length list < 2 * n → record { result = refusal 8 0; list = list } ≡ run src list
     unfolding run
     too-short h =
-        let a = admitted src n e in
+        let a = admitted src n known e in
         rw (a .is, lt-leb (2 * length (a .sheet .surfaces)) (length list) (omega (arith, a .counts)))
 
-    whole : 2 * n ≤ length list → (w : Float) → w ≡ value (float src 2) → (out : List Float)
-        → ((x : Sheet) → decode src ≡ read x → length (x .surfaces) ≡ n → out ≡ after-each w (fresh x) (x .surfaces) ++ drop (2 * n) list) → record { result = answer n; list = out } ≡ run src list
+    whole : 2 * n ≤ length list → (out : List Float)
+        → ((x : Sheet) → gated src ≡ answer x → length (x .surfaces) ≡ n → out ≡ after-each (value (x .wavelength)) (fresh x) (x .surfaces) ++ drop (2 * n) list) → record { result = answer n; list = out } ≡ run src list
     unfolding run
-    whole h w ew out f =
-        let a = admitted src n e in
+    whole h out f =
+        let a = admitted src n known e in
         let xs = a .sheet .surfaces in
         let o : out ≡ after-each (value (a .sheet .wavelength)) (fresh (a .sheet)) xs ++ drop (2 * length xs) list =
-        f (a .sheet) (a .reads) (a .counts) ∙ ap (λ (z : Float). after-each z (fresh (a .sheet)) xs ++ drop (2 * n) list) (ew ∙ ap value (sym (begins src (a .sheet) (a .reads) .wavelength))) ∙ ap (λ (k : ℕ). after-each (value (a .sheet .wavelength)) (fresh (a .sheet)) xs ++ drop (2 * k) list) (sym (a .counts))
+        f (a .sheet) (a .is) (a .counts) ∙ ap (λ (k : ℕ). after-each (value (a .sheet .wavelength)) (fresh (a .sheet)) xs ++ drop (2 * k) list) (sym (a .counts))
         in
         rw (a .is, le-leb (2 * length xs) (length list) (omega (arith, a .counts)), a .counts) (λ i. record { result = answer n; list = rw (a .counts) at o i })
 
@@ -45,16 +43,16 @@ module _ (src : List ℕ) (list : List Float) where
   not-run r e = sym (ap (ran list) (turned-back src (r .number) (r .place) e))
 
 returns : tie.Need-returns
-returns c = too-short _ _ _ (sym (ap Gate.outcome (c .before .before .count .given .1)) ∙ c .before .before .before .before .gate .ensures) (c .if1 .taken)
+returns c = too-short _ _ _ (c .before .before .before .before .before .before .shared-slice-known .given) (sym (ap Gate.outcome (c .before .before .count .given .1)) ∙ c .before .before .before .before .gate .ensures) (c .if1 .taken)
 
 write-each-requires : tie.Need-write-each-requires
-write-each-requires c κs = (search needs, c .before .before .if1 .left)
+write-each-requires c κs = (search needs, c .before .if1 .left)
 
 returns-2 : tie.Need-returns-2
-returns-2 c = whole _ _ _ (sym (ap Gate.outcome (c .before .before .before .before .before .before .before .count .given .1)) ∙ c .before .before .before .before .before .before .before .before .before .gate .ensures) (c .before .before .before .before .before .if1 .left) _ (c .before .before .before .before .float-from .ensures) _ (c .before .before .write-each .ensures)
+returns-2 c = whole _ _ _ (c .before .before .before .before .before .before .before .before .before .before .shared-slice-known .given) (sym (ap Gate.outcome (c .before .before .before .before .before .before .count .given .1)) ∙ c .before .before .before .before .before .before .before .before .gate .ensures) (c .before .before .before .before .if1 .left) _ (c .before .before .write-each .ensures)
 
 returns-3 : tie.Need-returns-3
 returns-3 c = not-run _ _ _ (sym (ap Gate.outcome (c .before .r .given .1)) ∙ c .before .before .before .gate .ensures)
 
 pub run-spec : {M : Type 1} → statement M
-run-spec = tie.close (tie.spec (λ c κs. search needs) (λ c. search needs) (λ c. search needs) (λ c. search needs) returns (λ c κs. search needs) write-each-requires (λ c. search needs) (λ c. search needs) returns-2 returns-3)
+run-spec = tie.close (tie.spec (λ c κs. search needs) (λ c. search needs) (λ c. search needs) (λ c. search needs) returns write-each-requires (λ c. search needs) (λ c. search needs) returns-2 returns-3)

@@ -1,0 +1,119 @@
+-- The blocks of a well-formed sheet are in the grammar, and gathered again they are that sheet. Every standing that is reached can be brought to an end.
+use mathlib.Core.Path.{_≡_, refl, sym, ap, _∙_, subst}
+use mathlib.Core.Bool.{Bool, true, false, cond}
+use mathlib.Core.Logic.{_⊎_, inl, inr, ⊎-elim}
+use mathlib.Core.List.{List, [], _∷_}
+use Prim.Native.Nat.{ℕ, zero, suc, _+_, _-_, _*_, _/_, _^_, _≤_, _<_}
+use native.Mathlib.Omega.{arith}
+use lib.Dec.{eqb}
+use lib.ListN.{length}
+use borrow.Author.Tests.{lt-ltb, eq-eqb}
+use Rattle.sheet.specs.Words.{kind, payload}
+use Rattle.sheet.specs.Blocks.{Block, All, InGrammar}
+use Rattle.sheet.specs.Sheet.{SheetLayer, layer, SheetSurface, Sheet, GoodLayer, GoodSurface, WellFormed, kind-word, block, layer-block, surface-block, layers-blocks, surfaces-blocks, end-block, blocks}
+use Rattle.sheet.specs.Read.{floats-after, raws, Standing, at-open, at-beam, among, ended, layers-after, may, after, may-end, sheet-grammar, numbers, Rest, put, gathered, sheet-of}
+use Rattle.sheet.proofs.KindWords.{numbers-raw, kind-of, payload-of, made-good, Comes, comes-surface, comes-layer, comes-end, comes, after-surface, after-layer, after-end, may-surface, may-end-word}
+
+abbrev pub In : Standing → List Block → Type 0
+In s bs = InGrammar sheet-grammar s bs
+
+-- ---- blocks in grammar
+module _ (done : ℕ) where
+  pub end-in : (most : ℕ) → done < 2 ^ 28 → In (among done most) (end-block done ∷ [])
+  unfolding may-end floats-after
+  end-in most lt =
+      let w = kind-word 5 done in
+      (may-end-word done most w (kind-of 5 done lt) (payload-of 5 done lt), (made-good 5 done [] (omega arith) lt tt refl, subst (λ (s : Standing). may-end s ≡ true) (sym (after-end done most w (kind-of 5 done lt))) refl))
+
+  layers-in : (most : ℕ) (ls : List SheetLayer) (more : List Block) → All GoodLayer ls → length ls ≤ most → ((r : ℕ) → In (among done r) more) → In (among done most) (layers-blocks ls more)
+  unfolding layers-blocks may after floats-after
+  layers-in most [] more g le h = h most
+  layers-in most (layer n k t ∷ ls) more g le h =
+      (rw (lt-ltb 0 most (omega arith)), (made-good 4 0 (n ∷ k ∷ t ∷ []) (omega arith) (omega arith) (g .0 .0, (g .0 .1 .0, (g .0 .1 .1, tt))) refl, layers-in (most - 1) ls more (g .1) (omega arith) h))
+
+most-for : (y : SheetSurface) → GoodSurface y → length (y .layers) ≤ layers-after (y .payload)
+most-for y g = ⊎-elim none (λ e. rw (eq-eqb (y .payload / 2) 5 e) (g .few)) (g .custom)
+  where
+    none : y .layers ≡ [] → length (y .layers) ≤ layers-after (y .payload)
+    none e = rw e (omega arith)
+
+-- a SURFACE and its layers
+surface-in : (done most : ℕ) (y : SheetSurface) (more : List Block) → GoodSurface y → done < 64 → ((r : ℕ) → In (among (suc done) r) more) → In (among done most) (surface-block y ∷ layers-blocks (y .layers) more)
+unfolding after floats-after
+surface-in done most y more g d h =
+    let w = kind-word 3 (y .payload) in
+    let lt : y .payload < 2 ^ 28 = omega (arith, g .payload) in
+    let k = kind-of 3 (y .payload) lt in
+    let p = payload-of 3 (y .payload) lt in
+    let b = made-good 3 (y .payload) (y .n-incident ∷ y .n-substrate ∷ y .angle ∷ []) (omega arith) lt (g .n-incident, (g .n-substrate, (g .angle, tt))) refl in
+    let few : payload w ≤ 15 = omega (arith, g .payload) in
+    let ls : In (among (suc done) (layers-after (payload w))) (layers-blocks (y .layers) more) =
+    subst (λ (n : ℕ). In (among (suc done) (layers-after n)) (layers-blocks (y .layers) more)) (sym p) (layers-in (suc done) (layers-after (y .payload)) (y .layers) more (g .layers) (most-for y g) h) in
+    (may-surface done most w k d few, (b, subst (λ (s : Standing). In s (layers-blocks (y .layers) more)) (sym (after-surface done most w k)) ls))
+
+pub surfaces-in : (done most total : ℕ) (ys : List SheetSurface) → total ≡ done + length ys → total ≤ 64 → All GoodSurface ys → In (among done most) (surfaces-blocks ys (end-block total ∷ []))
+unfolding surfaces-blocks
+surfaces-in done most total [] e le g = let q : total ≡ done = omega arith in rw q (end-in done most (omega arith))
+surfaces-in done most total (y ∷ ys) e le g =
+    surface-in done most y (surfaces-blocks ys (end-block total ∷ [])) (g .0) (omega arith) (λ r. surfaces-in (suc done) r total ys (omega arith) le (g .1))
+
+-- ---- the whole sheet
+pub sheet-in : (x : Sheet) → WellFormed x → In at-open (blocks x)
+unfolding blocks may after floats-after
+sheet-in x h =
+    (refl, (made-good 1 1 [] (omega arith) (omega arith) tt refl, (refl, (made-good 2 0 (x .wavelength ∷ x .s ∷ x .p ∷ []) (omega arith) (omega arith) (h .wavelength, (h .s, (h .p, tt))) refl, surfaces-in 0 0 (length (x .surfaces)) (x .surfaces) (omega arith) (h .few) (h .surfaces)))))
+
+-- ---- every standing that is reached can be brought to an end
+abbrev pub Live : Standing → Type 0
+Live at-open = Unit
+Live at-beam = Unit
+Live (among done most) = done ≤ 64
+Live ended = Unit
+
+pub live-after : (s : Standing) (w : ℕ) → Live s → may s w ≡ true → Live (after s w)
+unfolding may after
+live-after at-open w l e = tt
+live-after at-beam w l e = omega arith
+live-after (among done most) w l e = by (comes done most w e)
+  where
+    by : Comes done most w → Live (after (among done most) w)
+    by (comes-surface k d p) = rw (after-surface done most w k) d
+    by (comes-layer k r p) = rw (after-layer done most w k) l
+    by (comes-end k p) = rw (after-end done most w k) tt
+live-after ended w l e = tt
+
+pub finish : (s : Standing) → Live s → (bs : List Block) × In s bs
+unfolding may-end may after floats-after
+finish at-open l = (blocks dark, sheet-in dark (record { wavelength = omega arith; s = omega arith; p = omega arith; surfaces = tt; few = omega arith }))
+  where
+    dark : Sheet
+    dark = record { wavelength = 0; s = 0; p = 0; surfaces = [] }
+finish at-beam l = (block 2 0 (0 ∷ 0 ∷ 0 ∷ []) ∷ end-block 0 ∷ [], (refl, (made-good 2 0 (0 ∷ 0 ∷ 0 ∷ []) (omega arith) (omega arith) (omega arith, (omega arith, (omega arith, tt))) refl, end-in 0 0 (omega arith))))
+finish (among done most) l = (end-block done ∷ [], end-in done most (omega arith))
+finish ended l = ([], refl)
+
+-- ---- gathered again
+gathered-layers : (ls : List SheetLayer) (more : List Block) (r : Rest) → gathered more ≡ r → r .layers ≡ [] → gathered (layers-blocks ls more) ≡ record { layers = ls; surfaces = r .surfaces }
+unfolding layers-blocks gathered put
+gathered-layers [] more r e n = e ∙ (λ i. record { layers = n i; surfaces = r .surfaces })
+gathered-layers (layer n k t ∷ ls) more r e z =
+    rw (gathered-layers ls more r e z, numbers-raw (n ∷ k ∷ t ∷ [])) refl
+
+gathered-surface : (y : SheetSurface) (more : List Block) (ys : List SheetSurface) → y .payload < 2 ^ 28 → gathered more ≡ record { layers = y .layers; surfaces = ys }
+    → gathered (surface-block y ∷ more) ≡ record { layers = []; surfaces = y ∷ ys }
+unfolding gathered put
+gathered-surface y more ys lt e =
+    rw (e, kind-of 3 (y .payload) lt, payload-of 3 (y .payload) lt, numbers-raw (y .n-incident ∷ y .n-substrate ∷ y .angle ∷ [])) refl
+
+pub gathered-surfaces : (n : ℕ) (ys : List SheetSurface) → n < 2 ^ 28 → All GoodSurface ys → gathered (surfaces-blocks ys (end-block n ∷ [])) ≡ record { layers = []; surfaces = ys }
+unfolding surfaces-blocks gathered put
+gathered-surfaces n [] lt g = rw (kind-of 5 n lt) refl
+gathered-surfaces n (y ∷ ys) lt g =
+    let ih = gathered-surfaces n ys lt (g .1) in
+    let rest = surfaces-blocks ys (end-block n ∷ []) in
+    gathered-surface y (layers-blocks (y .layers) rest) ys (omega (arith, g .0 .payload)) (gathered-layers (y .layers) rest (record { layers = []; surfaces = ys }) ih refl)
+
+pub sheet-of-blocks : (x : Sheet) → WellFormed x → sheet-of (blocks x) ≡ x
+unfolding sheet-of blocks gathered put
+sheet-of-blocks x h =
+    rw (numbers-raw (x .wavelength ∷ x .s ∷ x .p ∷ []), gathered-surfaces (length (x .surfaces)) (x .surfaces) (omega (arith, h .few)) (h .surfaces)) refl

@@ -1,0 +1,25 @@
+-- The values of the BEAM and of a SURFACE with its LAYERs, where they stand in some bytes. Assumes nothing.
+use mathlib.Core.Path.{_≡_, refl, sym, ap, _∙_}
+use mathlib.Core.List.{List, [], _∷_}
+use Prim.Native.Nat.{ℕ, suc, _+_, _*_, _<_}
+use native.Mathlib.Omega.{arith}
+use lib.ListN.{length, getD}
+use Rattle.sheet.specs.Words.{float}
+use Rattle.sheet.specs.Blocks.{Block}
+use Rattle.sheet.specs.Sheet.{SheetLayer, SheetSurface, Sheet}
+use Rattle.sheet.specs.Internal.{next-place, surface-at, layers-at, layer-run}
+use Rattle.sheet.proofs.Stands.{Standing, SurfaceHere, beam-stands, made-float}
+use Rattle.sheet_values.specs.Values.{value, beam-value, films, surface-value}
+use Rattle.sheet_values.specs.Internal.{beam-at}
+
+pub beam-here : (src : List ℕ) (x : Sheet) → Standing src x → beam-at src (next-place src 0) ≡ beam-value x
+beam-here src x h =
+    let f : (i j : ℕ) → j ≡ suc (2 * i) → i < 3 → float src (next-place src 0 + j) ≡ getD (x .wavelength ∷ x .s ∷ x .p ∷ []) i 0 = made-float src (next-place src 0) 2 0 (x .wavelength ∷ x .s ∷ x .p ∷ []) _ (beam-stands src x h) in
+    λ i. record { «wavelength_nm» = value (f 0 1 refl (omega arith) i); s = value (f 1 3 refl (omega arith) i); p = value (f 2 5 refl (omega arith) i) }
+
+module _ (src : List ℕ) (at : ℕ) (y : SheetSurface) (more : List Block) (h : SurfaceHere src at y more) where
+  pub value-here : surface-value (surface-at src at []) ≡ surface-value y
+  value-here = ap surface-value (h .value [])
+
+  pub films-here : (n : ℕ) → n ≡ layer-run 16 src at → films (layers-at src (next-place src at) n) ≡ films (y .layers)
+  films-here n e = ap (λ (m : ℕ). films (layers-at src (next-place src at) m)) (e ∙ h .run) ∙ ap films (h .layers)
