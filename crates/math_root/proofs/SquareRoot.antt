@@ -8,9 +8,8 @@ use native.Mathlib.Omega.{arith}
 use mathlib.Core.Bool.{true, false}
 use lib.Dec.{T, ltb→lt, lt→ltb, eqb·suc-zero}
 use lib.Pow.{pow-pos}
-use lib.Ieee.{Float, nan, inf, fin, binary64, up, down, lt, fits, ofBits}
+use lib.Ieee.{Float, nan, inf, fin, binary64, up, down, lt, ofBits}
 use lib.Ieee.Fits.{up-pos}
-use lib.Ieee.Scale.{finite}
 use lib.Ieee.Positive.{num, den, positive, positive-finite}
 use Rattle.ieee.specs.Count.{count}
 use Rattle.ieee.specs.Functions.{zero-f, is-zero}
