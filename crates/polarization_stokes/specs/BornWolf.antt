@@ -34,17 +34,17 @@ Im z = z .im
 
 module _ {A : Type 0} (K : Arithmetic A) where
   -- the arithmetic's operations, infix
-  infixl 6 _⊞_
-  infixl 6 _⊟_
-  infixl 7 _⊡_
-  abbrev _⊞_ : A → A → A
-  x ⊞ y = K .plus x y
+  infixl 6 _⟨+⟩_
+  infixl 6 _⟨-⟩_
+  infixl 7 _⟨·⟩_
+  abbrev _⟨+⟩_ : A → A → A
+  x ⟨+⟩ y = K .plus x y
 
-  abbrev _⊟_ : A → A → A
-  x ⊟ y = K .minus x y
+  abbrev _⟨-⟩_ : A → A → A
+  x ⟨-⟩ y = K .minus x y
 
-  abbrev _⊡_ : A → A → A
-  x ⊡ y = K .times x y
+  abbrev _⟨·⟩_ : A → A → A
+  x ⟨·⟩ y = K .times x y
 
   -- z* = x - i y
   abbrev pub conjugate : Number A → Number A
@@ -52,30 +52,30 @@ module _ {A : Type 0} (K : Arithmetic A) where
 
   -- z w = (x u - y v) + i (x v + y u)
   abbrev pub product : Number A → Number A → Number A
-  product z w = record { re = Re z ⊡ Re w ⊟ Im z ⊡ Im w; im = Re z ⊡ Im w ⊞ Im z ⊡ Re w }
+  product z w = record { re = Re z ⟨·⟩ Re w ⟨-⟩ Im z ⟨·⟩ Im w; im = Re z ⟨·⟩ Im w ⟨+⟩ Im z ⟨·⟩ Re w }
 
   -- |z|², the square of the modulus: x² + y²
   abbrev pub modulus-squared : Number A → A
-  modulus-squared z = Re z ⊡ Re z ⊞ Im z ⊡ Im z
+  modulus-squared z = Re z ⟨·⟩ Re z ⟨+⟩ Im z ⟨·⟩ Im z
 
   -- the four parameters of the field (Ex, Ey)
   pub record BornAndWolf (ex ey : Number A) (s0 s1 s2 s3 : A) : Type 0 where
     -- S0 = |Ex|² + |Ey|²
-    pub S0 : s0 ≡ modulus-squared ex ⊞ modulus-squared ey
+    pub S0 : s0 ≡ modulus-squared ex ⟨+⟩ modulus-squared ey
     -- S1 = |Ex|² - |Ey|²
-    pub S1 : s1 ≡ modulus-squared ex ⊟ modulus-squared ey
+    pub S1 : s1 ≡ modulus-squared ex ⟨-⟩ modulus-squared ey
     -- S2 = 2·Re(Ex·Ey*)
-    pub S2 : s2 ≡ K .two ⊡ Re (product ex (conjugate ey))
+    pub S2 : s2 ≡ K .two ⟨·⟩ Re (product ex (conjugate ey))
     -- S3 = 2·Im(Ex*·Ey)
-    pub S3 : s3 ≡ K .two ⊡ Im (product (conjugate ex) ey)
+    pub S3 : s3 ≡ K .two ⟨·⟩ Im (product (conjugate ex) ey)
 
   -- the same written out in the parts of Ex = x1 + i y1 and Ey = x2 + i y2: S2 = 2·(x1 x2 + y1 y2), S3 = 2·(x1 y2 - y1 x2)
   abbrev pub in-parts : Number A → Number A → Parameters A
   in-parts ex ey = record {
-    s0 = (ex .re ⊡ ex .re ⊞ ex .im ⊡ ex .im) ⊞ (ey .re ⊡ ey .re ⊞ ey .im ⊡ ey .im);
-    s1 = (ex .re ⊡ ex .re ⊞ ex .im ⊡ ex .im) ⊟ (ey .re ⊡ ey .re ⊞ ey .im ⊡ ey .im);
-    s2 = K .two ⊡ (ex .re ⊡ ey .re ⊞ ex .im ⊡ ey .im);
-    s3 = K .two ⊡ (ex .re ⊡ ey .im ⊟ ex .im ⊡ ey .re);
+    s0 = (ex .re ⟨·⟩ ex .re ⟨+⟩ ex .im ⟨·⟩ ex .im) ⟨+⟩ (ey .re ⟨·⟩ ey .re ⟨+⟩ ey .im ⟨·⟩ ey .im);
+    s1 = (ex .re ⟨·⟩ ex .re ⟨+⟩ ex .im ⟨·⟩ ex .im) ⟨-⟩ (ey .re ⟨·⟩ ey .re ⟨+⟩ ey .im ⟨·⟩ ey .im);
+    s2 = K .two ⟨·⟩ (ex .re ⟨·⟩ ey .re ⟨+⟩ ex .im ⟨·⟩ ey .im);
+    s3 = K .two ⟨·⟩ (ex .re ⟨·⟩ ey .im ⟨-⟩ ex .im ⟨·⟩ ey .re);
   }
 
 -- whole numbers
