@@ -1,6 +1,6 @@
 // Arguments of the recorded functions: what each may be, and random choices.
 
-use crate::functions::{names, train};
+use crate::functions::{exports, names, train};
 use crate::section2::{PI, T};
 use crate::values::{any, multiple, neighbour, optical, short, square, subnormal, Rng, CORE};
 
@@ -57,6 +57,14 @@ pub enum Arg {
     Answers,
     /// A count of steps, then a sheet.
     Steps,
+    /// The length of a list that holds s and p.
+    Pair,
+    /// The length of a list that holds a response or a surface's answers.
+    Room,
+    /// Any code of a coating, also one that stands for none.
+    AnyCode,
+    /// Layers as a count of numbers, then n, k and thickness one after the other; the last layer may be cut off.
+    Flat,
 }
 
 /// How an argument is chosen.
@@ -181,6 +189,11 @@ impl Arg {
             Arg::Run => train::push_run(rng, words),
             Arg::Answers => train::push_answers(rng, words),
             Arg::Steps => train::push_steps(rng, words),
+            Arg::Pair => words.push(rng.pick(&[0, 1, 2, 2, 2, 3])),
+            Arg::Room => words.push(rng.pick(&exports::ROOMS)),
+            Arg::AnyCode if rng.one_in(10) => words.push(rng.pick(&[0, 9, u64::from(u32::MAX)])),
+            Arg::AnyCode => Arg::Code.push(rng, style, words),
+            Arg::Flat => exports::push_flat(rng, style, words),
             _ => words.push(self.float(rng, style).to_bits()),
         }
     }

@@ -1,7 +1,7 @@
 // The fixed cases of the recorded functions: special values in every argument, and usual ones together.
 
 use crate::arguments::{Arg, Style};
-use crate::functions::{names, train};
+use crate::functions::{exports, names, train};
 use crate::section2::PI;
 use crate::values::{neighbour, specials, Rng, CORE};
 
@@ -48,6 +48,10 @@ impl Arg {
             Arg::Run => train::run_cases(),
             Arg::Answers => train::answers_cases(),
             Arg::Steps => train::steps_cases(),
+            Arg::Pair => single(&[0, 1, 2, 3]),
+            Arg::Room => single(&exports::ROOMS),
+            Arg::AnyCode => single(&[0, 1, 2, 3, 4, 5, 6, 7, 8, 9, u64::from(u32::MAX)]),
+            Arg::Flat => exports::flat_cases(),
             _ => CORE.iter().map(|x| vec![x.to_bits()]).collect(),
         }
     }

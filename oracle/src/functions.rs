@@ -6,6 +6,7 @@ use crate::record::{Arguments, Record, Words};
 use crate::values::Rng;
 
 pub mod complex;
+pub mod exports;
 pub mod names;
 pub mod polarization;
 pub mod scalar;
@@ -13,7 +14,7 @@ pub mod thin_film;
 pub mod train;
 
 /// The groups, in the order of their numbers.
-pub const GROUPS: [&str; 9] = [
+pub const GROUPS: [&str; 10] = [
     "ieee",
     "elementary",
     "complex",
@@ -23,6 +24,7 @@ pub const GROUPS: [&str; 9] = [
     "names",
     "sheet",
     "train",
+    "exports",
 ];
 
 /// The default sample: the fewest records in all, the fewest random ones, and the most bytes, which win.
@@ -54,8 +56,10 @@ impl Function {
         }
     }
 
+    /// The fixed cases. The exports call functions of the other groups, which have them all: one in twenty is enough.
     pub fn cases(&self) -> Vec<Vec<u64>> {
-        cases(self.args)
+        let one_in = if self.group == "exports" { 20 } else { 1 };
+        cases(self.args).into_iter().step_by(one_in).collect()
     }
 }
 
@@ -67,6 +71,7 @@ pub fn table() -> Vec<Function> {
     all.extend(polarization::table());
     all.extend(names::table());
     all.extend(train::table());
+    all.extend(exports::table());
     all
 }
 

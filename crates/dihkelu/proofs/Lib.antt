@@ -2,3 +2,4 @@
 pub mod Returned
 pub mod Places
 pub mod Answered
+pub mod Numbers

@@ -1,2 +1,3 @@
 -- The C interface: what each call of the train answers.
 pub mod Train
+pub mod Numbers

@@ -1,2 +1,3 @@
--- The starred known answers, computed.
+-- The starred known answers and further ones, computed.
 pub mod Known
+pub mod Further

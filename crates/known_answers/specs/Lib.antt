@@ -1,2 +1,3 @@
--- The starred known answers.
+-- The starred known answers, and further ones.
 pub mod Known
+pub mod Further

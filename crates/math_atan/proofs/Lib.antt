@@ -1,4 +1,5 @@
--- The bounds for callers, an example, and what the functions share in their proofs.
+-- The bounds for callers, the signs, an example, and what the functions share in their proofs.
 pub mod AtanBounds
+pub mod Signs
 pub mod Examples
 mod Tests

@@ -1,6 +1,6 @@
 -- `sqrt` computed: 01's starred answers, and some others. Assumes nothing.
 use mathlib.Core.Path.{_≡_, refl}
-use lib.Ieee.{nan, binary64, ofBits}
+use lib.Ieee.{binary64, ofBits}
 use Rattle.math_root.specs.Root.{squareRoot, sqrt}
 use Rattle.math_root.specs.Known.{SqrtKnown}
 
@@ -22,17 +22,3 @@ two = refl
 next-to-one : sqrt (ofBits binary64 0x3FF0_0000_0000_0001) ≡ ofBits binary64 0x3FF0_0000_0000_0000
 unfolding ofBits squareRoot
 next-to-one = refl
-
--- -1
-minus-one : sqrt (ofBits binary64 0xBFF0_0000_0000_0000) ≡ nan
-unfolding ofBits squareRoot
-minus-one = refl
-
--- the infinities
-infinity : sqrt (ofBits binary64 0x7FF0_0000_0000_0000) ≡ ofBits binary64 0x7FF0_0000_0000_0000
-unfolding ofBits squareRoot
-infinity = refl
-
-minus-infinity : sqrt (ofBits binary64 0xFFF0_0000_0000_0000) ≡ nan
-unfolding ofBits squareRoot
-minus-infinity = refl

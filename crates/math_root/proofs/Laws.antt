@@ -167,12 +167,12 @@ units-fits f s q k a = go (ltb (q * 2 ^ k) (overflow f)) (ltb→lt (q * 2 ^ k) (
     go false h = unfold fits in tt
 
 pub squareRoot-fits : (f : Format) (x : Float) → T (fits f x) → T (fits f (squareRoot f x))
-unfolding squareRoot
+unfolding squareRoot fits
 squareRoot-fits f nan h = h
-squareRoot-fits f (inf true) h = unfold fits in tt
+squareRoot-fits f (inf true) h = tt
 squareRoot-fits f (inf false) h = h
-squareRoot-fits f (fin s zero e) h = unfold fits in h
-squareRoot-fits f (fin true (suc m) e) h = unfold fits in tt
+squareRoot-fits f (fin s zero e) h = h
+squareRoot-fits f (fin true (suc m) e) h = tt
 squareRoot-fits f (fin false (suc m) e) h =
     let n = suc m * up e * 2 ^ low f * 2 ^ low f in
     subst (λ (x : Float). T (fits f x)) (sym (roundRoot-is f (suc m * up e) (down e))) (units-fits f false (rootKept (prec f) n (down e)) (rootDrop (prec f) n (down e)) (kept-le (prec f) n (down e) (down-pos e)))

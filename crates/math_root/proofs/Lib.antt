@@ -5,5 +5,6 @@ pub mod Grid
 pub mod Laws
 pub mod Square
 pub mod Nearest
+pub mod SquareRoot
 pub mod Range
 pub mod Known

@@ -20,7 +20,7 @@ use Rattle.ieee.proofs.Range.Round.{value-cross}
 use Rattle.ieee.proofs.Range.Laws.{plus-finite}
 use Rattle.ieee.proofs.Range.Values.{split-pow, Whole, whole}
 use Rattle.math_root.specs.Root.{midSquare, squareRoot, sqrt}
-use Rattle.math_root.specs.Nearest.{square, RootIsNearest}
+use Rattle.math_root.specs.Nearest.{square, Nearest}
 use Rattle.math_root.proofs.Closest.{Half, closestRoot-half, closestRoot-same}
 use Rattle.math_root.proofs.Grid.{rootDrop, rootKept, roundRoot-is, root-reaches, kept-ge}
 use Rattle.math_root.proofs.Laws.{squareRoot-is, squareRoot-fits, squareRoot-positive}
@@ -272,5 +272,5 @@ module _ (x : Float) (hx : T (fits binary64 x)) (px : T (positive x)) where
         smaller-by (w binary64 x hx px .m * 2 ^ t binary64 x hx px) (count x * 2 ^ 1074) (q binary64 x hx px * 2 ^ k binary64 x hx px) (count (sqrt x)) (v-whole .m * 2 ^ v-whole .j) (count v)
         x-count root-count v-count (smaller-held binary64 x hx px v v-whole) h
 
-pub root-is-nearest : RootIsNearest
+pub root-is-nearest : (x : Float) → T (fits binary64 x) → T (positive x) → Nearest x (sqrt x)
 root-is-nearest x hx px = record { held = squareRoot-fits binary64 x hx; above = squareRoot-positive binary64 x hx px; larger = larger x hx px; smaller = smaller x hx px }

@@ -1,5 +1,6 @@
 -- What the scans and the searches show.
-pub mod Part
+pub mod Spans
+pub mod Trimming
 pub mod Meaning
 mod Scan
 mod Search

@@ -1,6 +1,6 @@
 // Byte strings: the part without the blank bytes at both ends, comparing, searching, ASCII.
 ghost use mathlib.Core.Path.{_≡_};
-ghost use Rattle.name_bytes.specs.Trim.{blank, prefix, kept, span, handed};
+ghost use Rattle.name_bytes.specs.Trim.{blank, prefix, kept, span, part, handed};
 ghost use Rattle.name_bytes.specs.Search.{begins, is, contains};
 ghost use Rattle.name_bytes.specs.Ascii.{upper-byte, first-over};
 
@@ -66,15 +66,38 @@ pub fn trim_span(name: &[u8]) -> Span
     }
 }
 
-// The trimmed part of the caller's name, which lies in it at the span's place: blank bytes go from
-// both ends.
-pub fn trim(name: &[u8]) -> &[u8]
-    ensures { λ r. ⌜ (r .ptr, now r) ≡ handed (name .entry .ptr) (now (name .entry)) ⌝ }
+// The trimmed part of a name: blank bytes go from both ends.
+pub fn trimmed(name: &[u8]) -> &[u8]
+    ensures { λ r. ⌜ (r .ptr, now r) ≡ part (name .entry .ptr) (now (name .entry)) ⌝ }
 {
     let s = trim_span(name);
     let a = s.place;
     let e = a + s.len;
     &name[a..e]
+}
+
+// Where the trimmed part of a name begins in it.
+fn place(name: &[u8]) -> usize
+    ensures { λ r. ⌜ r ≡ span (now (name .entry)) .place ⌝ }
+{
+    let s = trim_span(name);
+    s.place
+}
+
+// A part of a lent name, with its place in it.
+pub struct Part<'a> {
+    pub bytes: &'a [u8],
+    pub place: usize,
+}
+
+// The trimmed part of the caller's name, with its place in it.
+pub fn trim<'a>(name: &'a [u8]) -> Part<'a>
+    ensures { λ r. ⌜ ((r .bytes .ptr, now (r .bytes)), r .place) ≡ handed (name .entry .ptr) (now (name .entry)) ⌝ }
+{
+    Part {
+        bytes: trimmed(name),
+        place: place(name),
+    }
 }
 
 // ---- compare and search

@@ -142,7 +142,7 @@ pub fn from_format_name(name: &[u8]) -> Named
             place: over,
         });
     }
-    coating_in(name_bytes::trim(name))
+    coating_in(name_bytes::trimmed(name))
 }
 
 // ---- to_format_name

@@ -8,7 +8,9 @@ use lib.Ieee.{Float, nan, inf, fin, binary64, unlike, up, down, round, neg, mul}
 use Rattle.ieee.specs.Operators.{_⊗_}
 use Rattle.ieee.proofs.Range.Laws.{sub-is}
 use Rattle.math_trig.proofs.Opposites.{mul-neg, round-neg, sub-opposite}
-use Rattle.polarization_stokes.specs.BornWolf.{Arithmetic, Number, born-and-wolf, in-parts, exact, rounded, WrittenOut}
+use Rattle.polarization_stokes.specs.BornWolf.{Arithmetic, Number, BornAndWolf, in-parts, exact, rounded}
+use Rattle.polarization_stokes.specs.Jones.{number, to-stokes}
+use Rattle.polarization_stokes.specs.Claim.{StokesClaim}
 
 -- ---- the rules of the minus sign
 record Signs {A : Type 0} (K : Arithmetic A) : Type 0 where
@@ -17,8 +19,13 @@ record Signs {A : Type 0} (K : Arithmetic A) : Type 0 where
   times-left : (x y : A) → K .times (K .opposite x) y ≡ K .opposite (K .times x y)
   times-right : (x y : A) → K .times x (K .opposite y) ≡ K .opposite (K .times x y)
 
-written-out : {A : Type 0} (K : Arithmetic A) → Signs K → (ex ey : Number A) → in-parts K ex ey ≡ born-and-wolf K ex ey
-written-out K rules ex ey = simp (rules .times-left, rules .times-right, rules .minus-opposite, rules .plus-opposite)
+written-out : {A : Type 0} (K : Arithmetic A) → Signs K → (ex ey : Number A) → BornAndWolf K ex ey (in-parts K ex ey .s0) (in-parts K ex ey .s1) (in-parts K ex ey .s2) (in-parts K ex ey .s3)
+written-out K rules ex ey = record {
+  S0 = refl;
+  S1 = refl;
+  S2 = simp (rules .times-right, rules .minus-opposite);
+  S3 = simp (rules .times-left, rules .plus-opposite);
+}
 
 -- ---- whole numbers
 opposite-right : (x y : ℤ) → x *ℤ negℤ y ≡ negℤ (x *ℤ y)
@@ -65,5 +72,6 @@ rounded-signs = record {
   times-right = mul-neg-right;
 }
 
-pub stokes-are-born-and-wolf : WrittenOut
-stokes-are-born-and-wolf = record { exactly = written-out exact exact-signs; bit-for-bit = written-out rounded rounded-signs }
+pub stokes-are-born-and-wolf : StokesClaim
+unfolding to-stokes
+stokes-are-born-and-wolf = record { bit-for-bit = λ v. written-out rounded rounded-signs (number (v .ex)) (number (v .ey)); exactly = written-out exact exact-signs }

@@ -2,3 +2,4 @@
 pub mod BornWolf
 pub mod Stokes
 pub mod Jones
+pub mod Claim

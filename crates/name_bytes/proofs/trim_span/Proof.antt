@@ -8,7 +8,7 @@ use lib.Seq.{take-all}
 use borrow.Author.Needs.{needs}
 use Rattle.name_bytes.specs.declared.Span.{Span}
 use Rattle.name_bytes.specs.Trim.{blank, prefix, kept, span}
-use Rattle.name_bytes.proofs.Part.{inside, outside}
+use Rattle.name_bytes.proofs.Spans.{inside, outside}
 use Rattle.name_bytes.proofs.trim_span.Statement.{statement}
 use Rattle.name_bytes.proofs.trim_span.Tie as tie
 

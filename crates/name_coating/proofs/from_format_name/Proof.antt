@@ -10,7 +10,7 @@ use Rattle.refusal.specs.Outcome.{answer, refusal}
 use Rattle.name_bytes.specs.Trim.{trimmed}
 use Rattle.name_coating.specs.Name.{upper, coating-of, from-format-name}
 use Rattle.name_bytes.specs.Ascii.{first-over}
-use Rattle.name_bytes.proofs.Part.{trimmed-le}
+use Rattle.name_bytes.proofs.Spans.{trimmed-le}
 use Rattle.name_coating.proofs.from_format_name.Statement.{statement}
 use Rattle.name_coating.proofs.from_format_name.Tie as tie
 
@@ -44,10 +44,10 @@ returns-2 : tie.Need-returns-2
 returns-2 c = over _ (c .before .before .if1 .left) _ (c .before .first-over .ensures) (c .if2 .taken)
 
 coating-in-requires : tie.Need-coating-in-requires
-coating-in-requires c κs = omega (arith, short _ (c .before .before .before .if1 .left) _ (bytes (c .trim .ensures)))
+coating-in-requires c κs = omega (arith, short _ (c .before .before .before .if1 .left) _ (bytes (c .trimmed .ensures)))
 
 returns-3 : tie.Need-returns-3
-returns-3 c = c .coating-in .ensures ∙ named _ (c .before .before .before .before .if1 .left) _ (c .before .before .before .first-over .ensures) (c .before .before .if2 .left) _ (bytes (c .before .trim .ensures))
+returns-3 c = c .coating-in .ensures ∙ named _ (c .before .before .before .before .if1 .left) _ (c .before .before .before .first-over .ensures) (c .before .before .if2 .left) _ (bytes (c .before .trimmed .ensures))
 
 pub from-format-name-spec : {M : Type 1} → statement M
 from-format-name-spec =

@@ -1,0 +1,39 @@
+-- What the number that a call returns tells (include/dihkelu.h): its high 32 bits are 0 where the call answers, else the refusal's number. Definitions only; proofs/Numbers.antt has the proof.
+use mathlib.Core.Path.{_≡_}
+use mathlib.Core.Bool.{cond}
+use mathlib.Core.List.{List}
+use Prim.Native.Nat.{ℕ, _/_, _%_, _^_, _<_}
+use lib.Dec.{leb}
+use lib.ListN.{length}
+use lib.Ieee.{Float}
+use Rattle.refusal.specs.Outcome.{Outcome, answer, refusal}
+use Rattle.sheet.specs.Claim.{Bytes}
+use Rattle.gate.specs.Gate.{gated, gate}
+use Rattle.train_steps.specs.declared.State.{State}
+use Rattle.train_steps.specs.Train.{step, run}
+use Rattle.sheet_surfaces.specs.Surfaces.{surface-answers}
+use Rattle.c_layers.specs.Evaluate.{evaluate}
+use Rattle.c_call.specs.Call.{Reply, returned, answered}
+use Rattle.c_call.specs.Layout.{evaluated, surface-answered}
+use Rattle.dihkelu.specs.Train.{start-layout, step-layout, step-outcome, run-done}
+
+-- For an answer the high 32 bits are 0 and the low 32 bits the call's own number; for a refusal they are its number, which is not 0, and its place.
+-- All are whole numbers, and what is returned is a u64 that equals them, so that nothing is cut off.
+abbrev pub Tells : Outcome ℕ → ℕ → Type 0
+Tells (answer value) n = (n / 2 ^ 32 ≡ 0) × (n % 2 ^ 32 ≡ value)
+Tells (refusal number place) n = (0 < number) × ((n / 2 ^ 32 ≡ number) × (n % 2 ^ 32 ≡ place))
+
+-- what is said where a list is lent: 8 for one that is too short, after all other refusals
+abbrev pub said : {A : Type 0} → (A → Reply) → Outcome A → List Float → Outcome ℕ
+said layout (answer a) list = cond (leb (length (layout a .numbers)) (length list)) (answer (layout a .returned)) (refusal 8 0)
+said layout (refusal number place) list = refusal number place
+
+-- the claim, call by call, for all bytes, numbers and lists
+pub record Numbers : Type 0 where
+  pub of-gate : (src : List ℕ) → Bytes src → Tells (gate src) (returned (gate src))
+  pub of-start : (src : List ℕ) → Bytes src → (list : List Float) → Tells (said start-layout (gated src) list) (answered start-layout (gated src) list .returned)
+  pub of-step : (src : List ℕ) → Bytes src → (st : State) (list : List Float) → Tells (said step-layout (step-outcome (step src st)) list) (answered step-layout (step-outcome (step src st)) list .returned)
+  pub of-run : (src : List ℕ) → Bytes src → (list : List Float) → Tells (run src list .result) (run-done (run src list) .returned)
+  pub of-answers : (src : List ℕ) (i : ℕ) (list : List Float) → Tells (said surface-answered (surface-answers src i) list) (answered surface-answered (surface-answers src i) list .returned)
+  pub of-evaluate : (code : ℕ) (design n-incident n-substrate angle wavelength : Float) (flat list : List Float)
+      → Tells (said evaluated (evaluate code design n-incident n-substrate angle wavelength flat) list) (answered evaluated (evaluate code design n-incident n-substrate angle wavelength flat) list .returned)

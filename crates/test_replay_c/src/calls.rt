@@ -1,0 +1,118 @@
+// The functions 180 to 196: the exports. Each gives what a call returns and all of the list that it was
+// lent, in so many words; none where it is not one of these or its list is too long to lend.
+
+// What a call returned, and the first n numbers of the list; the words behind them do not count.
+fn returned(out: &mut [u64; 256], number: u64, list: &[f64; 160], n: usize) -> usize {
+    out[0] = number;
+    test_records::write(out, 1, list);
+    if n > 160 { 0 } else { n + 1 }
+}
+
+fn gate_call(src: &[u8], out: &mut [u64; 256]) -> usize {
+    out[0] = dihkelu::dihkelu_gate(src);
+    1
+}
+
+fn start_call(n: usize, src: &[u8], out: &mut [u64; 256]) -> usize {
+    let mut list = [-7.25f64; 160];
+    if n > 160 {
+        return 0;
+    }
+    let number = dihkelu::dihkelu_start(src, &mut list[..n]);
+    returned(out, number, &list, n)
+}
+
+fn step_call(n: usize, done: u32, s: f64, p: f64, src: &[u8], out: &mut [u64; 256]) -> usize {
+    let mut list = [-7.25f64; 160];
+    if n > 160 {
+        return 0;
+    }
+    let number = dihkelu::dihkelu_step(src, done, s, p, &mut list[..n]);
+    returned(out, number, &list, n)
+}
+
+fn run_call(n: usize, src: &[u8], out: &mut [u64; 256]) -> usize {
+    let mut list = [-7.25f64; 160];
+    if n > 160 {
+        return 0;
+    }
+    let number = dihkelu::dihkelu_run(src, &mut list[..n]);
+    returned(out, number, &list, n)
+}
+
+fn answers_call(n: usize, surface: u32, src: &[u8], out: &mut [u64; 256]) -> usize {
+    let mut list = [-7.25f64; 160];
+    if n > 160 {
+        return 0;
+    }
+    let number = dihkelu::dihkelu_answers(src, surface, &mut list[..n]);
+    returned(out, number, &list, n)
+}
+
+// The numbers of so many words, the first of which is the eighth of the record.
+fn layers_at(a: &[u8]) -> [f64; 200] {
+    let mut layers = [0.0f64; 200];
+    let mut i = 0;
+    while i < 200 {
+        layers[i] = test_records::float_at(a, i + 8);
+        i += 1;
+    }
+    layers
+}
+
+fn evaluate_call(n: usize, a: &[u8], out: &mut [u64; 256]) -> usize {
+    let mut list = [-7.25f64; 160];
+    let layers = layers_at(a);
+    let count = test_records::small_at(a, 7) as usize;
+    if n > 160 {
+        return 0;
+    }
+    if count > 200 {
+        return 0;
+    }
+    let number = dihkelu::dihkelu_evaluate(
+        test_records::small_at(a, 1),
+        test_records::float_at(a, 2),
+        test_records::float_at(a, 3),
+        test_records::float_at(a, 4),
+        test_records::float_at(a, 5),
+        test_records::float_at(a, 6),
+        &layers[..count],
+        &mut list[..n],
+    );
+    returned(out, number, &list, n)
+}
+
+fn float_out(out: &mut [u64; 256], x: f64) -> usize {
+    out[0] = test_records::bits(x);
+    1
+}
+
+pub fn call(f: usize, a: &[u8], out: &mut [u64; 256]) -> usize {
+    let n = test_records::small_at(a, 0) as usize;
+    let done = test_records::small_at(a, 1);
+    let x = test_records::float_at(a, 0);
+    match f {
+        180 => gate_call(test_records::bytes_at(a, 0), out),
+        181 => start_call(n, test_records::bytes_at(a, 1), out),
+        182 => {
+            let s = test_records::float_at(a, 2);
+            let p = test_records::float_at(a, 3);
+            step_call(n, done, s, p, test_records::bytes_at(a, 4), out)
+        }
+        183 => run_call(n, test_records::bytes_at(a, 1), out),
+        184 => answers_call(n, done, test_records::bytes_at(a, 2), out),
+        185 => evaluate_call(n, a, out),
+        190 => float_out(out, c_scalars::dihkelu_sqrt(x)),
+        191 => float_out(out, c_scalars::dihkelu_sin(x)),
+        192 => float_out(out, c_scalars::dihkelu_cos(x)),
+        193 => float_out(out, c_scalars::dihkelu_exp(x)),
+        194 => float_out(out, c_scalars::dihkelu_atan(x)),
+        195 => float_out(out, c_scalars::dihkelu_asin(x)),
+        196 => float_out(
+            out,
+            c_scalars::dihkelu_atan2(x, test_records::float_at(a, 1)),
+        ),
+        _ => 0,
+    }
+}

@@ -1,0 +1,212 @@
+// Group exports: the calls of the C interface (include/dihkelu.h). A record has what a call returns, and after it the
+// whole list that it was lent, as it left it.
+
+use crate::arguments::Arg::{self, *};
+use crate::arguments::Style;
+use crate::functions::thin_film::surface_coating;
+use crate::functions::Function;
+use crate::record::{Arguments, Words};
+use crate::reference::thin_film::{CoatingResponse, ThinFilmLayer};
+use crate::section2;
+use crate::sheet::{gate, Refusal};
+use crate::train::{answers, run, start, step, Light, State};
+use crate::values::Rng;
+
+/// The one number of a list before the call.
+const BEFORE: f64 = -7.25;
+
+/// Lengths of a list at the ends of what a response and the answers of a surface need.
+pub const ROOMS: [u64; 12] = [0, 13, 14, 15, 52, 53, 54, 66, 67, 67, 67, 70];
+
+type Call = fn(&mut Arguments, &mut Words);
+
+fn packed(refusal: Refusal) -> u64 {
+    refusal.number << 32 | refusal.place
+}
+
+fn refused(number: u64) -> Refusal {
+    Refusal { number, place: 0 }
+}
+
+/// What is returned, and the list of `room` numbers: those written at its front; 8 where they do not fit.
+fn leave(r: &mut Words, room: u64, answer: Result<(u64, Vec<f64>), Refusal>) {
+    let room = room as usize;
+    let (returned, written) = match answer {
+        Err(refusal) => (packed(refusal), Vec::new()),
+        Ok((_, written)) if written.len() > room => (packed(refused(8)), Vec::new()),
+        Ok(answer) => answer,
+    };
+    r.int(returned);
+    r.floats(&written);
+    r.floats(&vec![BEFORE; room - written.len()]);
+}
+
+fn response(r: &CoatingResponse) -> Vec<f64> {
+    let parts = [r.rs, r.rp, r.ts, r.tp];
+    let mut list: Vec<f64> = parts.iter().flat_map(|z| [z.re, z.im]).collect();
+    list.extend([r.reflectance_s, r.reflectance_p]);
+    list.extend([r.transmittance_s, r.transmittance_p]);
+    list.extend([r.phase_rs_rad, r.phase_rp_rad]);
+    list
+}
+
+/// A surface's answers, in the order of include/dihkelu.h.
+fn surface(bytes: &[u8], number: u64) -> Result<(u64, Vec<f64>), Refusal> {
+    let sheet = gate(bytes)?;
+    let surface = sheet.surfaces.get(number as usize).ok_or(refused(7))?;
+    let answers = answers(surface, sheet.wavelength);
+    let mut list = Vec::new();
+    let last = match &answers.light {
+        Light::Bare(powers) => {
+            list.push(0.0);
+            list.extend(powers.reflected);
+            list.extend(powers.transmitted);
+            Vec::new()
+        }
+        Light::Coated(r) => {
+            list.extend([1.0, r.reflectance_s, r.reflectance_p]);
+            list.extend([r.transmittance_s, r.transmittance_p]);
+            response(r)
+        }
+    };
+    for jones in &answers.jones {
+        list.extend(jones.m.iter().flatten().flat_map(|z| [z.re, z.im]));
+    }
+    for mueller in &answers.mueller {
+        list.extend(mueller.m.iter().flatten());
+    }
+    list.extend(last);
+    Ok((list.len() as u64, list))
+}
+
+/// `SurfaceCoating::evaluate`: 1 for a code that stands for no coating and for layers that are cut off; 1 before 3.
+fn evaluate(
+    code: u64,
+    design: f64,
+    at: [f64; 4],
+    flat: &[f64],
+) -> Result<(u64, Vec<f64>), Refusal> {
+    if !(1..=8).contains(&code) || flat.len() % 3 != 0 {
+        return Err(refused(1));
+    }
+    let layer = |l: &[f64]| ThinFilmLayer {
+        n: l[0],
+        k: l[1],
+        thickness_nm: l[2],
+    };
+    let layers: Vec<ThinFilmLayer> = flat.chunks(3).map(layer).collect();
+    let [n_incident, n_substrate, angle, wavelength] = at;
+    let too_many = code == 5 && layers.len() > 64;
+    let answer = surface_coating(code, design, layers)
+        .evaluate(n_incident, n_substrate, angle, wavelength)
+        .map_err(|_| refused(1))?;
+    if too_many {
+        return Err(refused(3));
+    }
+    let list = response(&answer);
+    Ok((list.len() as u64, list))
+}
+
+pub fn table() -> Vec<Function> {
+    let export = |number, name, args: &'static [Arg], weight, call: Call| Function {
+        number,
+        group: "exports",
+        name,
+        args,
+        weight,
+        call,
+    };
+    vec![
+        export(180, "dihkelu_gate", &[Start], 1, |a, r| {
+            let gated = gate(&a.bytes());
+            r.int(gated.map_or_else(packed, |sheet| sheet.surfaces.len() as u64));
+        }),
+        export(181, "dihkelu_start", &[Pair, Start], 1, |a, r| {
+            let room = a.int();
+            let fresh = gate(&a.bytes()).map(|sheet| {
+                let state = start(&sheet);
+                (sheet.surfaces.len() as u64, vec![state.s, state.p])
+            });
+            leave(r, room, fresh);
+        }),
+        export(182, "dihkelu_step", &[Pair, Step], 1, |a, r| {
+            let room = a.int();
+            let (done, s, p) = (a.int(), a.float(), a.float());
+            let next = step(&a.bytes(), State { done, s, p });
+            leave(r, room, next.map(|next| (next.done, vec![next.s, next.p])));
+        }),
+        export(183, "dihkelu_run", &[Run], 1, |a, r| {
+            let room = a.int();
+            let mut list = vec![0.0; room as usize];
+            let ran = run(&a.bytes(), &mut list);
+            leave(r, room, ran.map(|n| (n as u64, list[..2 * n].to_vec())));
+        }),
+        export(184, "dihkelu_answers", &[Room, Answers], 1, |a, r| {
+            let (room, number) = (a.int(), a.int());
+            leave(r, room, surface(&a.bytes(), number));
+        }),
+        export(
+            185,
+            "dihkelu_evaluate",
+            &[
+                Room, AnyCode, Wavelength, Index, Index, Angle, Wavelength, Flat,
+            ],
+            4,
+            |a, r| {
+                let (room, code, design) = (a.int(), a.int(), a.float());
+                let at = a.floats();
+                let flat: Vec<f64> = (0..a.int()).map(|_| a.float()).collect();
+                leave(r, room, evaluate(code, design, at, &flat));
+            },
+        ),
+        export(190, "dihkelu_sqrt", &[Square], 4, |a, r| {
+            r.float(section2::sqrt(a.float()));
+        }),
+        export(191, "dihkelu_sin", &[Angle], 4, |a, r| {
+            r.float(section2::sin(a.float()));
+        }),
+        export(192, "dihkelu_cos", &[Angle], 4, |a, r| {
+            r.float(section2::cos(a.float()));
+        }),
+        export(193, "dihkelu_exp", &[Exponent], 4, |a, r| {
+            r.float(section2::exp(a.float()));
+        }),
+        export(194, "dihkelu_atan", &[Any], 4, |a, r| {
+            r.float(section2::atan(a.float()));
+        }),
+        export(195, "dihkelu_asin", &[Sine], 4, |a, r| {
+            r.float(section2::asin(a.float()));
+        }),
+        export(196, "dihkelu_atan2", &[Any, Any], 4, |a, r| {
+            r.float(section2::atan2(a.float(), a.float()));
+        }),
+    ]
+}
+
+/// Layers in a flat list; one in eight has its last layer cut off.
+pub fn push_flat(rng: &mut Rng, style: Style, words: &mut Vec<u64>) {
+    let mut layers = Vec::new();
+    Layers.push(rng, style, &mut layers);
+    let mut flat = layers.split_off(1);
+    if rng.one_in(8) {
+        flat.truncate(flat.len().saturating_sub(1 + rng.below(2)));
+    }
+    words.push(flat.len() as u64);
+    words.extend(flat);
+}
+
+/// Lists of up to 65 layers, whole and with one or two numbers cut off.
+pub fn flat_cases() -> Vec<Vec<u64>> {
+    let layer = [1.38_f64, 0.0, 99.6].map(f64::to_bits);
+    let mut cases = Vec::new();
+    for count in [0, 1, 2, 16, 64, 65] {
+        for cut in 0..3 {
+            let mut flat = layer.repeat(count);
+            flat.truncate(flat.len().saturating_sub(cut));
+            let mut words = vec![flat.len() as u64];
+            words.extend(flat);
+            cases.push(words);
+        }
+    }
+    cases
+}
