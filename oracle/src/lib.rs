@@ -9,6 +9,7 @@ pub mod examples;
 #[cfg(feature = "proved")]
 pub mod exports;
 pub mod feed;
+pub mod findings;
 pub mod functions;
 pub mod measure;
 pub mod proved;

@@ -1,6 +1,6 @@
 // The commands of the oracle: see README.md.
 
-use oracle::{bench, examples, feed, functions, measure, proved, sheets, train, values};
+use oracle::{bench, examples, feed, findings, functions, measure, proved, sheets, train, values};
 use std::fs;
 use std::io::{self, BufReader, Read, Write};
 use std::path::Path;
@@ -14,6 +14,7 @@ oracle table
 oracle train < SHEET
 oracle sheets DIRECTORY [--seed S] [--count N]
 oracle examples DIRECTORY
+oracle findings
 oracle bench [--runs N]
 oracle compare [--seed S] [--count N]
 oracle measure [--seed S] [--count N]
@@ -129,6 +130,7 @@ fn execute(command: &str, options: &Options) -> Result<bool, String> {
             }
             Ok(true)
         }
+        "findings" => Ok(findings::print()),
         "bench" => {
             bench::bench(options.runs.unwrap_or(9) as usize);
             Ok(true)

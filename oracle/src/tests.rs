@@ -1,8 +1,9 @@
-// Unit tests: section 2's edges, 01's known answers, sheets and trains, records, exports, measured surfaces, what lies beyond the limits.
+// Unit tests: section 2's edges, 01's known answers, sheets and trains, records, exports, measured surfaces, findings, what lies beyond the limits.
 
 mod beyond;
 #[cfg(feature = "proved")]
 mod exports;
+mod findings;
 mod known;
 mod measure;
 mod records;
