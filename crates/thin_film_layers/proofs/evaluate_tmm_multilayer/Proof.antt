@@ -49,17 +49,17 @@ use Rattle.thin_film_layers.proofs.Pending as S
 use Rattle.thin_film_layers.proofs.Pending.Laws as S′
 use Rattle.thin_film_layers.proofs.all as all
 use Rattle.thin_film_layers.proofs.all.Symbol as all-def
-use Rattle.thin_film_layers.proofs.all.Symbol.{name as #evaluation·all}
+use Rattle.thin_film_layers.proofs.all.Symbol.{name as #thin-film-layers·all}
 use Rattle.thin_film_layers.proofs.all.Met as all-thm
 use Rattle.thin_film_layers.proofs.through as through
 use Rattle.thin_film_layers.proofs.through.Symbol as through-def
-use Rattle.thin_film_layers.proofs.through.Symbol.{name as #evaluation·through}
+use Rattle.thin_film_layers.proofs.through.Symbol.{name as #thin-film-layers·through}
 use Rattle.thin_film_layers.proofs.through.Met as through-thm
 use Rattle.thin_film_layers.proofs.finish as finish
 use Rattle.thin_film_layers.proofs.finish.Symbol as finish-def
-use Rattle.thin_film_layers.proofs.finish.Symbol.{name as #evaluation·finish}
+use Rattle.thin_film_layers.proofs.finish.Symbol.{name as #thin-film-layers·finish}
 use Rattle.thin_film_layers.proofs.finish.Met as finish-thm
-use Rattle.thin_film_layers.proofs.evaluate_tmm_multilayer.Key.{name as #evaluation·evaluate-tmm-multilayer}
+use Rattle.thin_film_layers.proofs.evaluate_tmm_multilayer.Key.{name as #thin-film-layers·evaluate-tmm-multilayer}
 use Rattle.thin_film_layers.proofs.evaluate_tmm_multilayer as f
 use Rattle.thin_film_layers.proofs.evaluate_tmm_multilayer.Statement as stated
 use Rattle.thin_film_layers.proofs.evaluate_tmm_multilayer.Code as code
@@ -129,7 +129,7 @@ module _ {M : Type 1} (𝓤 : URA M) (H : Heap 𝓤) (A : Atoms 𝓤) (W : Given
   finish-said : (a : Pending) (r : CoatingResponse) → ent 𝓤 (ensured 𝓤 H A finish.ended (finish.clauses 𝓤 H A mem run) tt (a, tt) tt r) (fact 𝓤 (r ≡ Stack.finish (a .stack)))
   finish-said a r = exE 𝓤 _ (λ ws. snd∗ 𝓤 (sem 𝓤 H A (lasts finish.ended tt (a, tt) ws)) (fact 𝓤 (r ≡ Stack.finish (a .stack))))
 
-  module _ (C : Calls 𝓤 H) (Λ : Loops 𝓤 H) (fm : FmC 𝓤 H (W .laws) C) (known-all : Triple 𝓤 (C #evaluation·all) (All 𝓤 H A mem run)) (known-through : Triple 𝓤 (C #evaluation·through) (Through 𝓤 H A mem run)) (known-finish : Triple 𝓤 (C #evaluation·finish) (Finish 𝓤 H A mem run)) where
+  module _ (C : Calls 𝓤 H) (Λ : Loops 𝓤 H) (fm : FmC 𝓤 H (W .laws) C) (known-all : Triple 𝓤 (C #thin-film-layers·all) (All 𝓤 H A mem run)) (known-through : Triple 𝓤 (C #thin-film-layers·through) (Through 𝓤 H A mem run)) (known-finish : Triple 𝓤 (C #thin-film-layers·finish) (Finish 𝓤 H A mem run)) where
     walk : Is (ShrSlice (named 0) κ L.the-row) s (vₛ ∷ []) → ent 𝓤 (onEntry 𝓤 H A f.signature (κ, tt) (q, tt) x at) (WpFn 𝓤 H C Λ code.function (vf n-incident ∷ vf n-substrate ∷ vf angle ∷ vf wavelength ∷ vₛ ∷ []) Post)
     walk p =
         qed W ((‵ (flft κ q) ⊛ ‵ ftrue) ∷ ‵ (owns (f64 ∷ f64 ∷ f64 ∷ f64 ∷ ShrSlice (named 0) κ L.the-row ∷ []) x at) ∷ []) ∵ move ! (1 ∷ []) $ fsplit ! $ drop ! $ fsplit ! $ drop ! $ fsplit ! $ drop ! $ fsplit ! $ drop ! $ fsplit ! $ move ! (1 ∷ []) $ drop ! $
@@ -161,14 +161,14 @@ module _ {M : Type 1} (𝓤 : URA M) (H : Heap 𝓤) (A : Atoms 𝓤) (W : Given
         by ! (exits r u₂ is₂ (e₂ ∙ ap (λ (z : Pending). Stack.finish (z .stack)) (e₁ ∙ ap (λ (z : Pending). Walk.through z (s .now)) e) ∙ every n-incident n-substrate angle wavelength (s .now)))))))))))))))))))))))
 
 module _ {M : Type 1} (𝓤 : URA M) (H : Heap 𝓤) (A : Atoms 𝓤) (W : Given 𝓤 H A) (mem : Memory → SProp 𝓤) (run : Routine → Fun 𝓤) where
-  walks : (C : Calls 𝓤 H) (Λ : Loops 𝓤 H) → FmC 𝓤 H (W .laws) C → Triple 𝓤 (C #evaluation·all) (All 𝓤 H A mem run) → Triple 𝓤 (C #evaluation·through) (Through 𝓤 H A mem run) → Triple 𝓤 (C #evaluation·finish) (Finish 𝓤 H A mem run)
+  walks : (C : Calls 𝓤 H) (Λ : Loops 𝓤 H) → FmC 𝓤 H (W .laws) C → Triple 𝓤 (C #thin-film-layers·all) (All 𝓤 H A mem run) → Triple 𝓤 (C #thin-film-layers·through) (Through 𝓤 H A mem run) → Triple 𝓤 (C #thin-film-layers·finish) (Finish 𝓤 H A mem run)
       → Walks 𝓤 H A f.ended stayed (WpFn 𝓤 H C Λ code.function) (f.clauses 𝓤 H A mem run)
   walks C Λ fm known-all known-through known-finish = walked 𝓤 H A f.ended stayed (f.clauses 𝓤 H A mem run) (WpFn 𝓤 H C Λ code.function)
       (λ κs. (float-vals binary64, (float-vals binary64, (float-vals binary64, (float-vals binary64, (slice-vals, tt)))))) (λ κs. (float-tells binary64, (float-tells binary64, (float-tells binary64, (float-tells binary64, (shr-slice-tells (named 0) (κs .0) L.the-row, tt))))))
       (λ κs qs bounds a g are. via 𝓤 _ (fst∗ 𝓤 _ (emp 𝓤)) (walk 𝓤 H A W mem run (κs .0) (qs .0) (a .0) (a .1 .0) (a .1 .1 .0) (a .1 .1 .1 .0) (a .1 .1 .1 .1 .0) (are .0) (are .1 .0) (are .1 .1 .0) (are .1 .1 .1 .0) C Λ fm known-all known-through known-finish (are .1 .1 .1 .1 .0)))
 
 meets : {M : Type 1} (𝓤 : URA M) (H : Heap 𝓤) (A : Atoms 𝓤) (W : Given 𝓤 H A) (mem : Memory → SProp 𝓤) (run : Routine → Fun 𝓤) (𝓣 : Tables 𝓤 H)
-    → Triple 𝓤 (𝓣 .C #evaluation·all) (All 𝓤 H A mem run) → Triple 𝓤 (𝓣 .C #evaluation·through) (Through 𝓤 H A mem run) → Triple 𝓤 (𝓣 .C #evaluation·finish) (Finish 𝓤 H A mem run)
+    → Triple 𝓤 (𝓣 .C #thin-film-layers·all) (All 𝓤 H A mem run) → Triple 𝓤 (𝓣 .C #thin-film-layers·through) (Through 𝓤 H A mem run) → Triple 𝓤 (𝓣 .C #thin-film-layers·finish) (Finish 𝓤 H A mem run)
     → Meets 𝓤 H A f.signature (WpFn 𝓤 H (𝓣 .C) (𝓣 .Λ) code.function) (f.spec 𝓤 H A mem run)
 meets 𝓤 H A W mem run 𝓣 known-all known-through known-finish =
     walk-meets 𝓤 H A f.ended stayed W (goes-dropped 𝓤 H A W 1 (plain (λ _. f64)) yes (λ κs x f. refl), (goes-dropped 𝓤 H A W 1 (plain (λ _. f64)) yes (λ κs x f. refl), (goes-dropped 𝓤 H A W 1 (plain (λ _. f64)) yes (λ κs x f. refl), (goes-dropped 𝓤 H A W 1 (plain (λ _. f64)) yes (λ κs x f. refl), (goes-dropped 𝓤 H A W 1 (shrSliceOf (0 ∷ []) tt (plain (λ _. L.the-row))) yes (λ κs x f. refl), tt)))))
@@ -178,8 +178,8 @@ pub evaluate-tmm-multilayer-spec : {M : Type 1} → stated.statement M
 unfolding code.routine tablesOf
 evaluate-tmm-multilayer-spec 𝓤 H 𝓜 𝓖 𝓡 =
     entered 𝓤 H (tripleOf 𝓤 H (𝓖 .A) f.signature (f.spec 𝓤 H (𝓖 .A) (𝓜 .mem) (𝓡 .run)))
-    (tables 𝓤 H 𝓜 𝓡 code.env .C) (tables 𝓤 H 𝓜 𝓡 code.env .Λ) #evaluation·evaluate-tmm-multilayer code.function (code.unfolded 𝓤 H 𝓜 𝓡)
+    (tables 𝓤 H 𝓜 𝓡 code.env .C) (tables 𝓤 H 𝓜 𝓡 code.env .Λ) #thin-film-layers·evaluate-tmm-multilayer code.function (code.unfolded 𝓤 H 𝓜 𝓡)
     (meets 𝓤 H (𝓖 .A) (givenOf 𝓤 H 𝓜 𝓖) (𝓜 .mem) (𝓡 .run) (tablesOf 𝓤 H 𝓜 (tables 𝓤 H 𝓜 𝓡 code.env))
-    (cited 𝓤 H (All 𝓤 H (𝓖 .A) (𝓜 .mem) (𝓡 .run)) 𝓜 𝓡 code.env #evaluation·all all-def.routine code.calls-evaluation·all (all-thm.met 𝓤 H 𝓜 𝓖 𝓡))
-    (cited 𝓤 H (Through 𝓤 H (𝓖 .A) (𝓜 .mem) (𝓡 .run)) 𝓜 𝓡 code.env #evaluation·through through-def.routine code.calls-evaluation·through (through-thm.met 𝓤 H 𝓜 𝓖 𝓡))
-    (cited 𝓤 H (Finish 𝓤 H (𝓖 .A) (𝓜 .mem) (𝓡 .run)) 𝓜 𝓡 code.env #evaluation·finish finish-def.routine code.calls-evaluation·finish (finish-thm.met 𝓤 H 𝓜 𝓖 𝓡)))
+    (cited 𝓤 H (All 𝓤 H (𝓖 .A) (𝓜 .mem) (𝓡 .run)) 𝓜 𝓡 code.env #thin-film-layers·all all-def.routine code.calls-thin-film-layers·all (all-thm.met 𝓤 H 𝓜 𝓖 𝓡))
+    (cited 𝓤 H (Through 𝓤 H (𝓖 .A) (𝓜 .mem) (𝓡 .run)) 𝓜 𝓡 code.env #thin-film-layers·through through-def.routine code.calls-thin-film-layers·through (through-thm.met 𝓤 H 𝓜 𝓖 𝓡))
+    (cited 𝓤 H (Finish 𝓤 H (𝓖 .A) (𝓜 .mem) (𝓡 .run)) 𝓜 𝓡 code.env #thin-film-layers·finish finish-def.routine code.calls-thin-film-layers·finish (finish-thm.met 𝓤 H 𝓜 𝓖 𝓡)))

@@ -64,17 +64,17 @@ use Rattle.thin_film_layers.proofs.Pending as S
 use Rattle.thin_film_layers.proofs.Pending.Laws as S′
 use Rattle.thin_film_layers.proofs.count as count
 use Rattle.thin_film_layers.proofs.count.Symbol as count-def
-use Rattle.thin_film_layers.proofs.count.Symbol.{name as #evaluation·count}
+use Rattle.thin_film_layers.proofs.count.Symbol.{name as #thin-film-layers·count}
 use Rattle.thin_film_layers.proofs.count.Met as count-thm
 use Rattle.thin_film_layers.proofs.at as at
 use Rattle.thin_film_layers.proofs.at.Symbol as at-def
-use Rattle.thin_film_layers.proofs.at.Symbol.{name as #evaluation·at}
+use Rattle.thin_film_layers.proofs.at.Symbol.{name as #thin-film-layers·at}
 use Rattle.thin_film_layers.proofs.at.Met as at-thm
 use Rattle.thin_film_layers.proofs.step as step
 use Rattle.thin_film_layers.proofs.step.Symbol as step-def
-use Rattle.thin_film_layers.proofs.step.Symbol.{name as #evaluation·step}
+use Rattle.thin_film_layers.proofs.step.Symbol.{name as #thin-film-layers·step}
 use Rattle.thin_film_layers.proofs.step.Met as step-thm
-use Rattle.thin_film_layers.proofs.through.Key.{name as #evaluation·through}
+use Rattle.thin_film_layers.proofs.through.Key.{name as #thin-film-layers·through}
 use Rattle.thin_film_layers.proofs.through as f
 use Rattle.thin_film_layers.proofs.through.Statement as stated
 use Rattle.thin_film_layers.proofs.through.Code as code
@@ -200,7 +200,7 @@ module _ {M : Type 1} (𝓤 : URA M) (H : Heap 𝓤) (A : Atoms 𝓤) (W : Given
   abbrev s₀ : St
   s₀ = (0, start, sval start, zero-le, is₀, Order.starts start ys)
 
-  module _ (𝓣 : Tables 𝓤 H) (fm : FmC 𝓤 H (W .laws) (𝓣 .C)) (known-count : Triple 𝓤 (𝓣 .C #evaluation·count) (Count 𝓤 H A mem run)) (known-at : Triple 𝓤 (𝓣 .C #evaluation·at) (At 𝓤 H A mem run)) (known-step : Triple 𝓤 (𝓣 .C #evaluation·step) (Step 𝓤 H A mem run)) where
+  module _ (𝓣 : Tables 𝓤 H) (fm : FmC 𝓤 H (W .laws) (𝓣 .C)) (known-count : Triple 𝓤 (𝓣 .C #thin-film-layers·count) (Count 𝓤 H A mem run)) (known-at : Triple 𝓤 (𝓣 .C #thin-film-layers·at) (At 𝓤 H A mem run)) (known-step : Triple 𝓤 (𝓣 .C #thin-film-layers·step) (Step 𝓤 H A mem run)) where
     abbrev C : Calls 𝓤 H
     C = 𝓣 .C
 
@@ -331,14 +331,14 @@ module _ {M : Type 1} (𝓤 : URA M) (H : Heap 𝓤) (A : Atoms 𝓤) (W : Given
         looping q′ l₀ l₁ l₂ l₃ l₄ l₅ l₆ l₇ l₈ l₉ l₁₀ l₁₁)))))))))))))))))
 
 module _ {M : Type 1} (𝓤 : URA M) (H : Heap 𝓤) (A : Atoms 𝓤) (W : Given 𝓤 H A) (mem : Memory → SProp 𝓤) (run : Routine → Fun 𝓤) where
-  through-walks : (𝓣 : Tables 𝓤 H) → FmC 𝓤 H (W .laws) (𝓣 .C) → Triple 𝓤 (𝓣 .C #evaluation·count) (Count 𝓤 H A mem run) → Triple 𝓤 (𝓣 .C #evaluation·at) (At 𝓤 H A mem run) → Triple 𝓤 (𝓣 .C #evaluation·step) (Step 𝓤 H A mem run)
+  through-walks : (𝓣 : Tables 𝓤 H) → FmC 𝓤 H (W .laws) (𝓣 .C) → Triple 𝓤 (𝓣 .C #thin-film-layers·count) (Count 𝓤 H A mem run) → Triple 𝓤 (𝓣 .C #thin-film-layers·at) (At 𝓤 H A mem run) → Triple 𝓤 (𝓣 .C #thin-film-layers·step) (Step 𝓤 H A mem run)
       → Walks 𝓤 H A f.ended stayed (WpFn 𝓤 H (𝓣 .C) (𝓣 .Λ) code.function) (f.clauses 𝓤 H A mem run)
   through-walks 𝓣 fm known-count known-at known-step = walked 𝓤 H A f.ended stayed (f.clauses 𝓤 H A mem run) (WpFn 𝓤 H (𝓣 .C) (𝓣 .Λ) code.function)
       (λ κs. (slice-vals, (LL.vals S.the-type S′.the-laws, tt))) (λ κs. (shr-slice-tells (named 0) (κs .0) L.the-row, (LL.tells S.the-type S′.the-laws, tt)))
       (λ κs qs bounds a g are. via 𝓤 _ (fst∗ 𝓤 _ (emp 𝓤)) (walk 𝓤 H A W mem run (κs .0) (qs .0) (a .0 .ptr .0) (a .0 .ptr .1) (a .0 .name) (a .0 .now) (a .1 .0) (are .0 .0 .1) (are .1 .0) 𝓣 fm known-count known-at known-step))
 
 through-meets : {M : Type 1} (𝓤 : URA M) (H : Heap 𝓤) (A : Atoms 𝓤) (W : Given 𝓤 H A) (mem : Memory → SProp 𝓤) (run : Routine → Fun 𝓤) (𝓣 : Tables 𝓤 H)
-    → Triple 𝓤 (𝓣 .C #evaluation·count) (Count 𝓤 H A mem run) → Triple 𝓤 (𝓣 .C #evaluation·at) (At 𝓤 H A mem run) → Triple 𝓤 (𝓣 .C #evaluation·step) (Step 𝓤 H A mem run)
+    → Triple 𝓤 (𝓣 .C #thin-film-layers·count) (Count 𝓤 H A mem run) → Triple 𝓤 (𝓣 .C #thin-film-layers·at) (At 𝓤 H A mem run) → Triple 𝓤 (𝓣 .C #thin-film-layers·step) (Step 𝓤 H A mem run)
     → Meets 𝓤 H A f.signature (WpFn 𝓤 H (𝓣 .C) (𝓣 .Λ) code.function) (f.spec 𝓤 H A mem run)
 through-meets 𝓤 H A W mem run 𝓣 known-count known-at known-step =
     walk-meets 𝓤 H A f.ended stayed W (goes-dropped 𝓤 H A W 1 (shrSliceOf (0 ∷ []) tt (plain (λ _. L.the-row))) yes (λ κs x f. refl), (goes-dropped 𝓤 H A W 1 (plain (λ _. S.the-row)) yes (λ κs x f. refl), tt))
@@ -348,8 +348,8 @@ pub through-spec : {M : Type 1} → stated.statement M
 unfolding code.routine tablesOf
 through-spec 𝓤 H 𝓜 𝓖 𝓡 =
     entered 𝓤 H (tripleOf 𝓤 H (𝓖 .A) f.signature (f.spec 𝓤 H (𝓖 .A) (𝓜 .mem) (𝓡 .run)))
-    (tables 𝓤 H 𝓜 𝓡 code.env .C) (tables 𝓤 H 𝓜 𝓡 code.env .Λ) #evaluation·through code.function (code.unfolded 𝓤 H 𝓜 𝓡)
+    (tables 𝓤 H 𝓜 𝓡 code.env .C) (tables 𝓤 H 𝓜 𝓡 code.env .Λ) #thin-film-layers·through code.function (code.unfolded 𝓤 H 𝓜 𝓡)
     (through-meets 𝓤 H (𝓖 .A) (givenOf 𝓤 H 𝓜 𝓖) (𝓜 .mem) (𝓡 .run) (tablesOf 𝓤 H 𝓜 (tables 𝓤 H 𝓜 𝓡 code.env))
-    (cited 𝓤 H (Count 𝓤 H (𝓖 .A) (𝓜 .mem) (𝓡 .run)) 𝓜 𝓡 code.env #evaluation·count count-def.routine code.calls-evaluation·count (count-thm.met 𝓤 H 𝓜 𝓖 𝓡))
-    (cited 𝓤 H (At 𝓤 H (𝓖 .A) (𝓜 .mem) (𝓡 .run)) 𝓜 𝓡 code.env #evaluation·at at-def.routine code.calls-evaluation·at (at-thm.met 𝓤 H 𝓜 𝓖 𝓡))
-    (cited 𝓤 H (Step 𝓤 H (𝓖 .A) (𝓜 .mem) (𝓡 .run)) 𝓜 𝓡 code.env #evaluation·step step-def.routine code.calls-evaluation·step (step-thm.met 𝓤 H 𝓜 𝓖 𝓡)))
+    (cited 𝓤 H (Count 𝓤 H (𝓖 .A) (𝓜 .mem) (𝓡 .run)) 𝓜 𝓡 code.env #thin-film-layers·count count-def.routine code.calls-thin-film-layers·count (count-thm.met 𝓤 H 𝓜 𝓖 𝓡))
+    (cited 𝓤 H (At 𝓤 H (𝓖 .A) (𝓜 .mem) (𝓡 .run)) 𝓜 𝓡 code.env #thin-film-layers·at at-def.routine code.calls-thin-film-layers·at (at-thm.met 𝓤 H 𝓜 𝓖 𝓡))
+    (cited 𝓤 H (Step 𝓤 H (𝓖 .A) (𝓜 .mem) (𝓡 .run)) 𝓜 𝓡 code.env #thin-film-layers·step step-def.routine code.calls-thin-film-layers·step (step-thm.met 𝓤 H 𝓜 𝓖 𝓡)))

@@ -58,7 +58,7 @@ use Rattle.thin_film_solver.proofs.CoatingResponse as E
 use Rattle.thin_film_solver.proofs.CoatingResponse.Laws as E′
 use Rattle.thin_film_layers.proofs.evaluate_tmm_multilayer as evaluate
 use Rattle.thin_film_layers.proofs.evaluate_tmm_multilayer.Symbol as evaluate-def
-use Rattle.thin_film_layers.proofs.evaluate_tmm_multilayer.Symbol.{name as #evaluation·evaluate-tmm-multilayer}
+use Rattle.thin_film_layers.proofs.evaluate_tmm_multilayer.Symbol.{name as #thin-film-layers·evaluate-tmm-multilayer}
 use Rattle.thin_film_layers.proofs.evaluate_tmm_multilayer.Met as evaluate-thm
 use Rattle.test_layers.proofs.Lent.{to-row, cut, joined, to-room}
 use Rattle.test_layers.proofs.lend.multilayer.Key.{name as #lent-layers·multilayer}
@@ -150,7 +150,7 @@ module _ {M : Type 1} (𝓤 : URA M) (H : Heap 𝓤) (A : Atoms 𝓤) (W : Given
   said : (κ : Lft) (l : ℕ) (γ : GName) (r : CoatingResponse) → ent 𝓤 (ensured 𝓤 H A evaluate.ended (evaluate.clauses 𝓤 H A mem run) (κ, tt) (args l γ) tt r) (fact 𝓤 (Answer r))
   said κ l γ r = exE 𝓤 _ (λ ws. snd∗ 𝓤 (sem 𝓤 H A (lasts evaluate.ended (κ, tt) (args l γ) ws)) (fact 𝓤 (Answer r)))
 
-  module _ (C : Calls 𝓤 H) (Λ : Loops 𝓤 H) (fm : FmC 𝓤 H (W .laws) C) (known : Triple 𝓤 (C #evaluation·evaluate-tmm-multilayer) (Evaluate 𝓤 H A mem run)) where
+  module _ (C : Calls 𝓤 H) (Λ : Loops 𝓤 H) (fm : FmC 𝓤 H (W .laws) C) (known : Triple 𝓤 (C #thin-film-layers·evaluate-tmm-multilayer) (Evaluate 𝓤 H A mem run)) where
     walk : ent 𝓤 (onEntry 𝓤 H A f.signature tt tt x at) (WpFn 𝓤 H C Λ code.function (aval arr ∷ vint w64 n ∷ vf n-incident ∷ vf n-substrate ∷ vf angle ∷ vf wavelength ∷ []) Post)
     walk =
         qed W (‵ ftrue ∷ ‵ (owns (Array L.the-row 72 ∷ usize ∷ f64 ∷ f64 ∷ f64 ∷ f64 ∷ []) x at) ∷ []) ∵ let-go ! $ let-go ! $ enter ! C Λ code.function (aval arr ∷ vint w64 n ∷ vf n-incident ∷ vf n-substrate ∷ vf angle ∷ vf wavelength ∷ []) _ $
@@ -184,12 +184,12 @@ module _ {M : Type 1} (𝓤 : URA M) (H : Heap 𝓤) (A : Atoms 𝓤) (W : Given
         move ! (3 ∷ 4 ∷ []) $ free1 ! $ move ! (1 ∷ 2 ∷ []) $ free1 ! $ free0 ! $ let-go ! $ by ! (exits r u is e)))))))))))))))))
 
 module _ {M : Type 1} (𝓤 : URA M) (H : Heap 𝓤) (A : Atoms 𝓤) (W : Given 𝓤 H A) (mem : Memory → SProp 𝓤) (run : Routine → Fun 𝓤) where
-  walks : (C : Calls 𝓤 H) (Λ : Loops 𝓤 H) → FmC 𝓤 H (W .laws) C → Triple 𝓤 (C #evaluation·evaluate-tmm-multilayer) (Evaluate 𝓤 H A mem run) → Walks 𝓤 H A f.ended stayed (WpFn 𝓤 H C Λ code.function) (f.clauses 𝓤 H A mem run)
+  walks : (C : Calls 𝓤 H) (Λ : Loops 𝓤 H) → FmC 𝓤 H (W .laws) C → Triple 𝓤 (C #thin-film-layers·evaluate-tmm-multilayer) (Evaluate 𝓤 H A mem run) → Walks 𝓤 H A f.ended stayed (WpFn 𝓤 H C Λ code.function) (f.clauses 𝓤 H A mem run)
   walks C Λ fm known = walked 𝓤 H A f.ended stayed (f.clauses 𝓤 H A mem run) (WpFn 𝓤 H C Λ code.function)
       (λ κs. (array-vals lvals, (uint-vals w64, (float-vals binary64, (float-vals binary64, (float-vals binary64, (float-vals binary64, tt))))))) (λ κs. (array-tells L.the-row lvals (LL.tells L.the-type L′.the-laws) 72, (uint-tells w64, (float-tells binary64, (float-tells binary64, (float-tells binary64, (float-tells binary64, tt)))))))
       (λ κs qs bounds a g are. needs 𝓤 (a .1 .0 ≤ 72) _ (λ within. walk 𝓤 H A W mem run (a .0) (a .1 .0) (a .1 .1 .0) (a .1 .1 .1 .0) (a .1 .1 .1 .1 .0) (a .1 .1 .1 .1 .1 .0) (are .0) (are .1 .0 .1) (are .1 .1 .0) (are .1 .1 .1 .0) (are .1 .1 .1 .1 .0) (are .1 .1 .1 .1 .1 .0) within C Λ fm known))
 
-meets : {M : Type 1} (𝓤 : URA M) (H : Heap 𝓤) (A : Atoms 𝓤) (W : Given 𝓤 H A) (mem : Memory → SProp 𝓤) (run : Routine → Fun 𝓤) (𝓣 : Tables 𝓤 H) → Triple 𝓤 (𝓣 .C #evaluation·evaluate-tmm-multilayer) (Evaluate 𝓤 H A mem run)
+meets : {M : Type 1} (𝓤 : URA M) (H : Heap 𝓤) (A : Atoms 𝓤) (W : Given 𝓤 H A) (mem : Memory → SProp 𝓤) (run : Routine → Fun 𝓤) (𝓣 : Tables 𝓤 H) → Triple 𝓤 (𝓣 .C #thin-film-layers·evaluate-tmm-multilayer) (Evaluate 𝓤 H A mem run)
     → Meets 𝓤 H A f.signature (WpFn 𝓤 H (𝓣 .C) (𝓣 .Λ) code.function) (f.spec 𝓤 H A mem run)
 meets 𝓤 H A W mem run 𝓣 known =
     walk-meets 𝓤 H A f.ended stayed W (goes-dropped 𝓤 H A W 0 (arrayOf (plain (λ _. L.the-row)) 72) yes (λ κs x f. refl), (goes-dropped 𝓤 H A W 0 (plain (λ _. usize)) yes (λ κs x f. refl), (goes-dropped 𝓤 H A W 0 (plain (λ _. f64)) yes (λ κs x f. refl), (goes-dropped 𝓤 H A W 0 (plain (λ _. f64)) yes (λ κs x f. refl), (goes-dropped 𝓤 H A W 0 (plain (λ _. f64)) yes (λ κs x f. refl), (goes-dropped 𝓤 H A W 0 (plain (λ _. f64)) yes (λ κs x f. refl), tt))))))
@@ -201,4 +201,4 @@ multilayer-spec 𝓤 H 𝓜 𝓖 𝓡 =
     entered 𝓤 H (tripleOf 𝓤 H (𝓖 .A) f.signature (f.spec 𝓤 H (𝓖 .A) (𝓜 .mem) (𝓡 .run)))
     (tables 𝓤 H 𝓜 𝓡 code.env .C) (tables 𝓤 H 𝓜 𝓡 code.env .Λ) #lent-layers·multilayer code.function (code.unfolded 𝓤 H 𝓜 𝓡)
     (meets 𝓤 H (𝓖 .A) (givenOf 𝓤 H 𝓜 𝓖) (𝓜 .mem) (𝓡 .run) (tablesOf 𝓤 H 𝓜 (tables 𝓤 H 𝓜 𝓡 code.env))
-    (cited 𝓤 H (Evaluate 𝓤 H (𝓖 .A) (𝓜 .mem) (𝓡 .run)) 𝓜 𝓡 code.env #evaluation·evaluate-tmm-multilayer evaluate-def.routine code.calls-evaluation·evaluate-tmm-multilayer (evaluate-thm.met 𝓤 H 𝓜 𝓖 𝓡)))
+    (cited 𝓤 H (Evaluate 𝓤 H (𝓖 .A) (𝓜 .mem) (𝓡 .run)) 𝓜 𝓡 code.env #thin-film-layers·evaluate-tmm-multilayer evaluate-def.routine code.calls-thin-film-layers·evaluate-tmm-multilayer (evaluate-thm.met 𝓤 H 𝓜 𝓖 𝓡)))

@@ -59,17 +59,17 @@ use Rattle.thin_film_layers.proofs.Pending as S
 use Rattle.thin_film_layers.proofs.Pending.Laws as S′
 use Rattle.thin_film_coating.proofs.prepare as prepare
 use Rattle.thin_film_coating.proofs.prepare.Symbol as prepare-def
-use Rattle.thin_film_coating.proofs.prepare.Symbol.{name as #coating·prepare}
+use Rattle.thin_film_coating.proofs.prepare.Symbol.{name as #thin-film-coating·prepare}
 use Rattle.thin_film_coating.proofs.prepare.Met as prepare-thm
 use Rattle.thin_film_layers.proofs.through as through
 use Rattle.thin_film_layers.proofs.through.Symbol as through-def
-use Rattle.thin_film_layers.proofs.through.Symbol.{name as #evaluation·through}
+use Rattle.thin_film_layers.proofs.through.Symbol.{name as #thin-film-layers·through}
 use Rattle.thin_film_layers.proofs.through.Met as through-thm
 use Rattle.thin_film_layers.proofs.conclude as conclude
 use Rattle.thin_film_layers.proofs.conclude.Symbol as conclude-def
-use Rattle.thin_film_layers.proofs.conclude.Symbol.{name as #evaluation·conclude}
+use Rattle.thin_film_layers.proofs.conclude.Symbol.{name as #thin-film-layers·conclude}
 use Rattle.thin_film_layers.proofs.conclude.Met as conclude-thm
-use Rattle.thin_film_coating.proofs.Coating.evaluate.Key.{name as #coating·evaluate}
+use Rattle.thin_film_coating.proofs.Coating.evaluate.Key.{name as #thin-film-coating·evaluate}
 use Rattle.thin_film_coating.proofs.Coating.evaluate as f
 use Rattle.thin_film_coating.proofs.Coating.evaluate.Statement as stated
 use Rattle.thin_film_coating.proofs.Coating.evaluate.Code as code
@@ -139,7 +139,7 @@ module _ {M : Type 1} (𝓤 : URA M) (H : Heap 𝓤) (A : Atoms 𝓤) (W : Given
   prepare-said : (r : Pending) → ent 𝓤 (ensured 𝓤 H A prepare.ended (prepare.clauses 𝓤 H A mem run) tt args tt r) (fact 𝓤 (Prepared r))
   prepare-said r = exE 𝓤 _ (λ ws. snd∗ 𝓤 (sem 𝓤 H A (lasts prepare.ended tt args ws)) (fact 𝓤 (Prepared r)))
 
-  module _ (C : Calls 𝓤 H) (Λ : Loops 𝓤 H) (fm : FmC 𝓤 H (W .laws) C) (known-prepare : Triple 𝓤 (C #coating·prepare) (Prepare 𝓤 H A mem run)) (known-through : Triple 𝓤 (C #evaluation·through) (Through 𝓤 H A mem run)) (known-conclude : Triple 𝓤 (C #evaluation·conclude) (Conclude 𝓤 H A mem run)) where
+  module _ (C : Calls 𝓤 H) (Λ : Loops 𝓤 H) (fm : FmC 𝓤 H (W .laws) C) (known-prepare : Triple 𝓤 (C #thin-film-coating·prepare) (Prepare 𝓤 H A mem run)) (known-through : Triple 𝓤 (C #thin-film-layers·through) (Through 𝓤 H A mem run)) (known-conclude : Triple 𝓤 (C #thin-film-layers·conclude) (Conclude 𝓤 H A mem run)) where
     walk : Is (ShrSlice (named 0) κ L.the-row) s (vₛ ∷ []) → ent 𝓤 (onEntry 𝓤 H A f.signature (κ, tt) (q, tt) x at) (WpFn 𝓤 H C Λ code.function (vc coating ∷ vₛ ∷ vf n-incident ∷ vf n-substrate ∷ vf angle ∷ vf wavelength ∷ []) Post)
     walk p =
         qed W ((‵ (flft κ q) ⊛ ‵ ftrue) ∷ ‵ (owns (T.the-row ∷ ShrSlice (named 0) κ L.the-row ∷ f64 ∷ f64 ∷ f64 ∷ f64 ∷ []) x at) ∷ []) ∵ move ! (1 ∷ []) $ fsplit ! $ drop ! $ fsplit ! $ move ! (1 ∷ []) $ drop ! $
@@ -174,14 +174,14 @@ module _ {M : Type 1} (𝓤 : URA M) (H : Heap 𝓤) (A : Atoms 𝓤) (W : Given
         by ! (exits r u₂ is₂ (ap outcome (e₂ ∙ ap Walk.conclude e₁) ∙ prepared n-incident n-substrate angle wavelength false (s .now) coating n a e refl ∙ ap (λ (ls : List ThinFilmLayer). evaluate-coating coating ls n-incident n-substrate angle wavelength) (front (s .now))))))))))))))))))))))))))
 
 module _ {M : Type 1} (𝓤 : URA M) (H : Heap 𝓤) (A : Atoms 𝓤) (W : Given 𝓤 H A) (mem : Memory → SProp 𝓤) (run : Routine → Fun 𝓤) where
-  walks : (C : Calls 𝓤 H) (Λ : Loops 𝓤 H) → FmC 𝓤 H (W .laws) C → Triple 𝓤 (C #coating·prepare) (Prepare 𝓤 H A mem run) → Triple 𝓤 (C #evaluation·through) (Through 𝓤 H A mem run) → Triple 𝓤 (C #evaluation·conclude) (Conclude 𝓤 H A mem run)
+  walks : (C : Calls 𝓤 H) (Λ : Loops 𝓤 H) → FmC 𝓤 H (W .laws) C → Triple 𝓤 (C #thin-film-coating·prepare) (Prepare 𝓤 H A mem run) → Triple 𝓤 (C #thin-film-layers·through) (Through 𝓤 H A mem run) → Triple 𝓤 (C #thin-film-layers·conclude) (Conclude 𝓤 H A mem run)
       → Walks 𝓤 H A f.ended stayed (WpFn 𝓤 H C Λ code.function) (f.clauses 𝓤 H A mem run)
   walks C Λ fm known-prepare known-through known-conclude = walked 𝓤 H A f.ended stayed (f.clauses 𝓤 H A mem run) (WpFn 𝓤 H C Λ code.function)
       (λ κs. (EL.vals T.the-type T′.the-laws, (slice-vals, (float-vals binary64, (float-vals binary64, (float-vals binary64, (float-vals binary64, tt))))))) (λ κs. (EL.tells T.the-type T′.the-laws, (shr-slice-tells (named 0) (κs .0) L.the-row, (float-tells binary64, (float-tells binary64, (float-tells binary64, (float-tells binary64, tt)))))))
       (λ κs qs bounds a g are. via 𝓤 _ (fst∗ 𝓤 _ (emp 𝓤)) (walk 𝓤 H A W mem run (κs .0) (qs .0) (a .0) (a .1 .0) (a .1 .1 .0) (a .1 .1 .1 .0) (a .1 .1 .1 .1 .0) (a .1 .1 .1 .1 .1 .0) (are .0) (are .1 .1 .0) (are .1 .1 .1 .0) (are .1 .1 .1 .1 .0) (are .1 .1 .1 .1 .1 .0) (are .1 .0 .0 .1 .0) C Λ fm known-prepare known-through known-conclude (are .1 .0)))
 
 meets : {M : Type 1} (𝓤 : URA M) (H : Heap 𝓤) (A : Atoms 𝓤) (W : Given 𝓤 H A) (mem : Memory → SProp 𝓤) (run : Routine → Fun 𝓤) (𝓣 : Tables 𝓤 H)
-    → Triple 𝓤 (𝓣 .C #coating·prepare) (Prepare 𝓤 H A mem run) → Triple 𝓤 (𝓣 .C #evaluation·through) (Through 𝓤 H A mem run) → Triple 𝓤 (𝓣 .C #evaluation·conclude) (Conclude 𝓤 H A mem run)
+    → Triple 𝓤 (𝓣 .C #thin-film-coating·prepare) (Prepare 𝓤 H A mem run) → Triple 𝓤 (𝓣 .C #thin-film-layers·through) (Through 𝓤 H A mem run) → Triple 𝓤 (𝓣 .C #thin-film-layers·conclude) (Conclude 𝓤 H A mem run)
     → Meets 𝓤 H A f.signature (WpFn 𝓤 H (𝓣 .C) (𝓣 .Λ) code.function) (f.spec 𝓤 H A mem run)
 meets 𝓤 H A W mem run 𝓣 known-prepare known-through known-conclude =
     walk-meets 𝓤 H A f.ended stayed W (goes-dropped 𝓤 H A W 1 (plain (λ _. T.the-row)) yes (λ κs x f. refl), (goes-dropped 𝓤 H A W 1 (shrSliceOf (0 ∷ []) tt (plain (λ _. L.the-row))) yes (λ κs x f. refl), (goes-dropped 𝓤 H A W 1 (plain (λ _. f64)) yes (λ κs x f. refl), (goes-dropped 𝓤 H A W 1 (plain (λ _. f64)) yes (λ κs x f. refl), (goes-dropped 𝓤 H A W 1 (plain (λ _. f64)) yes (λ κs x f. refl), (goes-dropped 𝓤 H A W 1 (plain (λ _. f64)) yes (λ κs x f. refl), tt))))))
@@ -191,8 +191,8 @@ pub evaluate-spec : {M : Type 1} → stated.statement M
 unfolding code.routine tablesOf
 evaluate-spec 𝓤 H 𝓜 𝓖 𝓡 =
     entered 𝓤 H (tripleOf 𝓤 H (𝓖 .A) f.signature (f.spec 𝓤 H (𝓖 .A) (𝓜 .mem) (𝓡 .run)))
-    (tables 𝓤 H 𝓜 𝓡 code.env .C) (tables 𝓤 H 𝓜 𝓡 code.env .Λ) #coating·evaluate code.function (code.unfolded 𝓤 H 𝓜 𝓡)
+    (tables 𝓤 H 𝓜 𝓡 code.env .C) (tables 𝓤 H 𝓜 𝓡 code.env .Λ) #thin-film-coating·evaluate code.function (code.unfolded 𝓤 H 𝓜 𝓡)
     (meets 𝓤 H (𝓖 .A) (givenOf 𝓤 H 𝓜 𝓖) (𝓜 .mem) (𝓡 .run) (tablesOf 𝓤 H 𝓜 (tables 𝓤 H 𝓜 𝓡 code.env))
-    (cited 𝓤 H (Prepare 𝓤 H (𝓖 .A) (𝓜 .mem) (𝓡 .run)) 𝓜 𝓡 code.env #coating·prepare prepare-def.routine code.calls-coating·prepare (prepare-thm.met 𝓤 H 𝓜 𝓖 𝓡))
-    (cited 𝓤 H (Through 𝓤 H (𝓖 .A) (𝓜 .mem) (𝓡 .run)) 𝓜 𝓡 code.env #evaluation·through through-def.routine code.calls-evaluation·through (through-thm.met 𝓤 H 𝓜 𝓖 𝓡))
-    (cited 𝓤 H (Conclude 𝓤 H (𝓖 .A) (𝓜 .mem) (𝓡 .run)) 𝓜 𝓡 code.env #evaluation·conclude conclude-def.routine code.calls-evaluation·conclude (conclude-thm.met 𝓤 H 𝓜 𝓖 𝓡)))
+    (cited 𝓤 H (Prepare 𝓤 H (𝓖 .A) (𝓜 .mem) (𝓡 .run)) 𝓜 𝓡 code.env #thin-film-coating·prepare prepare-def.routine code.calls-thin-film-coating·prepare (prepare-thm.met 𝓤 H 𝓜 𝓖 𝓡))
+    (cited 𝓤 H (Through 𝓤 H (𝓖 .A) (𝓜 .mem) (𝓡 .run)) 𝓜 𝓡 code.env #thin-film-layers·through through-def.routine code.calls-thin-film-layers·through (through-thm.met 𝓤 H 𝓜 𝓖 𝓡))
+    (cited 𝓤 H (Conclude 𝓤 H (𝓖 .A) (𝓜 .mem) (𝓡 .run)) 𝓜 𝓡 code.env #thin-film-layers·conclude conclude-def.routine code.calls-thin-film-layers·conclude (conclude-thm.met 𝓤 H 𝓜 𝓖 𝓡)))
