@@ -1,6 +1,7 @@
 // The train through the static library `dihkelu`: gate, start, step, whole run and answers, held against `sheet` and
 // `train`, with what a refusal leaves in the lent list.
 
+use crate::progress::Progress;
 use crate::record::bits;
 use crate::reference::thin_film::CoatingResponse;
 use crate::sheet::{gate, Refusal};
@@ -149,13 +150,15 @@ fn answers_agree(bytes: &[u8], surface: u32, room: usize) -> bool {
     left(returned, number, &list, &written)
 }
 
-/// Every call on one sheet: calls made, and the name of the first that differs.
-fn sheet_agrees(bytes: &[u8], rng: &mut Rng) -> (u64, Option<&'static str>) {
+/// Every call on one sheet: calls made, and the name of the first that differs. Where it is `spoiled`, what is expected
+/// of the gate is wrong.
+fn sheet_agrees(bytes: &[u8], rng: &mut Rng, spoiled: bool) -> (u64, Option<&'static str>) {
     let gated = gate(bytes);
     let count = gated.as_ref().map_or(0, |sheet| sheet.surfaces.len());
     let counted = gated.as_ref().map(|sheet| sheet.surfaces.len() as u64);
     let mut calls = 1;
-    if linked_gate(bytes) != counted.map_or_else(|r| packed(*r), |n| n) {
+    let number = counted.map_or_else(|r| packed(*r), |n| n);
+    if linked_gate(bytes) != number ^ u64::from(spoiled) {
         return (calls, Some("gate"));
     }
     for room in [0, 1, 2, 3] {
@@ -221,13 +224,15 @@ fn sheet_agrees(bytes: &[u8], rng: &mut Rng) -> (u64, Option<&'static str>) {
 }
 
 /// Holds the exports against the Rust on `count` random sheets, valid and damaged. Returns calls and sheets that differ.
-pub fn compare_trains(seed: u64, count: u64) -> (u64, u64) {
+pub fn compare_trains(seed: u64, count: u64, spoiled: Option<u64>) -> (u64, u64) {
     let mut rng = Rng::new(seed);
+    let mut progress = Progress::new("sheets", count);
     let (mut calls, mut different) = (0, 0);
-    for _ in 0..count {
+    for number in 0..count {
         let bytes = sheet(&mut rng);
-        let (made, first) = sheet_agrees(&bytes, &mut rng);
+        let (made, first) = sheet_agrees(&bytes, &mut rng, spoiled == Some(number));
         calls += made;
+        progress.step();
         if let Some(name) = first {
             if different == 0 {
                 println!("{name}: sheet {bytes:02X?}");

@@ -12,6 +12,7 @@ pub mod feed;
 pub mod findings;
 pub mod functions;
 pub mod measure;
+pub mod progress;
 pub mod proved;
 pub mod record;
 pub mod section2;

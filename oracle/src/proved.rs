@@ -135,16 +135,18 @@ fn evaluations() -> Vec<Option<Work>> {
 
 /// Holds `dihkelu_evaluate` against `SurfaceCoating::evaluate` on `count` calls. Returns how many differ.
 #[cfg(feature = "proved")]
-fn compare_evaluate(seed: u64, count: u64) -> u64 {
+fn compare_evaluate(seed: u64, count: u64, spoiled: Option<u64>) -> u64 {
     use crate::arguments::random;
+    use crate::progress::Progress;
     use crate::record::bits;
     use crate::values::Rng;
 
     let table = crate::functions::table();
     let function = table.iter().find(|f| f.number == 70).expect("evaluate");
     let mut rng = Rng::new(seed);
+    let mut progress = Progress::new("evaluate", count);
     let mut different = 0;
-    for _ in 0..count {
+    for made in 0..count {
         let words = random(function.args, &mut rng);
         let float = |i: usize| f64::from_bits(words[i]);
         let flat: Vec<f64> = (7..words.len()).map(float).collect();
@@ -156,19 +158,29 @@ fn compare_evaluate(seed: u64, count: u64) -> u64 {
             0 => ours.extend(list.iter().map(|x| bits(*x))),
             _ => ours.push(returned & 0xFFFF_FFFF),
         }
-        let theirs = function.record(words.clone()).results;
+        let mut theirs = function.record(words.clone()).results;
+        theirs[0] ^= u64::from(spoiled == Some(made));
         if ours != theirs || (ours[0] == 0 && returned != 14) {
             if different == 0 {
                 println!("evaluate: arguments {words:X?}, Rust {theirs:X?}, proved {ours:X?}");
             }
             different += 1;
         }
+        progress.step();
     }
     different
 }
 
-/// Holds the library against section 2 on `count` arguments for each function. Returns whether all agree.
-pub fn compare(seed: u64, count: u64) -> Option<bool> {
+/// Prints how many agree. Returns whether all do, and there are some.
+fn agree(name: &str, count: u64, different: u64, what: &str) -> bool {
+    println!("{name}: {} of {count}{what} agree", count - different);
+    count > 0 && different == 0
+}
+
+/// Holds the library against section 2 on `count` arguments for each function, against `SurfaceCoating::evaluate` on
+/// as many, and against the train on a tenth as many sheets. Returns whether all agree. What is expected of call
+/// number `spoiled` of each is wrong, so that the comparison can be tried itself.
+pub fn compare(seed: u64, count: u64, spoiled: Option<u64>) -> Option<bool> {
     use crate::arguments::{random, Arg};
     use crate::record::bits;
     use crate::values::Rng;
@@ -188,37 +200,36 @@ pub fn compare(seed: u64, count: u64) -> Option<bool> {
     for (i, name) in NAMES.iter().enumerate() {
         let mut rng = Rng::new(seed);
         let mut different = 0_u64;
-        for _ in 0..count {
+        for made in 0..count {
             let words = random(arguments[i], &mut rng);
             let first = f64::from_bits(words[0]);
             let second = f64::from_bits(words.get(1).copied().unwrap_or(0));
-            let (ours, theirs) = (reference[i](first, second), proved[i](first, second));
-            if bits(ours) != bits(theirs) {
+            let theirs = bits(reference[i](first, second)) ^ u64::from(spoiled == Some(made));
+            let ours = bits(proved[i](first, second));
+            if ours != theirs {
                 if different == 0 {
                     println!(
-                        "{name}: arguments {words:X?}, section 2 {:016X}, proved {:016X}",
-                        bits(ours),
-                        bits(theirs)
+                        "{name}: arguments {words:X?}, section 2 {theirs:016X}, proved {ours:016X}"
                     );
                 }
                 different += 1;
             }
         }
-        println!("{name}: {} of {count} agree", count - different);
-        all_agree &= different == 0;
+        all_agree &= agree(name, count, different, "");
     }
     #[cfg(feature = "proved")]
     {
-        let different = compare_evaluate(seed, count);
-        println!("evaluate: {} of {count} agree", count - different);
-        all_agree &= different == 0;
-        let (calls, different) = crate::exports::compare_trains(seed, count / 10);
-        println!(
-            "gate, start, step, run, answers: {} of {} sheets agree, {calls} calls",
-            count / 10 - different,
-            count / 10
+        let different = compare_evaluate(seed, count, spoiled);
+        all_agree &= agree("evaluate", count, different, "");
+        let sheets = (count / 10).max(count.min(1));
+        let (calls, different) = crate::exports::compare_trains(seed, sheets, spoiled);
+        all_agree &= agree(
+            "gate, start, step, run, answers",
+            sheets,
+            different,
+            " sheets",
         );
-        all_agree &= different == 0;
+        println!("  in {calls} calls");
     }
     Some(all_agree)
 }
