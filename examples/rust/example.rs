@@ -42,16 +42,24 @@ struct Refusal {
     place: u32,
 }
 
+/// What a call returned, taken apart: the refusal's number is the high half, so all 64 bits are looked at.
 fn outcome(returned: u64) -> Result<u32, Refusal> {
-    let (number, value) = ((returned >> 32) as u32, returned as u32);
-    if number == 0 {
-        Ok(value)
-    } else {
-        Err(Refusal {
-            number,
-            place: value,
-        })
+    let (number, low) = ((returned >> 32) as u32, returned as u32);
+    match number {
+        0 => Ok(low),
+        _ => Err(Refusal { number, place: low }),
     }
+}
+
+/// Whether subnormals are kept and rounding is to nearest, as dihkelu_environment_ok of the header finds out. A Rust
+/// program starts so; a C library that it loads may have changed it.
+fn environment_ok() -> bool {
+    let seen = std::hint::black_box::<f64>;
+    let (one, tie) = (seen(1.0), seen(f64::EPSILON / 2.0));
+    let subnormal = seen(seen(f64::MIN_POSITIVE) * seen(0.5));
+    let found = [subnormal, subnormal + subnormal, one + tie, seen(-1.0) - tie, one + 3.0 * tie];
+    let wanted = [1 << 51, 1 << 52, 0x3FF << 52, 0xBFF << 52, (0x3FF << 52) + 2];
+    found.map(|x| seen(x).to_bits()) == wanted
 }
 
 // The slices are valid and, the list being exclusive, overlap nothing: that is all the calls ask.
@@ -102,6 +110,7 @@ fn main() -> Result<(), Refusal> {
         0x10000001, 0x20000000, 0x407F4000, 0x00000000, 0x3FE00000, 0x00000000, 0x3FE00000, 0x00000000,
         0x30000000, 0x3FF00000, 0x00000000, 0x40080000, 0x00000000, 0x00000000, 0x00000000, 0x50000001,
     ];
+    assert!(environment_ok(), "subnormals are flushed, or rounding is not to nearest");
     let mut sheet: Vec<u8> = words.iter().flat_map(|w| w.to_be_bytes()).collect();
 
     let surfaces = gate(&sheet)?;
@@ -132,7 +141,7 @@ fn main() -> Result<(), Refusal> {
 
     sheet[0] = 0;
     if let Err(refusal) = gate(&sheet) {
-        println!("refused {} {}", refusal.number, refusal.place);
+        println!("gate: refused {} {}", refusal.number, refusal.place);
     }
     Ok(())
 }
