@@ -287,6 +287,39 @@ class Hints(unittest.TestCase):
         self.assertEqual(self.hints(self.PLATE.format("1.5", "30")), "-: hint: surface 2 (line 3) is at 30.00 deg; in a plate with parallel faces it is at 19.47 deg\n")
 
 
+class Documented(unittest.TestCase):
+    """What docs/SHEETS.md says of designs and angles."""
+
+    @staticmethod
+    def lost(surface, wavelength):
+        _, out, _ = losses(f"beam {wavelength} nm s 0.5 p 0.5\n{surface}\n")
+        return out.decode().split(" % lost")[0].split("whole train: ")[1]
+
+    def test_designs_are_for_550_nm(self):
+        mirror = "surface mirror reflected from 1 to 1.52 at 45 deg"
+        self.assertEqual([self.lost(mirror, wavelength) for wavelength in (550, 1064)], ["1.5420", "93.0329"])
+        self.assertEqual(self.lost("surface broadband-ar transmitted from 1 to 1.52 at 0 deg", 1064), "16.4585")
+        self.assertEqual(self.lost("surface bare transmitted from 1 to 1.52 at 0 deg", 1064), "4.2580")
+
+    def test_a_window_in_air_ends_at_61_degrees(self):
+        for outside, status in [(61, 0), (61.1, 1)]:
+            inside = math.degrees(math.asin(math.sin(math.radians(outside)) / 1.52))
+            faces = f"surface bare transmitted from 1 to 1.52 at {outside} deg\nsurface bare transmitted from 1.52 to 1 at {inside!r} deg\n"
+            found, _, said = losses(BEAM + faces)
+            self.assertEqual((found, "refused 6 15: surface 2" in said), (status, status == 1))
+        self.assertEqual(losses(BEAM + "surface bare transmitted from 1 to 1.52 at 75 deg\n")[0], 0)
+
+    def test_layers_from_the_lower_index(self):
+        layers = ["layer 1.38 thickness 99 nm\n", "layer 2.3 thickness 60 nm\n"]
+        into, out_of = "surface custom transmitted from 1 to 1.52 at 0 deg\n", "surface custom transmitted from 1.52 to 1 at 0 deg\n"
+        both = [losses(BEAM + way + "".join(layers))[1].decode().splitlines()[-1] for way in (into, out_of)]
+        self.assertEqual(both[0], both[1])
+        self.assertNotEqual(both[0], losses(BEAM + into + "".join(reversed(layers)))[1].decode().splitlines()[-1])
+
+    def test_the_most_layers_and_surfaces(self):
+        self.assertEqual(losses(BEAM + 64 * (CUSTOM + 16 * LAYER))[0], 0)
+
+
 class Commands(unittest.TestCase):
     def test_help_and_version(self):
         for words, start in [(["--help"], b"usage: "), (["-h"], b"usage: "), (["losses", "--help"], b"usage: "), (["--version"], b"sheet.py 1.")]:
