@@ -5,6 +5,9 @@
 pub mod arguments;
 pub mod bench;
 pub mod cases;
+#[cfg(feature = "proved")]
+#[path = "../../include/dihkelu.rs"]
+pub mod dihkelu;
 pub mod examples;
 #[cfg(feature = "proved")]
 pub mod exports;

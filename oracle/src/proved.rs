@@ -18,39 +18,6 @@ mod linked {
         fn dihkelu_atan(x: f64) -> f64;
         fn dihkelu_asin(x: f64) -> f64;
         fn dihkelu_atan2(y: f64, x: f64) -> f64;
-        fn dihkelu_evaluate(
-            code: u32,
-            design_wavelength_nm: f64,
-            n_incident: f64,
-            n_substrate: f64,
-            angle_incident_rad: f64,
-            wavelength_nm: f64,
-            layers: *const f64,
-            layers_count: usize,
-            list: *mut f64,
-            list_count: usize,
-        ) -> u64;
-    }
-
-    /// `at` is n_incident, n_substrate, angle, wavelength.
-    pub fn evaluate(code: u32, design: f64, at: [f64; 4], flat: &[f64], list: &mut [f64]) -> u64 {
-        let [n_incident, n_substrate, angle, wavelength] = at;
-        let (layers, list_at) = (flat.as_ptr(), list.as_mut_ptr());
-        // Both lists live for the call and do not overlap: one is borrowed mutably.
-        unsafe {
-            dihkelu_evaluate(
-                code,
-                design,
-                n_incident,
-                n_substrate,
-                angle,
-                wavelength,
-                layers,
-                flat.len(),
-                list_at,
-                list.len(),
-            )
-        }
     }
 
     // These take and return plain numbers and touch no memory.
@@ -76,7 +43,7 @@ pub fn scalars() -> Option<Scalars> {
 }
 
 #[cfg(feature = "proved")]
-pub use linked::evaluate;
+use crate::exports::linked_evaluate;
 
 /// The proved workloads, in the order of `bench::WORKS`; a bare surface alone is not exported.
 pub fn works() -> Option<Vec<Option<Work>>> {
@@ -96,7 +63,7 @@ fn evaluations() -> Vec<Option<Work>> {
             let mut list = [0.0; 14];
             let transmitted = |at: &crate::bench::Place| {
                 let at = [at.n_incident, at.n_substrate, at.angle, at.wavelength];
-                evaluate(code, 550.0, at, &flat, &mut list);
+                linked_evaluate(code, 550.0, at, &flat, &mut list);
                 list[10]
             };
             places.iter().map(transmitted).sum()
@@ -152,7 +119,7 @@ fn compare_evaluate(seed: u64, count: u64, spoiled: Option<u64>) -> u64 {
         let flat: Vec<f64> = (7..words.len()).map(float).collect();
         let at = [float(2), float(3), float(4), float(5)];
         let mut list = [0.0; 14];
-        let returned = evaluate(words[0] as u32, float(1), at, &flat, &mut list);
+        let returned = linked_evaluate(words[0] as u32, float(1), at, &flat, &mut list);
         let mut ours = vec![returned >> 32];
         match returned >> 32 {
             0 => ours.extend(list.iter().map(|x| bits(*x))),
