@@ -1,9 +1,7 @@
 // `oracle measure`: random surfaces within section 3's limits, and what their evaluation comes to.
 
 use crate::record::numbers;
-use crate::reference::thin_film::{
-    evaluate_tmm_multilayer, CoatingResponse, Complex, ThinFilmLayer,
-};
+use crate::reference::thin_film::{evaluate_tmm_multilayer, Complex, ThinFilmLayer};
 use crate::section2::{abs, asin, sin, sqrt, PI, T};
 use crate::sheet::{limits, preset_layers, Sheet, Surface};
 use crate::traced::{bare, solve, Count, Of, Seen};
