@@ -102,6 +102,55 @@ class Compare(unittest.TestCase):
             self.assertEqual(run("tools/compare", *words)[0], 1)
 
 
+class Spoiled(Folder):
+    """A stored output or the header is another: the test that looks at it must fail. The rest is the repository's own."""
+
+    def setUp(self):
+        super().setUp()
+        shutil.rmtree(self.folder / "crates")
+        for name in ["crates", "crates.txt", "target"]:
+            (self.folder / name).symlink_to(ROOT / name)
+        for name in ["examples", "include", "tests"]:
+            shutil.copytree(ROOT / name, self.folder / name)
+
+    def spoil(self, name, old, new):
+        text = (self.folder / name).read_text()
+        self.assertIn(old, text)
+        (self.folder / name).write_text(text.replace(old, new, 1))
+
+    def fails(self, tool, said):
+        status, out, error = run(self.folder / "tools" / tool, cwd=self.folder)
+        self.assertEqual((status, said in out + error), (1, True), out + error)
+
+    def test_sheets(self):
+        self.spoil("examples/example.out", "3FE8", "3FE9")
+        self.fails("test_train", "1 failed")
+
+    def test_examples(self):
+        for language in ["c", "rust"]:
+            kept = (self.folder / "examples" / language / "example.out").read_text()
+            self.spoil(f"examples/{language}/example.out", "sum 3FE8", "sum 3FE9")
+            self.fails("examples", f"the example in {language} printed something else")
+            (self.folder / "examples" / language / "example.out").write_text(kept)
+
+    def test_hostile_input(self):
+        self.spoil("include/dihkelu.h", "#define DIHKELU_BARE 53", "#define DIHKELU_BARE 54")
+        self.fails("hostile", "a count that its first number denies")
+
+    def test_header(self):
+        kept = (self.folder / "include/dihkelu.h").read_text()
+        for old, new, said in [
+            ("__attribute__((warn_unused_result))", "", "no warning: a result that is thrown away"),
+            ("0x3FF0000000000002u", "0x3FF0000000000001u", "tests/header.c fails"),
+            ("0x0008000000000000u", "0x0000000000000000u", "tests/header.c fails"),
+            ("(uint32_t)(returned >> 32)", "(uint32_t)returned", "tests/header.c fails"),
+        ]:
+            with self.subTest(old):
+                self.spoil("include/dihkelu.h", old, new)
+                self.fails("test_header", said)
+                (self.folder / "include/dihkelu.h").write_text(kept)
+
+
 class Stale(unittest.TestCase):
     def test_a_library_of_other_code(self):
         """A library whose stamp is another than its crate's is written anew, one that is as it should be is left alone."""
