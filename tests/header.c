@@ -20,13 +20,19 @@ static size_t put(uint8_t *bytes, size_t at, uint32_t word) {
     return at + 4;
 }
 
-/* A beam of 500 nm whose s power has these bits, and no surface. */
-static uint64_t gate_of(uint64_t s) {
-    uint8_t sheet[36];
-    const uint32_t words[] = {0x10000001, 0x20000000, 0x407F4000, 0, (uint32_t)(s >> 32), (uint32_t)(s & 0xFFFFFFFFu), 0, 0, 0x50000000};
-    size_t size = 0;
-    for (size_t i = 0; i < 9; i++) size = put(sheet, size, words[i]);
-    return dihkelu_gate(sheet, size);
+static size_t put_bits(uint8_t *bytes, size_t at, uint64_t bits) {
+    return put(bytes, put(bytes, at, (uint32_t)(bits >> 32)), (uint32_t)(bits & 0xFFFFFFFFu));
+}
+
+/* A beam of 500 nm whose s power has these bits, and a surface from 1 to 1.5 with one layer whose k has those. */
+static uint64_t gate_of(uint64_t s, uint64_t k) {
+    const uint64_t one = 0x3FF0000000000000u, index = 0x3FF8000000000000u;
+    uint8_t sheet[100];
+    size_t size = put_bits(sheet, put(sheet, put(sheet, 0, 0x10000001), 0x20000000), 0x407F400000000000u);
+    size = put_bits(sheet, put_bits(sheet, size, s), 0);
+    size = put_bits(sheet, put_bits(sheet, put_bits(sheet, put(sheet, size, 0x3000000A), one), index), 0);
+    size = put_bits(sheet, put_bits(sheet, put_bits(sheet, put(sheet, size, 0x40000000), index), k), 0);
+    return dihkelu_gate(sheet, put(sheet, size, 0x50000001));
 }
 
 static int apart(void) {
@@ -41,9 +47,11 @@ static int apart(void) {
 static int environment(void) {
     static const int modes[] = {FE_UPWARD, FE_DOWNWARD, FE_TOWARDZERO};
     const unsigned flush_results = 0x8000, operands_are_zeros = 0x0040, usual = _mm_getcsr();
-    const uint64_t least_below_zero = 0x8000000000000001u;
+    const uint64_t least = 1, least_below_zero = 0x8000000000000001u;
     EXPECT(dihkelu_environment_ok());
-    EXPECT(gate_of(least_below_zero) == (6ull << 32) + 1);
+    EXPECT(gate_of(0, 0) == 1);
+    EXPECT(gate_of(least_below_zero, 0) == (6ull << 32) + 1);
+    EXPECT(gate_of(0, least) == (6ull << 32) + 15);
     for (int i = 0; i < 3; i++) {
         EXPECT(fesetround(modes[i]) == 0);
         EXPECT(!dihkelu_environment_ok());
@@ -54,7 +62,7 @@ static int environment(void) {
     EXPECT(!dihkelu_environment_ok());
     _mm_setcsr(usual | operands_are_zeros);
     EXPECT(!dihkelu_environment_ok());
-    EXPECT(gate_of(least_below_zero) == 0); /* admitted: a power below zero */
+    EXPECT(gate_of(least_below_zero, least) == 1); /* admitted: a power below zero, a layer that absorbs */
     _mm_setcsr(usual);
     EXPECT(dihkelu_environment_ok());
     return 0;

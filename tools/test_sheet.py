@@ -348,7 +348,7 @@ def main():
         return 1
     # nothing stale: what has changed since it was built is proved and built
     if not given.program and default[-2:] == [str(ROOT / "tools" / "run"), "train"]:
-        if subprocess.run(["bash", "-c", "set -euo pipefail; . tools/lib.sh; proved train"], cwd=ROOT, check=False).returncode:
+        if subprocess.run(["bash", "-c", "set -euo pipefail; . tools/lib.sh; proved train", "tools/test_sheet.py"], cwd=ROOT, check=False).returncode:
             return 1
     print(f"program: {PROGRAM}")
     return 0 if unittest.main(argv=[sys.argv[0], *rest], exit=False).result.wasSuccessful() else 1
