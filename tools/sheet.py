@@ -317,12 +317,11 @@ def hints(sheet):
         where = f"surface {count}" + (f" (line {two['line']})" if two["line"] else "")
         if two["floats"][0] != inside:
             said.append(f"{where} begins in index {written(two['floats'][0])}; the light comes in index {written(inside)}")
-        elif n1 > n0 and not one["reflected"] and two["floats"][1] < inside:
-            bent = n0 * math.sin(angle) / n1
-            found = two["floats"][2]
-            if math.isfinite(found) and abs(bent) <= 1 and abs(abs(math.asin(bent)) - abs(found)) > math.radians(0.5):
-                expected = abs(math.degrees(math.asin(bent)))
-                said.append(f"{where} is at {math.degrees(found):.2f} deg; in a plate with parallel faces it is at {expected:.2f} deg")
+        elif n1 > n0 > 0 and math.isfinite(angle) and not one["reflected"] and two["floats"][1] < inside:
+            expected = abs(math.degrees(math.asin(n0 * math.sin(angle) / n1)))
+            found = math.degrees(two["floats"][2])
+            if abs(expected - abs(found)) > 0.5:
+                said.append(f"{where} is at {found:.2f} deg; in a plate with parallel faces it is at {expected:.2f} deg")
     return said
 
 

@@ -216,7 +216,7 @@ class Files(unittest.TestCase):
 
     def test_closed_ends(self):
         words = shlex.join(TOOL)
-        for command in [f"{words} write {EXAMPLES / 'window.txt'} >&-", f"{words} write - <&-"]:
+        for command in [f"{words} write {shlex.quote(str(EXAMPLES / 'window.txt'))} >&-", f"{words} write - <&-"]:
             done = subprocess.run(["sh", "-c", command], capture_output=True, check=False)
             self.assertEqual((done.returncode, b"is closed" in done.stderr, b"Traceback" in done.stderr), (1, True, False), done.stderr)
 
@@ -263,6 +263,27 @@ class Texts(unittest.TestCase):
     def test_other_digits(self):
         for digits in ["\u0665\u0660\u0660", "\uff15\uff10\uff10", "5\u0660\u0660", "1_000", "nan", "inf", "0x1p3", "5,5"]:
             self.wrong(f"beam {digits} nm s 0.5 p 0.5\n", f"line 1: '{digits}' is no number")
+
+
+class Numbers(unittest.TestCase):
+    def test_any_number_anywhere(self):
+        """Written, shown and written again: the same bytes. The gate judges; nothing is a traceback."""
+        usual = ["500", "0.5", "0.5", "1", "1.5", "0.3", "1.5", "1", "0.2", "1.38", "99", "0"]
+        form = "beam {} nm s {} p {}\nsurface bare transmitted from {} to {} at {} rad\nsurface custom transmitted from {} to {} at {} rad\nlayer {} thickness {} nm k {}\n"
+        special = ["-0", "1e999", "0xFFF4000000000001", "4.9e-324", "-1"]
+        for place in range(len(usual)):
+            for number in special:
+                with self.subTest(place=place, number=number):
+                    text = form.format(*(usual[:place] + [number] + usual[place + 1:]))
+                    status, sheet, said = tool("write", "-", given=text)
+                    self.assertEqual((status, len(sheet), "Traceback" in said), (0, 120, False), said)
+        status, shown, said = tool("show", "-", given=sheet)
+        self.assertEqual((status, tool("write", "-", given=shown)[1]), (0, sheet))
+        text = form.format(*["0xFFF4000000000001"] * len(usual))
+        sheet = tool("write", "-", given=text)[1]
+        self.assertEqual(tool("write", "-", given=tool("show", "-", given=sheet)[1])[1], sheet)
+        status, _, said = losses(text)
+        self.assertEqual((status, said.startswith("-: refused 6 1: the beam (line 1)"), "Traceback" in said), (1, True, False), said)
 
 
 class Hints(unittest.TestCase):

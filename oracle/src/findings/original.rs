@@ -93,6 +93,11 @@ fn powers() -> Vec<Finding> {
     let wide = [2.0, -1.0].map(|angle| films(&[]).evaluate(1.0, 1.5, angle, 550.0).is_ok());
     let beyond = format!("{:.2}, {}", steep.rs.re, steep.reflectance_s);
     let in_phase = format!("{:.4}", (split.rs + split.ts).norm_sq());
+    let film = Coating::quarter_wave_ar(1.0, 1.5, 550.0);
+    let through = [SurfaceCoating::IdealAr, SurfaceCoating::Custom(film)]
+        .map(|coating| answer(coating, at))
+        .map(|r| format!("{:.4}, {:.4}", r.ts.norm_sq(), r.transmittance_s));
+    let [ideal_ar, quarter_wave] = through;
     vec![
         finding("the mirror's label", label, "Mirror (99.9%)"),
         finding(
@@ -113,6 +118,12 @@ fn powers() -> Vec<Finding> {
         ),
         finding("R of the beamsplitter", split.reflectance_s, "0.5"),
         finding("|r + t|² of the beamsplitter", in_phase, "2.0000"),
+        finding("|ts|², T of IdealAr, 1 to 1.5", ideal_ar, "1.0000, 1.0000"),
+        finding(
+            "|ts|², T of quarter_wave_ar, 1 to 1.5",
+            quarter_wave,
+            "0.6667, 1.0000",
+        ),
         finding("rs, R_s, 1 to 1.5 at 2", beyond, "-2.07, 1"),
         finding(
             "evaluate at 2 and at -1 is Ok",
