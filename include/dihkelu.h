@@ -51,8 +51,8 @@
  *   - under total reflection, which no sheet within the limits has, the phases are conjugate.
  * Multiply Jones matrices of both kinds only after you have made them agree. Powers are not concerned.
  * NEITHER MUELLER MATRIX OF THE TRANSMITTED LIGHT carries n_substrate·cos_t / (n_incident·cos_i): its entry [0][0] is no
- * share of the power. Take T_s and T_p for that. The fourth column of a Mueller matrix is the response to the Rust's
- * circular_right, (1, -i)/sqrt(2), whose S3 is negative.
+ * share of the power. (The ideal coatings alone have T = |t|^2.) Take T_s and T_p for that. The fourth column of a Mueller
+ * matrix is the response to the Rust's circular_right, (1, -i)/sqrt(2), whose S3 is negative.
  */
 #ifndef DIHKELU_H
 #define DIHKELU_H
