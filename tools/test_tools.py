@@ -181,7 +181,7 @@ staticlib) [ -z "$BROKEN" ] || exit 1; mkdir -p target/staticlib; echo 1 > targe
 esac
 """
 
-    def everything(self, *words, last="12 passed, 0 failed", status=0, failing=None):
+    def everything(self, *words, last="12 passed, 0 failed", status=0, failing=None, command=("tools/test",)):
         self.write("bin/rt", self.RT)
         for name in ["rustc", "cc", "valgrind"]:
             self.write(f"bin/{name}", "#!/bin/sh\n")
@@ -190,11 +190,17 @@ esac
         for name in self.PARTS[:-1]:
             ended = int(name == failing)
             self.write(f"tools/{name}", f"import sys\nsys.exit({ended})\n" if name.endswith(".py") else f"#!/bin/sh\nexit {ended}\n")
-        found, out, _ = run(self.folder / "tools/test", *words, cwd=self.folder, PATH=f"{self.folder}/bin:{os.environ['PATH']}", LAST=last, STATUS=str(status), BROKEN="yes" if failing == "build" else "")
+        found, out, _ = run(*command, *words, cwd=self.folder, PATH=f"{self.folder}/bin:{os.environ['PATH']}", LAST=last, STATUS=str(status), BROKEN="yes" if failing == "build" else "")
         return found, out.splitlines()[-1]
 
     def test_all_passed(self):
         self.assertEqual(self.everything(), (0, "12 passed, 0 failed"))
+
+    def test_the_gate(self):
+        shutil.copytree(ROOT / ".ci", self.folder / ".ci")
+        gate = ("bash", ".ci/run")
+        self.assertEqual(self.everything(command=gate), (0, "12 passed, 0 failed"))
+        self.assertEqual(self.everything(command=gate, failing="hostile"), (1, "tools/test: FAILED: hostile input"))
 
     def test_ci_left_out(self):
         self.assertEqual(self.everything("--no-ci", status=1), (0, "tools/test: all parts passed; rt ci was left out"))
