@@ -1,5 +1,16 @@
 /* Light through a train of coated windows: the calls of libdihkelu.a (document 01).
  *
+ * ============================================================================================================
+ * KEEP WHAT A CALL RETURNS IN 64 BITS. The refusal stands in the HIGH half: `int n = dihkelu_gate(..)` compiles,
+ * drops it, and turns "refused 6, word 8" into "8 surfaces". Test dihkelu_refusal(returned) FIRST, every time:
+ *
+ *     uint64_t returned = dihkelu_gate(sheet, size);
+ *     if (dihkelu_refusal(returned)) .. refused, at dihkelu_place(returned) ..
+ *     else .. dihkelu_value(returned) surfaces ..
+ *
+ * A result that is thrown away is warned about. One that is cut to 32 bits is warned about with -Wconversion.
+ * ============================================================================================================
+ *
  * A call returns one number. Its high 32 bits are 0 where the call answers; the low 32 bits are then what the call
  * says below. Where it refuses, the high 32 bits are document 01's number of the refusal and the low 32 bits its
  * place, a word of the sheet counted from 0; the place is 0 where document 01 gives none.
@@ -12,31 +23,99 @@
  *   7  there is no such surface: it is the sheet's count or more
  *   8  the list is too short; after all other refusals
  *
- * A call that refuses writes nothing. A call that answers writes the front of the list and leaves the rest of it.
- * Every call answers or refuses for all bytes, all numbers and all counts; no call keeps anything between calls, and
- * any number of threads may call at once. Where an answer is not a number its bits may be those of any NaN.
+ * A call that refuses writes nothing. (That is proved of the numbers in the list, so up to the bits of a NaN that
+ * stands there; the tests look at every bit.) A call that answers writes the front of the list and leaves the rest of
+ * it. Every call answers or refuses for all bytes, all numbers and all counts; no call keeps anything between calls,
+ * and any number of threads may call at once. Where an answer is not a number its bits may be those of any NaN.
  *
- * Link with libdihkelu.a and the C library's mathematics (-lm): its fmod is called.
+ * Link with libdihkelu.a and the C library's mathematics (-lm): its fmod is called. The library is for x86-64.
  *
- * A sheet, a list of layers and a list that is written are each passed as a pointer and a count of elements (bytes
- * or doubles), two arguments one after the other. No callee can check, so the caller sees to it that
- *   - the pointer is not null, even where the count is 0, and a pointer to doubles is aligned for them;
- *   - so many elements are there, readable, and writable in the list, and no other thread writes them meanwhile;
- *   - the list overlaps neither the sheet nor the layers.
+ * WHAT THE CALLER OWES, since no callee can check it:
+ *   - A sheet, a list of layers and a list that is written are each passed as a pointer and a count of elements (bytes
+ *     or doubles), two arguments one after the other. So many elements are there, readable, and writable in the list;
+ *     a pointer to doubles is aligned for them. Where the count is 0 the pointer may be anything, null too: nothing is
+ *     read or written through it.
+ *   - The list overlaps neither the sheet nor the layers, and no other thread writes any of them meanwhile.
+ *   - The floating-point environment is the one that a C program starts with: rounding to nearest, subnormal numbers
+ *     kept, no exception trapped. A program LINKED WITH -ffast-math or -Ofast starts with subnormals flushed to zero, and
+ *     the gate then admits k = 2^-1074 and a power of -2^-1074; another rounding mode changes the last bits of every
+ *     answer. dihkelu_environment_ok() says whether subnormals and rounding are as they should be: call it once in
+ *     each thread that calls the library.
+ *
+ * s AND p: row and column 0 of a Jones matrix are s, row and column 1 are p. A surface's Jones matrices are zero off the
+ * diagonal.
+ *
+ * TWO CONVENTIONS. A bare surface's Jones matrices are Fresnel's, a coated one's are the layer solver's, as in the Rust:
+ *   - rp has the opposite sign (from 1 to 1.5 at 0.6 rad: +0.1439 bare, -0.1439 coated without a layer);
+ *   - tp of the coated one is the bare one's times cos_t / cos_i (0.8561 and 0.7626 there);
+ *   - under total reflection, which no sheet within the limits has, the phases are conjugate.
+ * Multiply Jones matrices of both kinds only after you have made them agree. Powers are not concerned.
+ * NEITHER MUELLER MATRIX OF THE TRANSMITTED LIGHT carries n_substrate·cos_t / (n_incident·cos_i): its entry [0][0] is no
+ * share of the power. (The ideal coatings alone have T = |t|^2.) Take T_s and T_p for that. The fourth column of a Mueller
+ * matrix is the response to the Rust's circular_right, (1, -i)/sqrt(2), whose S3 is negative.
  */
 #ifndef DIHKELU_H
 #define DIHKELU_H
 
 #include <stddef.h>
 #include <stdint.h>
+#include <string.h>
 
 #ifdef __cplusplus
 extern "C" {
 #endif
 
-/* A refusal's number, 0 for an answer; and what else is returned: its place, or the call's own number. */
-#define DIHKELU_REFUSAL(returned) ((uint32_t)((returned) >> 32))
-#define DIHKELU_VALUE(returned) ((uint32_t)(returned))
+/* A result that is thrown away is warned about, where the compiler can. */
+#if defined(__has_attribute)
+#if __has_attribute(warn_unused_result)
+#define DIHKELU_MUST_USE __attribute__((warn_unused_result))
+#endif
+#elif defined(__GNUC__)
+#define DIHKELU_MUST_USE __attribute__((warn_unused_result))
+#endif
+#ifndef DIHKELU_MUST_USE
+#define DIHKELU_MUST_USE
+#endif
+
+/* ---- what a call returned, taken apart */
+
+/* The refusal's number; 0 for an answer. */
+DIHKELU_MUST_USE static inline uint32_t dihkelu_refusal(uint64_t returned) { return (uint32_t)(returned >> 32); }
+
+/* The place of a refusal; 0 for an answer. */
+DIHKELU_MUST_USE static inline uint32_t dihkelu_place(uint64_t returned) {
+    return dihkelu_refusal(returned) != 0 ? (uint32_t)(returned & 0xFFFFFFFFu) : 0;
+}
+
+/* The call's own number; 0 for a refusal. */
+DIHKELU_MUST_USE static inline uint32_t dihkelu_value(uint64_t returned) {
+    return dihkelu_refusal(returned) == 0 ? (uint32_t)(returned & 0xFFFFFFFFu) : 0;
+}
+
+/* ---- the floating-point environment */
+
+/* 1 where subnormals are kept and rounding is to nearest, ties to even; else 0. The numbers are volatile, so that they
+ * are worked out when the program runs. */
+DIHKELU_MUST_USE static inline int dihkelu_environment_ok(void) {
+    volatile double normal = 2.2250738585072014e-308, half = 0.5, one = 1.0, minus = -1.0, tie = 1.1102230246251565e-16;
+    volatile double subnormal = normal * half;       /* 2^-1023; 0 where results are flushed */
+    volatile double doubled = subnormal + subnormal; /* 2^-1022; 0 where operands are taken for zeros */
+    volatile double up = one + tie;                  /* 1; its neighbour above where rounding is upwards */
+    volatile double down = minus - tie;              /* -1; its neighbour below where rounding is downwards */
+    volatile double odd = one + 3.0 * tie;           /* 1 + 2^-51; 1 + 2^-52 where rounding is towards zero */
+    volatile const double *found[] = {&subnormal, &doubled, &up, &down, &odd};
+    static const uint64_t wanted[] = {0x0008000000000000u, 0x0010000000000000u, 0x3FF0000000000000u,
+                                      0xBFF0000000000000u, 0x3FF0000000000002u};
+    for (int i = 0; i < 5; i++) {
+        double x = *found[i];
+        uint64_t bits;
+        memcpy(&bits, &x, sizeof bits);
+        if (bits != wanted[i]) return 0;
+    }
+    return 1;
+}
+
+/* ---- the calls */
 
 /* How many doubles are written by dihkelu_evaluate, by dihkelu_answers for a bare surface, and for a coated one. A
  * later request may put two numbers more at the end of a response: go by the count that is returned. */
@@ -45,39 +124,42 @@ extern "C" {
 #define DIHKELU_COATED 67
 
 /* The gate. Returns the count of surfaces; refuses with 4, 5, 6. */
-uint64_t dihkelu_gate(const uint8_t *sheet, size_t sheet_count);
+DIHKELU_MUST_USE uint64_t dihkelu_gate(const uint8_t *sheet, size_t sheet_count);
 
 /* A fresh train. Writes the BEAM's s and p, 2 doubles, and returns the count of surfaces; refuses with 4, 5, 6, 8. */
-uint64_t dihkelu_start(const uint8_t *sheet, size_t sheet_count, double *list, size_t list_count);
+DIHKELU_MUST_USE uint64_t dihkelu_start(const uint8_t *sheet, size_t sheet_count, double *list, size_t list_count);
 
 /* A step from a state: surfaces done, s and p. Writes the next s and p, 2 doubles, and returns the surfaces done then;
  * refuses with 4, 5, 6, 7, 8, and the state is as before. */
-uint64_t dihkelu_step(const uint8_t *sheet, size_t sheet_count, uint32_t surfaces_done, double s, double p,
-                      double *list, size_t list_count);
+DIHKELU_MUST_USE uint64_t dihkelu_step(const uint8_t *sheet, size_t sheet_count, uint32_t surfaces_done, double s,
+                                       double p, double *list, size_t list_count);
 
 /* A whole run from the start. Writes s, p after each surface, 2 doubles for each, and returns the count of surfaces;
  * refuses with 4, 5, 6, 8. */
-uint64_t dihkelu_run(const uint8_t *sheet, size_t sheet_count, double *list, size_t list_count);
+DIHKELU_MUST_USE uint64_t dihkelu_run(const uint8_t *sheet, size_t sheet_count, double *list, size_t list_count);
 
 /* The answers of a surface, counted from 0. Returns how many doubles it wrote; refuses with 4, 5, 6, 7, 8. In order:
  *    0        1 for a coated surface, 0 for a bare one
  *    1 to 4   the powers R_s, R_p, T_s, T_p
- *    5 to 12  the Jones matrix of the reflected light: m00, m01, m10, m11, each re, im
+ *    5 to 12  the Jones matrix of the reflected light: m00 (s), m01, m10, m11 (p), each re, im
  *   13 to 20  the same of the transmitted light
  *   21 to 36  the Mueller matrix of the reflected light, row after row
  *   37 to 52  the same of the transmitted light
  *   53 to 66  of a coated surface alone: its response, as dihkelu_evaluate writes it */
-uint64_t dihkelu_answers(const uint8_t *sheet, size_t sheet_count, uint32_t surface, double *list, size_t list_count);
+DIHKELU_MUST_USE uint64_t dihkelu_answers(const uint8_t *sheet, size_t sheet_count, uint32_t surface, double *list,
+                                          size_t list_count);
 
 /* SurfaceCoating::evaluate. Codes: 1 IdealAr, 2 MgF2 (at the design wavelength), 3 BroadbandAr,
  * 4 HighReflectanceMirror, 5 Custom layers, 6 Custom beamsplitter, 7 Custom mirror, 8 Custom IdealAr. The layers are
- * n, k, thickness in nm of one after the other. Returns how many doubles it wrote; refuses with 1, 3, 8. In order:
+ * n, k, thickness in nm of one after the other, from the side of the lower index (from the incident side where both are
+ * equal). Returns how many doubles it wrote; refuses with 1, 3, 8. In order:
  *    0 to 7   rs, rp, ts, tp, each re, im
  *    8 to 11  R_s, R_p, T_s, T_p
  *   12, 13    the phases of rs and rp in radians */
-uint64_t dihkelu_evaluate(uint32_t code, double design_wavelength_nm, double n_incident, double n_substrate,
-                          double angle_incident_rad, double wavelength_nm, const double *layers, size_t layers_count,
-                          double *list, size_t list_count);
+DIHKELU_MUST_USE uint64_t dihkelu_evaluate(uint32_t code, double design_wavelength_nm, double n_incident,
+                                           double n_substrate, double angle_incident_rad, double wavelength_nm,
+                                           const double *layers, size_t layers_count, double *list,
+                                           size_t list_count);
 
 #ifdef __cplusplus
 }

@@ -57,7 +57,7 @@ static List lend(size_t count) {
  * byte; or an answer, with all that is behind `written` numbers as it was. 8 exactly where the list is too short. */
 static void leave(const char *call, List l, uint64_t returned, unsigned may, size_t written) {
     calls++;
-    uint32_t number = DIHKELU_REFUSAL(returned);
+    uint32_t number = dihkelu_refusal(returned);
     if (number != 0) {
         if (number > 8 || (may >> number & 1) == 0) wrong(call, "a refusal that it has not", returned);
         if (memcmp(l.now, l.before, 8 * l.count) != 0) wrong(call, "a list changed by a refusal", returned);
@@ -81,11 +81,11 @@ static void sheet_calls(const uint8_t *bytes, size_t size) {
     uint8_t *sheet = block(size);
     memcpy(sheet, bytes, size);
     uint64_t gate = dihkelu_gate(sheet, size);
-    uint32_t refused = DIHKELU_REFUSAL(gate), surfaces = refused ? 0 : DIHKELU_VALUE(gate);
+    uint32_t refused = dihkelu_refusal(gate), surfaces = dihkelu_value(gate);
     calls++;
     if (refused) refusals[refused < 9 ? refused : 0]++;
     if (refused && (refused < 4 || refused > 6)) wrong("gate", "a refusal that it has not", gate);
-    if (DIHKELU_VALUE(gate) > 7625) wrong("gate", "a place or a count past the longest sheet", gate);
+    if (dihkelu_place(gate) > 7625 || surfaces > 64) wrong("gate", "a place or a count past the longest sheet", gate);
     unsigned may = refused ? BIT(refused) : 0;
 
     for (size_t n = 0; n <= 3; n++) {
@@ -98,8 +98,8 @@ static void sheet_calls(const uint8_t *bytes, size_t size) {
         uint32_t done = i == 0 ? 0 : i == 1 ? UINT32_MAX : i == 2 ? surfaces : i == 3 && surfaces ? surfaces - 1 : (uint32_t)below(66);
         List l = lend(below(4));
         uint64_t r = dihkelu_step(sheet, size, done, any(), any(), (double *)l.now, l.count);
-        if (!refused && (DIHKELU_REFUSAL(r) == 7) != (done >= surfaces)) wrong("step", "7 at the wrong count", r);
-        if (DIHKELU_REFUSAL(r) == 0 && r != (uint64_t)done + 1) wrong("step", "another count of surfaces done", r);
+        if (!refused && (dihkelu_refusal(r) == 7) != (done >= surfaces)) wrong("step", "7 at the wrong count", r);
+        if (dihkelu_refusal(r) == 0 && r != (uint64_t)done + 1) wrong("step", "another count of surfaces done", r);
         leave("step", l, r, may | (refused ? 0 : BIT(7) | BIT(8)), 2);
     }
     size_t need = 2 * (size_t)surfaces, lengths[] = {0, need - (need > 0), need, need + 1, need + 7};
@@ -115,7 +115,7 @@ static void sheet_calls(const uint8_t *bytes, size_t size) {
         List l = lend(around[i]), full = lend(DIHKELU_COATED);
         uint64_t r = dihkelu_answers(sheet, size, surface, (double *)l.now, l.count);
         uint64_t f = dihkelu_answers(sheet, size, surface, (double *)full.now, full.count);
-        size_t count = DIHKELU_REFUSAL(f) ? 0 : DIHKELU_VALUE(f);
+        size_t count = dihkelu_value(f);
         if (count && count != (((double *)full.now)[0] == 1.0 ? DIHKELU_COATED : DIHKELU_BARE))
             wrong("answers", "a count that its first number denies", f);
         if (count && l.count >= count && memcmp(l.now, full.now, 8 * count) != 0)
@@ -176,17 +176,49 @@ static void evaluate_calls(void) {
     static const size_t around[] = {0, 13, 14, 15, 20};
     List l = lend(around[below(5)]);
     uint64_t r = dihkelu_evaluate(code, any(), any(), any(), any(), any(), layers, n, (double *)l.now, l.count);
-    if (n % 3 != 0 && DIHKELU_REFUSAL(r) != 1) wrong("evaluate", "no 1 for layers that are no multiple of 3", r);
-    if ((code == 0 || code > 8) && DIHKELU_REFUSAL(r) != 1) wrong("evaluate", "no 1 for an unknown code", r);
-    if (DIHKELU_REFUSAL(r) ? DIHKELU_VALUE(r) != 0 : r != DIHKELU_RESPONSE) wrong("evaluate", "another number", r);
+    if (n % 3 != 0 && dihkelu_refusal(r) != 1) wrong("evaluate", "no 1 for layers that are no multiple of 3", r);
+    if ((code == 0 || code > 8) && dihkelu_refusal(r) != 1) wrong("evaluate", "no 1 for an unknown code", r);
+    if (dihkelu_refusal(r) ? dihkelu_place(r) != 0 : r != DIHKELU_RESPONSE) wrong("evaluate", "another number", r);
     leave("evaluate", l, r, BIT(1) | BIT(3) | BIT(8), DIHKELU_RESPONSE);
     free(layers);
+}
+
+static void expect(const char *call, uint64_t returned, uint64_t expected) {
+    calls++;
+    if (returned != expected) wrong(call, "another number for a null of count 0", returned);
+}
+
+/* A null pointer with a count of 0, in each place where there may be one. */
+static void null_calls(void) {
+    static uint8_t sheet[200];
+    const uint64_t four = 4ull << 32, seven = 7ull << 32, eight = 8ull << 32;
+    double list[DIHKELU_COATED];
+    expect("gate", dihkelu_gate(NULL, 0), four);
+    expect("start", dihkelu_start(NULL, 0, list, 2), four);
+    expect("start", dihkelu_start(NULL, 0, NULL, 0), four);
+    expect("step", dihkelu_step(NULL, 0, 0, 1.0, 1.0, NULL, 0), four);
+    expect("run", dihkelu_run(NULL, 0, NULL, 0), four);
+    expect("answers", dihkelu_answers(NULL, 0, 0, NULL, 0), four);
+    size_t size = build(sheet, 0, -1);
+    expect("start", dihkelu_start(sheet, size, NULL, 0), eight);
+    expect("run", dihkelu_run(sheet, size, NULL, 0), 0);
+    expect("step", dihkelu_step(sheet, size, 0, 1.0, 1.0, NULL, 0), seven);
+    expect("answers", dihkelu_answers(sheet, size, 0, NULL, 0), seven);
+    size = build(sheet, 1, 0);
+    expect("step", dihkelu_step(sheet, size, 0, 1.0, 1.0, NULL, 0), eight);
+    expect("run", dihkelu_run(sheet, size, NULL, 0), eight);
+    expect("answers", dihkelu_answers(sheet, size, 0, NULL, 0), eight);
+    for (uint32_t code = 1; code <= 8; code++) {
+        expect("evaluate", dihkelu_evaluate(code, 550.0, 1.0, 1.5, 0.3, 550.0, NULL, 0, list, DIHKELU_RESPONSE), DIHKELU_RESPONSE);
+        expect("evaluate", dihkelu_evaluate(code, 550.0, 1.0, 1.5, 0.3, 550.0, NULL, 0, NULL, 0), eight);
+    }
 }
 
 int main(int count, char **words) {
     seed = count > 1 ? strtoull(words[1], NULL, 10) : 1;
     uint64_t times = count > 2 ? strtoull(words[2], NULL, 10) : 100;
     static uint8_t bytes[40000];
+    null_calls();
     static const size_t sizes[] = {0, 1, 2, 3, 4, 35, 36, 37, 30499, 30500, 30501, 30502, 30503, 30504, 30505};
 
     for (size_t i = 0; i < sizeof sizes / sizeof sizes[0]; i++)

@@ -1,12 +1,9 @@
 #!/usr/bin/env python3
-"""Sheets for people: write one from a text, show one as text, show the losses surface by surface. See docs/SHEETS.md.
+"""Sheets for people: write one from a text, show one as text, show the losses surface by surface. See docs/SHEETS.md."""
 
-sheet.py write TEXT > SHEET
-sheet.py show SHEET
-sheet.py losses SHEET-OR-TEXT [--program COMMAND]
-"""
-
+import argparse
 import math
+import os
 import re
 import shlex
 import struct
@@ -15,6 +12,8 @@ import sys
 from pathlib import Path
 
 ROOT = Path(__file__).resolve().parent.parent
+VERSION = "1.1 (sheets of edition 1)"
+MOST_BYTES = 10_000_000  # of a file; a sheet has 30,500 at most
 
 # payload / 2, document 01 section 1
 COATINGS = ["bare", "ideal-ar", "mgf2", "broadband-ar", "mirror", "custom", "ideal-beamsplitter", "ideal-mirror"]
@@ -71,7 +70,7 @@ def number(token):
     """A decimal number, or the 16 hexadecimal digits of an f64's bits after 0x."""
     if re.fullmatch(r"0x[0-9A-Fa-f]{16}", token):
         return struct.unpack(">d", bytes.fromhex(token[2:]))[0]
-    if not re.fullmatch(r"[+-]?(\d+\.?\d*|\.\d+)([eE][+-]?\d+)?", token):
+    if not re.fullmatch(r"[+-]?([0-9]+\.?[0-9]*|\.[0-9]+)([eE][+-]?[0-9]+)?", token):
         raise Wrong(f"'{token}' is no number")
     return float(token)
 
@@ -135,10 +134,37 @@ def add_line(sheet, tokens, line):
         raise Wrong(f"'{tokens[0]}' begins no line; a line begins with beam, surface, layer or #")
 
 
-def from_text(text):
+UTF_16 = "the text is in UTF-16; save it as UTF-8"
+
+
+def is_utf_16(data):
+    """By its mark, or by a text's first letters with a zero byte beside each."""
+    return data[:2] in (b"\xff\xfe", b"\xfe\xff") or re.match(rb"(\0[ -~\t\r\n]){4}|([ -~\t\r\n]\0){4}", data) is not None
+
+
+def without_mark(data):
+    """What stands behind UTF-8's byte order mark."""
+    return data[3:] if data[:3] == b"\xef\xbb\xbf" else data
+
+
+def lines_of(data):
+    """The lines of a text, ended by a line feed, a carriage return or both; nothing else ends one."""
+    if is_utf_16(data):
+        raise Wrong(UTF_16)
+    for line, content in enumerate(re.split(rb"\r\n|\n|\r", without_mark(data)), 1):
+        control = next((byte for byte in content if byte < 32 and byte != 9 or byte == 127), None)
+        if control is not None:
+            raise Wrong(f"line {line}: the control byte 0x{control:02X} stands in the text")
+        try:
+            yield line, content.decode("utf-8")
+        except UnicodeDecodeError as error:
+            raise Wrong(f"line {line}: the byte 0x{content[error.start]:02X} is not UTF-8; save the text as UTF-8") from None
+
+
+def from_text(data):
     sheet = Sheet()
     line = 0
-    for line, content in enumerate(text.splitlines(), 1):
+    for line, content in lines_of(data):
         tokens = content.split("#")[0].split()
         try:
             if tokens:
@@ -146,7 +172,7 @@ def from_text(text):
         except Wrong as wrong:
             raise Wrong(f"line {line}: {wrong}") from None
     if not sheet.beam:
-        raise Wrong(f"line {line + 1}: the text ends without a beam: {BEAM_FORM}")
+        raise Wrong(f"line {line}: the text ends without a beam: {BEAM_FORM}")
     return sheet
 
 
@@ -227,7 +253,8 @@ def outside(block, surface, is_beam):
     def bends(name, n):
         n0, _, angle = surface["floats"]
         if math.isfinite(angle) and not n0 * abs(math.sin(angle)) <= 0.875 * n:
-            said.append(f"n_incident times sin is {n0 * abs(math.sin(angle)):.4f}, more than 0.875 of {name} {written(n)}")
+            bent, most = n0 * abs(math.sin(angle)), 0.875 * n
+            said.append(f"n_incident times sin is {written(bent)}, more than 0.875 of {name} {written(n)}, {written(most)}")
 
     if is_beam:
         wavelength, s, p = block["floats"]
@@ -241,7 +268,7 @@ def outside(block, surface, is_beam):
         if not math.isfinite(angle):
             said.append("the angle is not finite")
         elif math.cos(angle) < 0.25:
-            said.append(f"the angle's cosine is {math.cos(angle):.4f}, less than 0.25")
+            said.append(f"the angle's cosine is {written(math.cos(angle))}, less than 0.25")
         bends("the second index", n1)
         for n in PRESET_INDICES.get(block["coating"], []):
             bends("the coating's index", n)
@@ -279,38 +306,76 @@ def explain(refusal, place, sheet, data):
     }.get(refusal, "the number is in no table")
 
 
+# ---- hints
+
+def hints(sheet):
+    """Where a surface does not fit the one before it, as people lay out windows. The gate compares no neighbours."""
+    said = []
+    for count, (one, two) in enumerate(zip(sheet.surfaces, sheet.surfaces[1:]), 2):
+        n0, n1, angle = one["floats"]
+        inside = n0 if one["reflected"] else n1
+        where = f"surface {count}" + (f" (line {two['line']})" if two["line"] else "")
+        if two["floats"][0] != inside:
+            said.append(f"{where} begins in index {written(two['floats'][0])}; the light comes in index {written(inside)}")
+        elif n1 > n0 > 0 and math.isfinite(angle) and not one["reflected"] and two["floats"][1] < inside:
+            expected = abs(math.degrees(math.asin(n0 * math.sin(angle) / n1)))
+            found = math.degrees(two["floats"][2])
+            if abs(expected - abs(found)) > 0.5:
+                said.append(f"{where} is at {found:.2f} deg; in a plate with parallel faces it is at {expected:.2f} deg")
+    return said
+
+
 # ---- losses
 
 def percent(part, whole):
-    return f"{100 * part / whole:.4f}" if whole else "-"
+    """Four places; what rounds to zero has no sign."""
+    return f"{100 * part / whole:.4f}".replace("-0.0000", "0.0000") if whole else "-"
+
+
+def counted(count, what):
+    return f"{count} {what}" + ("" if count == 1 else "s")
+
+
+def answered(program, data):
+    """The lines that the program prints for a sheet, without the last line's end."""
+    if program is None:
+        if not (ROOT / "target" / "bin" / "train").exists():
+            raise Wrong("the program train is not built yet; run: rt check train")
+        program = [str(ROOT / "tools" / "run"), "train"]
+    name = " ".join(program)
+    try:
+        done = subprocess.run(program, input=data, capture_output=True, check=False)
+    except (OSError, ValueError, IndexError) as error:
+        raise Wrong(f"the program '{name}' cannot be run: {getattr(error, 'strerror', None) or error}") from None
+    output = done.stdout.decode("ascii", "replace").split("\n")
+    if done.returncode or len(output) < 2 or output[-1]:
+        said = done.stderr.decode("utf-8", "replace").strip() or f"status {done.returncode}, {counted(len(done.stdout), 'byte')} printed"
+        raise Wrong(f"{name} gave no answer: {said}")
+    return name, output[:-1]
 
 
 def losses(sheet, data, program):
-    try:
-        done = subprocess.run(program, input=data, capture_output=True, check=False)
-    except OSError as error:
-        raise Wrong(f"{program[0]} cannot be run: {error.strerror}") from None
-    output = done.stdout.decode("ascii", "replace").split("\n")[:-1]
-    refused = re.fullmatch(r"refused (\d+) (\d+)", output[0]) if output else None
+    name, output = answered(program, data)
+    refused = re.fullmatch(r"refused ([0-9]+) ([0-9]+)", output[0])
     if refused:
         number_, place = int(refused[1]), int(refused[2])
         raise Wrong(f"refused {number_} {place}: {explain(number_, place, sheet, data)}")
-    state = re.compile(r"(\d+) ([TR]) ([0-9A-F]{16}) ([0-9A-F]{16})")
+    state = re.compile(r"([0-9]+) ([TR]) ([0-9A-F]{16}) ([0-9A-F]{16})")
     lines = [state.fullmatch(line) for line in output[:-1]]
-    total = re.fullmatch(r"sum ([0-9A-F]{16})", output[-1]) if output else None
-    if done.returncode or not sheet or not total or None in lines or len(lines) != len(sheet.surfaces):
-        said = done.stderr.decode("utf-8", "replace").strip() or "it printed something else than a train's lines"
-        raise Wrong(f"{' '.join(program)} gave no answer: {said}")
+    total = re.fullmatch(r"sum ([0-9A-F]{16})", output[-1])
+    if not sheet or not total or None in lines or len(lines) != len(sheet.surfaces):
+        raise Wrong(f"{name} gave no answer: it printed something else than a train's lines")
     rows = [["", "surface", "follows", "s lost %", "p lost %", "lost %", "left of the beam %"]]
     _, s, p = sheet.beam["floats"]
     start = s + p
     for surface, line in zip(sheet.surfaces, lines):
         new_s, new_p = number("0x" + line[3]), number("0x" + line[4])
         n0, n1, angle = surface["floats"]
-        name = f"{COATINGS[surface['coating']]} {n0:g} to {n1:g} at {math.degrees(angle):.2f} deg"
+        called = f"{COATINGS[surface['coating']]} {n0:g} to {n1:g} at {math.degrees(angle):.2f} deg"
         if surface["layers"]:
-            name += f", {len(surface['layers'])} layers"
-        rows.append([line[1], name, DIRECTIONS[line[2] == "R"], percent(s - new_s, s), percent(p - new_p, p), percent(s + p - new_s - new_p, s + p), percent(new_s + new_p, start)])
+            called += f", {counted(len(surface['layers']), 'layer')}"
+        lost = (s + p) - (new_s + new_p)
+        rows.append([line[1], called, DIRECTIONS[line[2] == "R"], percent(s - new_s, s), percent(p - new_p, p), percent(lost, s + p), percent(new_s + new_p, start)])
         s, p = new_s, new_p
     widths = [max(len(row[i]) for row in rows) for i in range(len(rows[0]))]
     text = ""
@@ -318,53 +383,104 @@ def losses(sheet, data, program):
         cells = [cell.ljust(width) if i in (1, 2) else cell.rjust(width) for i, (cell, width) in enumerate(zip(row, widths))]
         text += "  ".join(cells).rstrip() + "\n"
     end = number("0x" + total[1])
-    return text + f"whole train: {percent(start - end, start)} % lost, {percent(end, start)} % left (s {s:.6g}, p {p:.6g}, sum {end:.6g})\n"
+    powers = f"s {s + 0.0:.6g}, p {p + 0.0:.6g}, sum {end + 0.0:.6g}"  # + 0.0 takes the sign from a zero
+    return text + f"whole train: {percent(start - end, start)} % lost, {percent(end, start)} % left ({powers})\n"
 
 
 # ---- the commands
 
 def is_text(data):
-    """A text has no control characters but tabs and line ends; every sheet of the right form has some."""
-    return not any(byte < 32 and byte not in (9, 10, 13) for byte in data)
+    """A text is UTF-8 with hardly a control byte; a sheet begins with OPEN's byte 0x10 and is full of them."""
+    if is_utf_16(data):
+        return True
+    try:
+        without_mark(data).decode("utf-8")
+    except UnicodeDecodeError:
+        return not any(byte < 32 and byte not in (9, 10, 13) for byte in data)
+    controls = sum(byte < 32 and byte not in (9, 10, 13) for byte in data)
+    return data[:1] != b"\x10" and 8 * controls <= len(data)
 
 
 def load(name):
     try:
-        return sys.stdin.buffer.read() if name == "-" else Path(name).read_bytes()
-    except OSError as error:
-        raise Wrong(f"{name}: {error.strerror}") from None
-
-
-def main(arguments):
-    program = [str(ROOT / "tools" / "run"), "train"]
-    if len(arguments) == 4 and arguments[2] == "--program":
-        program = shlex.split(arguments[3])
-        arguments = arguments[:2]
-    if len(arguments) != 2 or arguments[0] not in ("write", "show", "losses"):
-        print(__doc__.strip(), file=sys.stderr)
-        return 2
-    command, name = arguments
-    try:
-        data = load(name)
-        if command == "write" or (command == "losses" and is_text(data)):
-            sheet = from_text(data.decode("utf-8", "replace"))
-            data = sheet.bytes()
-            if command == "write":
-                sys.stdout.buffer.write(data)
-                return 0
-        elif command == "show":
-            sheet = from_bytes(data)
-            print(to_text(sheet), end="")
-            return 0
+        if name == "-":
+            if sys.stdin is None:
+                raise Wrong("standard input is closed")
+            data = sys.stdin.buffer.read(MOST_BYTES + 1)
         else:
-            try:
-                sheet = from_bytes(data)
-            except Wrong:
-                sheet = None  # the program says why
-        print(losses(sheet, data, program), end="")
+            with open(name, "rb") as file:
+                data = file.read(MOST_BYTES + 1)
+    except (OSError, ValueError) as error:
+        raise Wrong(getattr(error, "strerror", None) or error) from None
+    if len(data) > MOST_BYTES:
+        raise Wrong(f"it has more than {MOST_BYTES} bytes: no sheet, and no text of one")
+    return data
+
+
+def emit(data):
+    """To standard output, all of it; a full disk is no traceback."""
+    if sys.stdout is None:
+        raise Wrong("standard output is closed")
+    try:
+        sys.stdout.buffer.write(data)
+        sys.stdout.buffer.flush()
+    except OSError as error:
+        os.dup2(os.open(os.devnull, os.O_WRONLY), sys.stdout.fileno())  # what is left goes nowhere
+        raise Wrong(f"the output cannot be written: {error.strerror}") from None
+
+
+def execute(command, name, program):
+    """What the command prints, and the sheet it is about."""
+    data = load(name)
+    if command == "show":
+        sheet = from_bytes(data)
+        return to_text(sheet).encode(), sheet
+    if command == "write":
+        sheet = from_text(data)
+        return sheet.bytes(), sheet
+    if is_text(data):
+        sheet = from_text(data)
+        data = sheet.bytes()
+    else:
+        try:
+            sheet = from_bytes(data)
+        except Wrong:
+            sheet = None  # the program says why
+    return losses(sheet, data, program).encode(), sheet
+
+
+def words_of(text):
+    try:
+        words = shlex.split(text)
+    except ValueError as error:
+        raise argparse.ArgumentTypeError(f"{error}: {text}") from None
+    if not words:
+        raise argparse.ArgumentTypeError("no command stands there")
+    return words
+
+
+def arguments():
+    parser = argparse.ArgumentParser(description=__doc__)
+    parser.add_argument("--version", action="version", version=f"%(prog)s {VERSION}")
+    commands = parser.add_subparsers(dest="command", required=True, metavar="COMMAND")
+    for command, about in [("write", "writes a text's sheet to standard output"), ("show", "prints a sheet as a text"), ("losses", "prints what each surface of a sheet or text loses")]:
+        one = commands.add_parser(command, help=about, description=about)
+        one.add_argument("file", metavar="FILE", help="a file, or - for standard input")
+        if command == "losses":
+            one.add_argument("--program", type=words_of, metavar="COMMAND", help="what to run in the place of tools/run train")
+    return parser
+
+
+def main(words):
+    given = arguments().parse_args(words)
+    try:
+        printed, sheet = execute(given.command, given.file, getattr(given, "program", None))
+        for hint in hints(sheet):
+            print(f"{given.file}: hint: {hint}", file=sys.stderr)
+        emit(printed)
         return 0
     except Wrong as wrong:
-        print(f"{name}: {wrong}", file=sys.stderr)
+        print(f"{given.file}: {wrong}", file=sys.stderr)
         return 1
 
 

@@ -1,42 +1,40 @@
 #!/usr/bin/env python3
-"""Tests of tools/sheet.py: test_sheet.py [--program COMMAND]. Prints 'N passed, M failed'.
+"""Tests of tools/sheet.py: test_sheet.py [--program COMMAND] [unittest's own words].
 
 The program is tools/run train if target/bin/train is there, else the oracle's train. With the oracle built, its random
 sheets are read and written too.
 """
 
+import argparse
+import math
 import shlex
+import struct
 import subprocess
 import sys
 import tempfile
+import unittest
 from pathlib import Path
 
 ROOT = Path(__file__).resolve().parent.parent
 TOOL = [sys.executable, str(ROOT / "tools" / "sheet.py")]
 ORACLE = ROOT / "oracle" / "target" / "release" / "oracle"
 EXAMPLES = ROOT / "examples"
-
-passed = failed = 0
-
-
-def check(name, found, expected):
-    global passed, failed
-    if found == expected:
-        passed += 1
-    else:
-        failed += 1
-        print(f"FAILED {name}\n  found    {found!r}\n  expected {expected!r}")
+PROGRAM = None  # the command that `losses` runs
 
 
-def tool(*arguments, given=b""):
-    done = subprocess.run(TOOL + list(arguments), input=given, capture_output=True, check=False)
+def tool(*arguments, given=b"", **more):
+    """Status, standard output, standard error; a text is passed as UTF-8."""
+    given = given.encode() if isinstance(given, str) else given
+    done = subprocess.run(TOOL + list(arguments), input=given, capture_output=True, check=False, **more)
     return done.returncode, done.stdout, done.stderr.decode()
 
 
-def default_program():
-    if (ROOT / "target" / "bin" / "train").exists():
-        return [str(ROOT / "tools" / "run"), "train"]
-    return [str(ORACLE), "train"]
+def losses(given, program=None):
+    return tool("losses", "-", "--program", program or PROGRAM, given=given)
+
+
+def bits(x):
+    return struct.pack(">d", x).hex().upper()
 
 
 # 01's known answer
@@ -75,81 +73,307 @@ BAD_TEXTS = [
 REFUSED = [
     ("beam 99 nm s 2 p 0\n", "refused 6 1: the beam (line 1) is outside the gate: the wavelength is 99, not from 100 to 10000; the s power is 2, not from 0 to 1"),
     (BEAM + "surface bare transmitted from 1 to 5 at 0 rad\n", "refused 6 8: surface 1 (line 2) is outside the gate: the second index is 5, not from 1 to 4"),
-    (BEAM + "surface bare transmitted from 1 to 2 at 80 deg\n", "refused 6 8: surface 1 (line 2) is outside the gate: the angle's cosine is 0.1736, less than 0.25"),
-    (BEAM + "surface mgf2 transmitted from 2 to 4 at 45 deg\n", "refused 6 8: surface 1 (line 2) is outside the gate: n_incident times sin is 1.4142, more than 0.875 of the coating's index 1.38"),
+    (BEAM + "surface bare transmitted from 1 to 2 at 80 deg\n", "refused 6 8: surface 1 (line 2) is outside the gate: the angle's cosine is 0.17364817766693041, less than 0.25"),
+    (BEAM + "surface mgf2 transmitted from 2 to 4 at 45 deg\n", "refused 6 8: surface 1 (line 2) is outside the gate: n_incident times sin is 1.414213562373095, more than 0.875 of the coating's index 1.38, 1.2075"),
     (BEAM + CUSTOM + LAYER + "layer 1.38 thickness 99 nm k 0.1\n", "refused 6 22: layer 2 of surface 1 (line 4) is outside the gate: k is 0.1, not zero"),
 ]
 
 
-def examples(program):
-    text, sheet = EXAMPLES / "window.txt", EXAMPLES / "window.sheet"
-    check("example written", tool("write", str(text)), (0, sheet.read_bytes(), ""))
-    shown = tool("show", str(sheet))
-    check("example shown", shown, (0, (EXAMPLES / "window.shown").read_bytes(), ""))
-    check("shown, then written", tool("write", "-", given=shown[1]), (0, sheet.read_bytes(), ""))
-    table = (0, (EXAMPLES / "window.losses").read_bytes(), "")
-    check("losses of the text", tool("losses", str(text), "--program", program), table)
-    check("losses of the sheet", tool("losses", str(sheet), "--program", program), table)
 
 
-def known(program):
-    check("01's sheet", tool("write", "-", given=KNOWN_TEXT), (0, KNOWN_SHEET, ""))
-    status, out, _ = tool("losses", "-", "--program", program, given=KNOWN_SHEET)
-    last = "whole train: 25.0000 % lost, 75.0000 % left (s 0.375, p 0.375, sum 0.75)"
-    check("01's losses", (status, out.decode().splitlines()[-1]), (0, last))
-    status, out, _ = tool("losses", "-", "--program", program, given=b"beam 500 nm s 0 p 0\n")
-    last = "whole train: - % lost, - % left (s 0, p 0, sum 0)"
-    check("no light, no surface", (status, out.decode().splitlines()[-1]), (0, last))
+class Examples(unittest.TestCase):
+    def test_example(self):
+        text, sheet = EXAMPLES / "window.txt", EXAMPLES / "window.sheet"
+        self.assertEqual(tool("write", str(text)), (0, sheet.read_bytes(), ""))
+        shown = tool("show", str(sheet))
+        self.assertEqual(shown, (0, (EXAMPLES / "window.shown").read_bytes(), ""))
+        self.assertEqual(tool("write", "-", given=shown[1]), (0, sheet.read_bytes(), ""))
+        table = (0, (EXAMPLES / "window.losses").read_bytes(), "")
+        self.assertEqual(tool("losses", str(text), "--program", PROGRAM), table)
+        self.assertEqual(tool("losses", str(sheet), "--program", PROGRAM), table)
+
+    def test_known_answer(self):
+        self.assertEqual(tool("write", "-", given=KNOWN_TEXT), (0, KNOWN_SHEET, ""))
+        status, out, _ = losses(KNOWN_SHEET)
+        last = "whole train: 25.0000 % lost, 75.0000 % left (s 0.375, p 0.375, sum 0.75)"
+        self.assertEqual((status, out.decode().splitlines()[-1]), (0, last))
+
+    def test_no_light_and_no_surface(self):
+        for s in ["0", "-0"]:
+            status, out, _ = losses(f"beam 500 nm s {s} p {s}\n")
+            last = "whole train: - % lost, - % left (s 0, p 0, sum 0)"
+            self.assertEqual((status, out.decode().splitlines()[-1]), (0, last))
+
+    def test_random_sheets(self):
+        """Of the oracle: what is out of grammar is refused at its place, all else is written back to the same bytes."""
+        if not ORACLE.exists():
+            self.skipTest("the oracle is not built")
+        with tempfile.TemporaryDirectory() as folder:
+            subprocess.run([str(ORACLE), "sheets", folder, "--seed", "1", "--count", "60"], check=True)
+            for sheet in sorted(Path(folder).glob("*.sheet")):
+                with self.subTest(sheet.name):
+                    self.one_sheet(sheet, sheet.with_suffix(".out").read_text().strip())
+
+    def one_sheet(self, sheet, out):
+        status, shown, said = tool("show", str(sheet))
+        if out.startswith(("refused 4", "refused 5")):
+            self.assertEqual((status, said.startswith(f"{sheet}: {out}: ")), (1, True), said)
+            return
+        self.assertEqual(tool("write", "-", given=shown)[:2], (0, sheet.read_bytes()))
+        status, _, said = tool("losses", str(sheet), "--program", PROGRAM)
+        if out.startswith("refused"):
+            self.assertEqual((status, said.startswith(f"{sheet}: {out}: ")), (1, True), said)
+        else:
+            self.assertEqual((status, "refused" in said), (0, False), said)
 
 
-def wrong(program):
-    for text, said in BAD_TEXTS:
-        check(f"bad text: {said}", tool("write", "-", given=text.encode()), (1, b"", f"-: {said}\n"))
-    for text, said in REFUSED:
-        check(said, tool("losses", "-", "--program", program, given=text.encode()), (1, b"", f"-: {said}\n"))
-    short = "refused 4 0: a sheet has a multiple of 4 bytes, from 36 to 30500; this has 35"
-    check("short", tool("losses", "-", "--program", program, given=KNOWN_SHEET[:35]), (1, b"", f"-: {short}\n"))
-    check("short, shown", tool("show", "-", given=KNOWN_SHEET[:35]), (1, b"", f"-: {short}\n"))
-    status, _, said = tool("losses", "-", "--program", program, given=KNOWN_SHEET[:-4])
-    check("no END", (status, said.startswith("-: refused 5 15: word 15 ")), (1, True))
-    status, _, said = tool("losses", "-", "--program", "/nowhere", given=KNOWN_SHEET)
-    check("no program", (status, said), (1, "-: /nowhere cannot be run: No such file or directory\n"))
-    status, _, said = tool("losses", "-", "--program", "echo hello", given=KNOWN_SHEET)
-    check("another program", (status, "echo hello gave no answer" in said), (1, True))
-    check("no command", tool()[0], 2)
+class Losses(unittest.TestCase):
+    def test_nothing_lost_has_no_sign(self):
+        """Powers whose sum rounds up after a surface that loses nothing, and any that a surface takes by less than is shown."""
+        text = "beam 500 nm s 0.1 p 0.7\n" + 3 * "surface ideal-ar transmitted from 1 to 1 at 0 deg\n"
+        status, out, _ = losses(text)
+        self.assertEqual((status, b"-0.0000" in out, out.count(b"  0.0000")), (0, False, 9))
+        # a program that gives back a little more, as no proved one does
+        more = f"1 T {bits(math.nextafter(0.5, 1))} {bits(0.5)}"
+        fake = shlex.join(["printf", f"{more}\\nsum {bits(1.0000000000000002)}\\n"])
+        status, out, _ = losses(KNOWN_SHEET, fake)
+        self.assertEqual((status, b"-0.0000" in out), (0, False), out)
+
+    def test_one_layer_is_no_plural(self):
+        _, out, _ = losses(BEAM + CUSTOM + LAYER)
+        self.assertIn(b"deg, 1 layer ", out)
+        _, out, _ = losses(BEAM + CUSTOM + 2 * LAYER)
+        self.assertIn(b"deg, 2 layers ", out)
+
+    def test_refusals_in_words(self):
+        for text, said in REFUSED:
+            with self.subTest(said):
+                self.assertEqual(losses(text), (1, b"", f"-: {said}\n"))
+
+    def test_figures_show_what_is_missed(self):
+        angle = math.acos(0.25) + 1e-9
+        _, _, said = losses(BEAM + f"surface bare transmitted from 1 to 4 at {angle!r} rad\n")
+        self.assertIn("the angle's cosine is 0.2499999990", said)
+        angle = math.asin(0.4375) + 1e-9
+        _, _, said = losses(BEAM + f"surface bare transmitted from 2 to 1 at {angle!r} rad\n")
+        self.assertIn("n_incident times sin is 0.875000", said)
+        self.assertIn(", more than 0.875 of the second index 1, 0.875", said)
+
+    def test_cut_sheets(self):
+        short = "refused 4 0: a sheet has a multiple of 4 bytes, from 36 to 30500; this has 35"
+        self.assertEqual(losses(KNOWN_SHEET[:35]), (1, b"", f"-: {short}\n"))
+        self.assertEqual(tool("show", "-", given=KNOWN_SHEET[:35]), (1, b"", f"-: {short}\n"))
+        status, _, said = losses(KNOWN_SHEET[:-4])
+        self.assertEqual((status, said.startswith("-: refused 5 15: word 15 ")), (1, True), said)
 
 
-def random_sheets(program):
-    """Of the oracle: what is out of grammar is refused at its place, all else is written back to the same bytes."""
-    with tempfile.TemporaryDirectory() as folder:
-        subprocess.run([str(ORACLE), "sheets", folder, "--seed", "1", "--count", "60"], check=True)
-        for sheet in sorted(Path(folder).glob("*.sheet")):
-            out = sheet.with_suffix(".out").read_text().strip()
-            status, shown, said = tool("show", str(sheet))
-            if out.startswith(("refused 4", "refused 5")):
-                check(sheet.name, (status, said.startswith(f"{sheet}: {out}: ")), (1, True))
-                continue
-            check(sheet.name, tool("write", "-", given=shown), (0, sheet.read_bytes(), ""))
-            status, _, said = tool("losses", str(sheet), "--program", program)
-            refused = out.startswith("refused")
-            check(f"{sheet.name}, losses", (status, said.startswith(f"{sheet}: {out}: ") if refused else said), (1, True) if refused else (0, ""))
+class Programs(unittest.TestCase):
+    """What is no program, or another one, gets a sentence and no traceback."""
+
+    def test_not_to_be_run(self):
+        for program, said in [
+            ("/nowhere", "-: the program '/nowhere' cannot be run: No such file or directory\n"),
+            ("/", "-: the program '/' cannot be run: Permission denied\n"),
+            (str(EXAMPLES / "window.txt"), f"-: the program '{EXAMPLES / 'window.txt'}' cannot be run: Permission denied\n"),
+            ("''", "-: the program '' cannot be run: "),
+        ]:
+            with self.subTest(program):
+                status, out, found = losses(KNOWN_SHEET, program)
+                self.assertEqual((status, out, found.startswith(said)), (1, b"", True), found)
+
+    def test_no_words(self):
+        for program in ['"', "a '", "", " "]:
+            with self.subTest(program):
+                status, out, said = tool("losses", "-", "--program", program, given=KNOWN_SHEET)
+                self.assertEqual((status, out, "Traceback" in said), (2, b"", False), said)
+
+    def test_other_programs(self):
+        for program in ["echo hello", "true", "false", "printf x", "printf 'refused 6'", "printf '\\377\\n'", "cat /dev/null", "sh -c 'kill $$'", "echo 'sum 3FE0000000000000'"]:
+            with self.subTest(program):
+                status, out, said = losses(KNOWN_SHEET, program)
+                self.assertEqual((status, out, "gave no answer" in said, "Traceback" in said), (1, b"", True, False), said)
+
+    def test_nothing_built(self):
+        """In a copy of the tools alone, what to run is said."""
+        with tempfile.TemporaryDirectory() as folder:
+            copy = Path(folder) / "tools"
+            copy.mkdir()
+            for name in ["sheet.py", "test_sheet.py"]:
+                (copy / name).write_bytes((ROOT / "tools" / name).read_bytes())
+            for name, words in [("sheet.py", ["losses", "-"]), ("test_sheet.py", [])]:
+                done = subprocess.run([sys.executable, str(copy / name), *words], input=KNOWN_SHEET, capture_output=True, check=False)
+                self.assertEqual((done.returncode, b"not built yet; run: rt check train" in done.stderr), (1, True), done.stderr)
 
 
-def main(arguments):
-    program = shlex.join(default_program())
-    if len(arguments) == 2 and arguments[0] == "--program":
-        program = arguments[1]
-    print(f"program: {program}")
-    examples(program)
-    known(program)
-    wrong(program)
-    if ORACLE.exists():
-        random_sheets(program)
-    else:
-        print("no random sheets: the oracle is not built")
-    print(f"{passed} passed, {failed} failed")
-    return 1 if failed else 0
+class Files(unittest.TestCase):
+    def test_full_disk(self):
+        for command, file in [("write", "window.txt"), ("show", "window.sheet"), ("losses", "window.txt")]:
+            with self.subTest(command), open("/dev/full", "wb") as full:
+                done = subprocess.run([*TOOL, command, str(EXAMPLES / file)], stdout=full, stderr=subprocess.PIPE, check=False)
+                said = f"{EXAMPLES / file}: the output cannot be written: No space left on device\n"
+                if command != "losses" or (ROOT / "target" / "bin" / "train").exists():
+                    self.assertEqual((done.returncode, done.stderr.decode()), (1, said))
+
+    def test_closed_ends(self):
+        words = shlex.join(TOOL)
+        for command in [f"{words} write {shlex.quote(str(EXAMPLES / 'window.txt'))} >&-", f"{words} write - <&-"]:
+            done = subprocess.run(["sh", "-c", command], capture_output=True, check=False)
+            self.assertEqual((done.returncode, b"is closed" in done.stderr, b"Traceback" in done.stderr), (1, True, False), done.stderr)
+
+    def test_what_is_no_file(self):
+        for name, said in [("/nowhere", "No such file or directory"), ("/", "Is a directory"), ("/dev/zero", "it has more than")]:
+            with self.subTest(name):
+                status, out, found = tool("show", name)
+                self.assertEqual((status, out, found.startswith(f"{name}: {said}")), (1, b"", True), found)
+
+
+class Texts(unittest.TestCase):
+    def wrong(self, text, said):
+        """Both commands that read a text say the same."""
+        with self.subTest(said):
+            self.assertEqual(tool("write", "-", given=text), (1, b"", f"-: {said}\n"))
+            self.assertEqual(losses(text), (1, b"", f"-: {said}\n"))
+
+    def test_bad_texts(self):
+        for text, said in BAD_TEXTS:
+            self.wrong(text, said)
+
+    def test_byte_order_mark(self):
+        self.assertEqual(tool("write", "-", given=b"\xef\xbb\xbf" + KNOWN_TEXT), (0, KNOWN_SHEET, ""))
+        self.assertEqual(losses(b"\xef\xbb\xbf" + KNOWN_TEXT), losses(KNOWN_TEXT))
+
+    def test_utf_16(self):
+        for encoding in ["utf-16", "utf-16-le", "utf-16-be"]:
+            self.wrong(KNOWN_TEXT.decode().encode(encoding), "the text is in UTF-16; save it as UTF-8")
+
+    def test_control_bytes(self):
+        for byte in [0, 7, 11, 12, 27, 28, 127]:
+            self.wrong(KNOWN_TEXT + b"# a comment " + bytes([byte]) + b"\n", f"line 3: the control byte 0x{byte:02X} stands in the text")
+
+    def test_other_encodings(self):
+        self.wrong(BEAM.encode() + "# Gl\u00e4ser\n".encode("latin-1"), "line 2: the byte 0xE4 is not UTF-8; save the text as UTF-8")
+
+    def test_line_ends(self):
+        for end in [b"\n", b"\r\n", b"\r"]:
+            self.assertEqual(tool("write", "-", given=KNOWN_TEXT.replace(b"\n", end)), (0, KNOWN_SHEET, ""))
+        for mark in ["\u2028", "\u2029", "\u0085"]:
+            comment = f"# one{mark}surface bare transmitted from 1 to 2 at 0 rad\n"
+            self.assertEqual(tool("write", "-", given=KNOWN_TEXT.decode() + comment), (0, KNOWN_SHEET, ""))
+
+    def test_other_digits(self):
+        for digits in ["\u0665\u0660\u0660", "\uff15\uff10\uff10", "5\u0660\u0660", "1_000", "nan", "inf", "0x1p3", "5,5"]:
+            self.wrong(f"beam {digits} nm s 0.5 p 0.5\n", f"line 1: '{digits}' is no number")
+
+
+class Numbers(unittest.TestCase):
+    def test_any_number_anywhere(self):
+        """Written, shown and written again: the same bytes. The gate judges; nothing is a traceback."""
+        usual = ["500", "0.5", "0.5", "1", "1.5", "0.3", "1.5", "1", "0.2", "1.38", "99", "0"]
+        form = "beam {} nm s {} p {}\nsurface bare transmitted from {} to {} at {} rad\nsurface custom transmitted from {} to {} at {} rad\nlayer {} thickness {} nm k {}\n"
+        special = ["-0", "1e999", "0xFFF4000000000001", "4.9e-324", "-1"]
+        for place in range(len(usual)):
+            for number in special:
+                with self.subTest(place=place, number=number):
+                    text = form.format(*(usual[:place] + [number] + usual[place + 1:]))
+                    status, sheet, said = tool("write", "-", given=text)
+                    self.assertEqual((status, len(sheet), "Traceback" in said), (0, 120, False), said)
+        status, shown, said = tool("show", "-", given=sheet)
+        self.assertEqual((status, tool("write", "-", given=shown)[1]), (0, sheet))
+        text = form.format(*["0xFFF4000000000001"] * len(usual))
+        sheet = tool("write", "-", given=text)[1]
+        self.assertEqual(tool("write", "-", given=tool("show", "-", given=sheet)[1])[1], sheet)
+        status, _, said = losses(text)
+        self.assertEqual((status, said.startswith("-: refused 6 1: the beam (line 1)"), "Traceback" in said), (1, True, False), said)
+
+
+class Hints(unittest.TestCase):
+    PLATE = "surface bare transmitted from 1 to 1.5 at 30 deg\nsurface bare transmitted from {} to 1 at {} deg\n"
+
+    def hints(self, text):
+        status, _, said = losses(BEAM + text)
+        written = tool("write", "-", given=BEAM + text)
+        self.assertEqual((status, written[0], written[2]), (0, 0, said))
+        return said
+
+    def test_fitting_neighbours(self):
+        for text in ["", self.PLATE.format("1.5", "19.47"), self.PLATE.format("1.5", "-19.1"), "surface bare reflected from 1 to 1.5 at 45 deg\nsurface bare transmitted from 1 to 2 at 0 deg\n"]:
+            self.assertEqual(self.hints(text), "")
+
+    def test_another_index(self):
+        self.assertEqual(self.hints(self.PLATE.format("1.6", "10")), "-: hint: surface 2 (line 3) begins in index 1.6; the light comes in index 1.5\n")
+        mirror = "surface bare reflected from 1 to 1.5 at 45 deg\nsurface bare transmitted from 1.5 to 1 at 0 deg\n"
+        self.assertEqual(self.hints(mirror), "-: hint: surface 2 (line 3) begins in index 1.5; the light comes in index 1\n")
+
+    def test_another_angle(self):
+        self.assertEqual(self.hints(self.PLATE.format("1.5", "30")), "-: hint: surface 2 (line 3) is at 30.00 deg; in a plate with parallel faces it is at 19.47 deg\n")
+
+
+class Documented(unittest.TestCase):
+    """What docs/SHEETS.md says of designs and angles."""
+
+    @staticmethod
+    def lost(surface, wavelength):
+        _, out, _ = losses(f"beam {wavelength} nm s 0.5 p 0.5\n{surface}\n")
+        return out.decode().split(" % lost")[0].split("whole train: ")[1]
+
+    def test_designs_are_for_550_nm(self):
+        mirror = "surface mirror reflected from 1 to 1.52 at 45 deg"
+        self.assertEqual([self.lost(mirror, wavelength) for wavelength in (550, 1064)], ["1.5420", "93.0329"])
+        self.assertEqual(self.lost("surface broadband-ar transmitted from 1 to 1.52 at 0 deg", 1064), "16.4585")
+        self.assertEqual(self.lost("surface bare transmitted from 1 to 1.52 at 0 deg", 1064), "4.2580")
+
+    def test_a_window_in_air_ends_at_61_degrees(self):
+        for outside, status in [(61, 0), (61.1, 1)]:
+            inside = math.degrees(math.asin(math.sin(math.radians(outside)) / 1.52))
+            faces = f"surface bare transmitted from 1 to 1.52 at {outside} deg\nsurface bare transmitted from 1.52 to 1 at {inside!r} deg\n"
+            found, _, said = losses(BEAM + faces)
+            self.assertEqual((found, "refused 6 15: surface 2" in said), (status, status == 1))
+        self.assertEqual(losses(BEAM + "surface bare transmitted from 1 to 1.52 at 75 deg\n")[0], 0)
+
+    def test_layers_from_the_lower_index(self):
+        layers = ["layer 1.38 thickness 99 nm\n", "layer 2.3 thickness 60 nm\n"]
+        into, out_of = "surface custom transmitted from 1 to 1.52 at 0 deg\n", "surface custom transmitted from 1.52 to 1 at 0 deg\n"
+        both = [losses(BEAM + way + "".join(layers))[1].decode().splitlines()[-1] for way in (into, out_of)]
+        self.assertEqual(both[0], both[1])
+        self.assertNotEqual(both[0], losses(BEAM + into + "".join(reversed(layers)))[1].decode().splitlines()[-1])
+
+    def test_the_most_layers_and_surfaces(self):
+        self.assertEqual(losses(BEAM + 64 * (CUSTOM + 16 * LAYER))[0], 0)
+
+
+class Commands(unittest.TestCase):
+    def test_help_and_version(self):
+        for words, start in [(["--help"], b"usage: "), (["-h"], b"usage: "), (["losses", "--help"], b"usage: "), (["--version"], b"sheet.py 1.")]:
+            status, out, said = tool(*words)
+            self.assertEqual((status, out.startswith(start), said), (0, True, ""))
+
+    def test_no_command(self):
+        for words in [[], ["read", "x"], ["write"], ["write", "a", "b"], ["show", "--program", "x", "y"]]:
+            status, out, said = tool(*words)
+            self.assertEqual((status, out, said.startswith("usage: ")), (2, b"", True))
+
+
+def main():
+    global PROGRAM
+    parser = argparse.ArgumentParser(description=__doc__)
+    parser.add_argument("--program", help="what `losses` runs")
+    given, rest = parser.parse_known_args()
+    default = None
+    if (ROOT / "target" / "bin" / "train").exists():
+        default = [str(ROOT / "tools" / "run"), "train"]
+    elif ORACLE.exists():
+        default = [str(ORACLE), "train"]
+    PROGRAM = given.program or (shlex.join(default) if default else None)
+    if not PROGRAM:
+        print("test_sheet.py: the program train is not built yet; run: rt check train", file=sys.stderr)
+        return 1
+    # nothing stale: what has changed since it was built is proved and built
+    if not given.program and default[-2:] == [str(ROOT / "tools" / "run"), "train"]:
+        if subprocess.run(["bash", "-c", "set -euo pipefail; . tools/lib.sh; proved train", "tools/test_sheet.py"], cwd=ROOT, check=False).returncode:
+            return 1
+    print(f"program: {PROGRAM}")
+    return 0 if unittest.main(argv=[sys.argv[0], *rest], exit=False).result.wasSuccessful() else 1
 
 
 if __name__ == "__main__":
-    sys.exit(main(sys.argv[1:]))
+    sys.exit(main())

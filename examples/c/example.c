@@ -16,19 +16,27 @@ static uint64_t bits(double x) {
     return b;
 }
 
-/* What a call returned, where it answered; else the end. */
+static void print_refusal(const char *call, uint64_t returned) {
+    printf("%s: refused %" PRIu32 " %" PRIu32 "\n", call, dihkelu_refusal(returned), dihkelu_place(returned));
+}
+
+/* The number of a call that answered; else the end. */
 static uint32_t answered(const char *call, uint64_t returned) {
-    if (DIHKELU_REFUSAL(returned) != 0) {
-        printf("%s: refused %" PRIu32 " %" PRIu32 "\n", call, DIHKELU_REFUSAL(returned), DIHKELU_VALUE(returned));
+    if (dihkelu_refusal(returned) != 0) {
+        print_refusal(call, returned);
         exit(1);
     }
-    return DIHKELU_VALUE(returned);
+    return dihkelu_value(returned);
 }
 
 int main(void) {
+    if (!dihkelu_environment_ok()) {
+        printf("subnormals are flushed, or rounding is not to nearest: no answer would be the proved one\n");
+        return 1;
+    }
     uint8_t sheet[sizeof words];
     for (size_t i = 0; i < sizeof words / sizeof words[0]; i++)
-        for (int j = 0; j < 4; j++) sheet[4 * i + j] = (uint8_t)(words[i] >> (24 - 8 * j));
+        for (size_t j = 0; j < 4; j++) sheet[4 * i + j] = (uint8_t)(words[i] >> (24 - 8 * j));
 
     uint32_t surfaces = answered("gate", dihkelu_gate(sheet, sizeof sheet));
     printf("surfaces %" PRIu32 "\n", surfaces);
@@ -54,12 +62,11 @@ int main(void) {
     answered("run", dihkelu_run(sheet, sizeof sheet, run, 2 * 64));
     printf("run %016" PRIX64 " %016" PRIX64 "\n", bits(run[0]), bits(run[1]));
 
-    double response[DIHKELU_RESPONSE], no_layers[1];
-    answered("evaluate", dihkelu_evaluate(2, 550.0, 1.0, 1.5, 0.0, 550.0, no_layers, 0, response, DIHKELU_RESPONSE));
+    double response[DIHKELU_RESPONSE];
+    answered("evaluate", dihkelu_evaluate(2, 550.0, 1.0, 1.5, 0.0, 550.0, NULL, 0, response, DIHKELU_RESPONSE));
     printf("MgF2 R_s %g T_s %g\n", response[8], response[10]);
 
     sheet[0] = 0;
-    uint64_t refused = dihkelu_gate(sheet, sizeof sheet);
-    printf("refused %" PRIu32 " %" PRIu32 "\n", DIHKELU_REFUSAL(refused), DIHKELU_VALUE(refused));
+    print_refusal("gate", dihkelu_gate(sheet, sizeof sheet));
     return 0;
 }

@@ -150,9 +150,17 @@ pub const WORKS: [(&str, usize); 17] = [
 
 /// Sheets of so many surfaces with so many layers each; without layers they are bare.
 pub fn run_sheets() -> Vec<Vec<u8>> {
-    [(1, 16), (8, 16), (64, 16), (64, 4), (64, 1), (1, 0), (64, 0)]
-        .map(|(surfaces, layers)| even(surfaces, layers).bytes())
-        .to_vec()
+    [
+        (1, 16),
+        (8, 16),
+        (64, 16),
+        (64, 4),
+        (64, 1),
+        (1, 0),
+        (64, 0),
+    ]
+    .map(|(surfaces, layers)| even(surfaces, layers).bytes())
+    .to_vec()
 }
 
 pub fn gate_sheets() -> Vec<Vec<u8>> {

@@ -1,63 +1,53 @@
 // The train through the static library `dihkelu`: gate, start, step, whole run and answers, held against `sheet` and
 // `train`, with what a refusal leaves in the lent list.
 
-use crate::record::bits;
-use crate::reference::thin_film::CoatingResponse;
+use crate::dihkelu;
+use crate::progress::Progress;
+use crate::record::{bits, numbers};
 use crate::sheet::{gate, Refusal};
 use crate::sheets::sheet;
 use crate::train::{answers, run, start, step, Light, State};
 use crate::values::{any, Rng};
 
-extern "C" {
-    fn dihkelu_gate(sheet: *const u8, sheet_count: usize) -> u64;
-    fn dihkelu_start(
-        sheet: *const u8,
-        sheet_count: usize,
-        list: *mut f64,
-        list_count: usize,
-    ) -> u64;
-    fn dihkelu_step(
-        sheet: *const u8,
-        sheet_count: usize,
-        done: u32,
-        s: f64,
-        p: f64,
-        list: *mut f64,
-        list_count: usize,
-    ) -> u64;
-    fn dihkelu_run(sheet: *const u8, sheet_count: usize, list: *mut f64, list_count: usize) -> u64;
-    fn dihkelu_answers(
-        sheet: *const u8,
-        sheet_count: usize,
-        surface: u32,
-        list: *mut f64,
-        list_count: usize,
-    ) -> u64;
-}
-
-// In each call both lists live for the call and do not overlap: one is borrowed mutably.
+// What each call returned, as one number.
 
 pub fn linked_gate(sheet: &[u8]) -> u64 {
-    unsafe { dihkelu_gate(sheet.as_ptr(), sheet.len()) }
+    returned(dihkelu::gate(sheet))
 }
 
 pub fn linked_start(sheet: &[u8], list: &mut [f64]) -> u64 {
-    unsafe { dihkelu_start(sheet.as_ptr(), sheet.len(), list.as_mut_ptr(), list.len()) }
+    returned(dihkelu::start(sheet, list))
 }
 
 pub fn linked_step(sheet: &[u8], state: State, list: &mut [f64]) -> u64 {
-    let (done, s, p) = (state.done as u32, state.s, state.p);
-    let (at, count) = (list.as_mut_ptr(), list.len());
-    unsafe { dihkelu_step(sheet.as_ptr(), sheet.len(), done, s, p, at, count) }
+    let done = state.done as u32;
+    returned(dihkelu::step(sheet, done, state.s, state.p, list))
 }
 
 pub fn linked_run(sheet: &[u8], list: &mut [f64]) -> u64 {
-    unsafe { dihkelu_run(sheet.as_ptr(), sheet.len(), list.as_mut_ptr(), list.len()) }
+    returned(dihkelu::run(sheet, list))
 }
 
 pub fn linked_answers(sheet: &[u8], surface: u32, list: &mut [f64]) -> u64 {
-    let (at, count) = (list.as_mut_ptr(), list.len());
-    unsafe { dihkelu_answers(sheet.as_ptr(), sheet.len(), surface, at, count) }
+    returned(dihkelu::answers(sheet, surface, list))
+}
+
+/// `at` is n_incident, n_substrate, angle, wavelength.
+pub fn linked_evaluate(
+    code: u32,
+    design: f64,
+    at: [f64; 4],
+    flat: &[f64],
+    list: &mut [f64],
+) -> u64 {
+    returned(dihkelu::evaluate(code, design, at, flat, list))
+}
+
+fn returned(outcome: Result<u32, dihkelu::Refusal>) -> u64 {
+    match outcome {
+        Ok(value) => u64::from(value),
+        Err(refusal) => u64::from(refusal.number) << 32 | u64::from(refusal.place),
+    }
 }
 
 /// A NaN with a payload of its own: a store, even of a NaN, would show.
@@ -97,17 +87,6 @@ fn step_agrees(bytes: &[u8], state: State, room: usize) -> bool {
     left(returned, number, &list, &written)
 }
 
-fn numbers(r: &CoatingResponse) -> Vec<f64> {
-    let mut list: Vec<f64> = [r.rs, r.rp, r.ts, r.tp]
-        .iter()
-        .flat_map(|z| [z.re, z.im])
-        .collect();
-    list.extend([r.reflectance_s, r.reflectance_p]);
-    list.extend([r.transmittance_s, r.transmittance_p]);
-    list.extend([r.phase_rs_rad, r.phase_rp_rad]);
-    list
-}
-
 /// A surface's answers as `dihkelu_answers` lays them out; 7 where there is no such surface.
 fn laid_out(bytes: &[u8], surface: u32) -> Result<Vec<f64>, Refusal> {
     let sheet = gate(bytes)?;
@@ -126,7 +105,7 @@ fn laid_out(bytes: &[u8], surface: u32) -> Result<Vec<f64>, Refusal> {
                 r.transmittance_s,
                 r.transmittance_p,
             ];
-            (1.0, powers, numbers(r))
+            (1.0, powers, numbers(r).to_vec())
         }
     };
     let mut list = vec![coated];
@@ -149,13 +128,15 @@ fn answers_agree(bytes: &[u8], surface: u32, room: usize) -> bool {
     left(returned, number, &list, &written)
 }
 
-/// Every call on one sheet: calls made, and the name of the first that differs.
-fn sheet_agrees(bytes: &[u8], rng: &mut Rng) -> (u64, Option<&'static str>) {
+/// Every call on one sheet: calls made, and the name of the first that differs. Where it is `spoiled`, what is expected
+/// of the gate is wrong.
+fn sheet_agrees(bytes: &[u8], rng: &mut Rng, spoiled: bool) -> (u64, Option<&'static str>) {
     let gated = gate(bytes);
     let count = gated.as_ref().map_or(0, |sheet| sheet.surfaces.len());
     let counted = gated.as_ref().map(|sheet| sheet.surfaces.len() as u64);
     let mut calls = 1;
-    if linked_gate(bytes) != counted.map_or_else(|r| packed(*r), |n| n) {
+    let number = counted.unwrap_or_else(|r| packed(*r));
+    if linked_gate(bytes) != number ^ u64::from(spoiled) {
         return (calls, Some("gate"));
     }
     for room in [0, 1, 2, 3] {
@@ -221,13 +202,15 @@ fn sheet_agrees(bytes: &[u8], rng: &mut Rng) -> (u64, Option<&'static str>) {
 }
 
 /// Holds the exports against the Rust on `count` random sheets, valid and damaged. Returns calls and sheets that differ.
-pub fn compare_trains(seed: u64, count: u64) -> (u64, u64) {
+pub fn compare_trains(seed: u64, count: u64, spoiled: Option<u64>) -> (u64, u64) {
     let mut rng = Rng::new(seed);
+    let mut progress = Progress::new("sheets", count);
     let (mut calls, mut different) = (0, 0);
-    for _ in 0..count {
+    for number in 0..count {
         let bytes = sheet(&mut rng);
-        let (made, first) = sheet_agrees(&bytes, &mut rng);
+        let (made, first) = sheet_agrees(&bytes, &mut rng, spoiled == Some(number));
         calls += made;
+        progress.step();
         if let Some(name) = first {
             if different == 0 {
                 println!("{name}: sheet {bytes:02X?}");

@@ -5,12 +5,17 @@
 pub mod arguments;
 pub mod bench;
 pub mod cases;
+#[cfg(feature = "proved")]
+#[path = "../../include/dihkelu.rs"]
+pub mod dihkelu;
 pub mod examples;
 #[cfg(feature = "proved")]
 pub mod exports;
 pub mod feed;
+pub mod findings;
 pub mod functions;
 pub mod measure;
+pub mod progress;
 pub mod proved;
 pub mod record;
 pub mod section2;

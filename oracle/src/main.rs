@@ -1,6 +1,6 @@
 // The commands of the oracle: see README.md.
 
-use oracle::{bench, examples, feed, functions, measure, proved, sheets, train, values};
+use oracle::{bench, examples, feed, findings, functions, measure, proved, sheets, train, values};
 use std::fs;
 use std::io::{self, BufReader, Read, Write};
 use std::path::Path;
@@ -8,14 +8,15 @@ use std::process::ExitCode;
 
 const USAGE: &str = "\
 oracle record [--only GROUP].. [--count N] [--seed S] > FILE
-oracle feed --seed S --count N [--only GROUP].. -- PROGRAM ARGS..
+oracle feed --seed S --count N [--only GROUP].. [--spoil I] -- PROGRAM ARGS..
 oracle check < FILE
 oracle table
 oracle train < SHEET
 oracle sheets DIRECTORY [--seed S] [--count N]
 oracle examples DIRECTORY
+oracle findings
 oracle bench [--runs N]
-oracle compare [--seed S] [--count N]
+oracle compare [--seed S] [--count N] [--spoil I]
 oracle measure [--seed S] [--count N]
 groups: ieee elementary complex thin_film fresnel polarization names sheet train";
 
@@ -26,6 +27,7 @@ struct Options {
     count: Option<u64>,
     seed: Option<u64>,
     runs: Option<u64>,
+    spoiled: Option<u64>,
     rest: Vec<String>,
 }
 
@@ -59,6 +61,7 @@ fn options(arguments: &[String]) -> Result<Options, String> {
             "--count" => found.count = Some(number()?),
             "--seed" => found.seed = Some(number()?),
             "--runs" => found.runs = Some(number()?),
+            "--spoil" => found.spoiled = Some(number()?),
             _ => return Err(format!("there is no option {argument}")),
         }
     }
@@ -92,13 +95,13 @@ fn execute(command: &str, options: &Options) -> Result<bool, String> {
             if options.rest.is_empty() {
                 return Err("feed needs a program".to_string());
             }
-            feed::feed(&options.rest, &options.groups, seed, count).map_err(said)
+            feed::feed(&options.rest, &order(options, seed, count)).map_err(said)
         }
         "check" => {
             let mut input = BufReader::new(io::stdin().lock());
             let (count, different) = feed::check(&mut input).map_err(said)?;
             println!("{} of {count} agree", count - different);
-            Ok(different == 0)
+            Ok(count > 0 && different == 0)
         }
         "table" => {
             for f in functions::table() {
@@ -129,6 +132,7 @@ fn execute(command: &str, options: &Options) -> Result<bool, String> {
             }
             Ok(true)
         }
+        "findings" => Ok(findings::print()),
         "bench" => {
             bench::bench(options.runs.unwrap_or(9) as usize);
             Ok(true)
@@ -138,9 +142,18 @@ fn execute(command: &str, options: &Options) -> Result<bool, String> {
             print!("{}", found.table());
             Ok(found.sound())
         }
-        "compare" => proved::compare(seed, options.count.unwrap_or(1_000_000))
+        "compare" => proved::compare(seed, options.count.unwrap_or(1_000_000), options.spoiled)
             .ok_or("compare needs a build with the feature `proved`".to_string()),
         _ => Err(format!("there is no command {command}")),
+    }
+}
+
+fn order(options: &Options, seed: u64, count: u64) -> feed::Order<'_> {
+    feed::Order {
+        groups: &options.groups,
+        seed,
+        count,
+        spoiled: options.spoiled,
     }
 }
 
@@ -149,7 +162,7 @@ fn record(options: &Options, seed: u64) -> io::Result<bool> {
     match options.count {
         None => out.write_all(&functions::sample(&options.groups, seed))?,
         Some(count) => {
-            feed::send(&mut out, &options.groups, seed, count)?;
+            feed::send(&mut out, &order(options, seed, count))?;
         }
     }
     out.flush()?;

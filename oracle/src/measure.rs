@@ -1,8 +1,7 @@
 // `oracle measure`: random surfaces within section 3's limits, and what their evaluation comes to.
 
-use crate::reference::thin_film::{
-    evaluate_tmm_multilayer, CoatingResponse, Complex, ThinFilmLayer,
-};
+use crate::record::numbers;
+use crate::reference::thin_film::{evaluate_tmm_multilayer, Complex, ThinFilmLayer};
 use crate::section2::{abs, asin, sin, sqrt, PI, T};
 use crate::sheet::{limits, preset_layers, Sheet, Surface};
 use crate::traced::{bare, solve, Count, Of, Seen};
@@ -216,22 +215,6 @@ pub fn admitted(rng: &mut Rng) -> Sheet {
             return sheet;
         }
     }
-}
-
-fn numbers(r: &CoatingResponse) -> [f64; 14] {
-    let z = [r.rs, r.rp, r.ts, r.tp].map(|z| [z.re, z.im]);
-    let z = z.as_flattened();
-    let mut list = [0.0; 14];
-    list[..8].copy_from_slice(z);
-    list[8..].copy_from_slice(&[
-        r.reflectance_s,
-        r.reflectance_p,
-        r.transmittance_s,
-        r.transmittance_p,
-        r.phase_rs_rad,
-        r.phase_rp_rad,
-    ]);
-    list
 }
 
 pub fn all_finite(found: &Answers) -> bool {

@@ -18,39 +18,6 @@ mod linked {
         fn dihkelu_atan(x: f64) -> f64;
         fn dihkelu_asin(x: f64) -> f64;
         fn dihkelu_atan2(y: f64, x: f64) -> f64;
-        fn dihkelu_evaluate(
-            code: u32,
-            design_wavelength_nm: f64,
-            n_incident: f64,
-            n_substrate: f64,
-            angle_incident_rad: f64,
-            wavelength_nm: f64,
-            layers: *const f64,
-            layers_count: usize,
-            list: *mut f64,
-            list_count: usize,
-        ) -> u64;
-    }
-
-    /// `at` is n_incident, n_substrate, angle, wavelength.
-    pub fn evaluate(code: u32, design: f64, at: [f64; 4], flat: &[f64], list: &mut [f64]) -> u64 {
-        let [n_incident, n_substrate, angle, wavelength] = at;
-        let (layers, list_at) = (flat.as_ptr(), list.as_mut_ptr());
-        // Both lists live for the call and do not overlap: one is borrowed mutably.
-        unsafe {
-            dihkelu_evaluate(
-                code,
-                design,
-                n_incident,
-                n_substrate,
-                angle,
-                wavelength,
-                layers,
-                flat.len(),
-                list_at,
-                list.len(),
-            )
-        }
     }
 
     // These take and return plain numbers and touch no memory.
@@ -76,7 +43,7 @@ pub fn scalars() -> Option<Scalars> {
 }
 
 #[cfg(feature = "proved")]
-pub use linked::evaluate;
+use crate::exports::linked_evaluate;
 
 /// The proved workloads, in the order of `bench::WORKS`; a bare surface alone is not exported.
 pub fn works() -> Option<Vec<Option<Work>>> {
@@ -96,7 +63,7 @@ fn evaluations() -> Vec<Option<Work>> {
             let mut list = [0.0; 14];
             let transmitted = |at: &crate::bench::Place| {
                 let at = [at.n_incident, at.n_substrate, at.angle, at.wavelength];
-                evaluate(code, 550.0, at, &flat, &mut list);
+                linked_evaluate(code, 550.0, at, &flat, &mut list);
                 list[10]
             };
             places.iter().map(transmitted).sum()
@@ -135,40 +102,52 @@ fn evaluations() -> Vec<Option<Work>> {
 
 /// Holds `dihkelu_evaluate` against `SurfaceCoating::evaluate` on `count` calls. Returns how many differ.
 #[cfg(feature = "proved")]
-fn compare_evaluate(seed: u64, count: u64) -> u64 {
+fn compare_evaluate(seed: u64, count: u64, spoiled: Option<u64>) -> u64 {
     use crate::arguments::random;
+    use crate::progress::Progress;
     use crate::record::bits;
     use crate::values::Rng;
 
     let table = crate::functions::table();
     let function = table.iter().find(|f| f.number == 70).expect("evaluate");
     let mut rng = Rng::new(seed);
+    let mut progress = Progress::new("evaluate", count);
     let mut different = 0;
-    for _ in 0..count {
+    for made in 0..count {
         let words = random(function.args, &mut rng);
         let float = |i: usize| f64::from_bits(words[i]);
         let flat: Vec<f64> = (7..words.len()).map(float).collect();
         let at = [float(2), float(3), float(4), float(5)];
         let mut list = [0.0; 14];
-        let returned = evaluate(words[0] as u32, float(1), at, &flat, &mut list);
+        let returned = linked_evaluate(words[0] as u32, float(1), at, &flat, &mut list);
         let mut ours = vec![returned >> 32];
         match returned >> 32 {
             0 => ours.extend(list.iter().map(|x| bits(*x))),
             _ => ours.push(returned & 0xFFFF_FFFF),
         }
-        let theirs = function.record(words.clone()).results;
+        let mut theirs = function.record(words.clone()).results;
+        theirs[0] ^= u64::from(spoiled == Some(made));
         if ours != theirs || (ours[0] == 0 && returned != 14) {
             if different == 0 {
                 println!("evaluate: arguments {words:X?}, Rust {theirs:X?}, proved {ours:X?}");
             }
             different += 1;
         }
+        progress.step();
     }
     different
 }
 
-/// Holds the library against section 2 on `count` arguments for each function. Returns whether all agree.
-pub fn compare(seed: u64, count: u64) -> Option<bool> {
+/// Prints how many agree. Returns whether all do, and there are some.
+fn agree(name: &str, count: u64, different: u64, what: &str) -> bool {
+    println!("{name}: {} of {count}{what} agree", count - different);
+    count > 0 && different == 0
+}
+
+/// Holds the library against section 2 on `count` arguments for each function, against `SurfaceCoating::evaluate` on
+/// as many, and against the train on a tenth as many sheets. Returns whether all agree. What is expected of call
+/// number `spoiled` of each is wrong, so that the comparison can be tried itself.
+pub fn compare(seed: u64, count: u64, spoiled: Option<u64>) -> Option<bool> {
     use crate::arguments::{random, Arg};
     use crate::record::bits;
     use crate::values::Rng;
@@ -188,37 +167,36 @@ pub fn compare(seed: u64, count: u64) -> Option<bool> {
     for (i, name) in NAMES.iter().enumerate() {
         let mut rng = Rng::new(seed);
         let mut different = 0_u64;
-        for _ in 0..count {
+        for made in 0..count {
             let words = random(arguments[i], &mut rng);
             let first = f64::from_bits(words[0]);
             let second = f64::from_bits(words.get(1).copied().unwrap_or(0));
-            let (ours, theirs) = (reference[i](first, second), proved[i](first, second));
-            if bits(ours) != bits(theirs) {
+            let theirs = bits(reference[i](first, second)) ^ u64::from(spoiled == Some(made));
+            let ours = bits(proved[i](first, second));
+            if ours != theirs {
                 if different == 0 {
                     println!(
-                        "{name}: arguments {words:X?}, section 2 {:016X}, proved {:016X}",
-                        bits(ours),
-                        bits(theirs)
+                        "{name}: arguments {words:X?}, section 2 {theirs:016X}, proved {ours:016X}"
                     );
                 }
                 different += 1;
             }
         }
-        println!("{name}: {} of {count} agree", count - different);
-        all_agree &= different == 0;
+        all_agree &= agree(name, count, different, "");
     }
     #[cfg(feature = "proved")]
     {
-        let different = compare_evaluate(seed, count);
-        println!("evaluate: {} of {count} agree", count - different);
-        all_agree &= different == 0;
-        let (calls, different) = crate::exports::compare_trains(seed, count / 10);
-        println!(
-            "gate, start, step, run, answers: {} of {} sheets agree, {calls} calls",
-            count / 10 - different,
-            count / 10
+        let different = compare_evaluate(seed, count, spoiled);
+        all_agree &= agree("evaluate", count, different, "");
+        let sheets = (count / 10).max(count.min(1));
+        let (calls, different) = crate::exports::compare_trains(seed, sheets, spoiled);
+        all_agree &= agree(
+            "gate, start, step, run, answers",
+            sheets,
+            different,
+            " sheets",
         );
-        all_agree &= different == 0;
+        println!("  in {calls} calls");
     }
     Some(all_agree)
 }

@@ -16,6 +16,23 @@ pub fn bits(x: f64) -> u64 {
     }
 }
 
+/// A response's numbers in their order.
+pub fn numbers(r: &CoatingResponse) -> [f64; 14] {
+    let z = [r.rs, r.rp, r.ts, r.tp].map(|z| [z.re, z.im]);
+    let z = z.as_flattened();
+    let mut list = [0.0; 14];
+    list[..8].copy_from_slice(z);
+    list[8..].copy_from_slice(&[
+        r.reflectance_s,
+        r.reflectance_p,
+        r.transmittance_s,
+        r.transmittance_p,
+        r.phase_rs_rad,
+        r.phase_rp_rad,
+    ]);
+    list
+}
+
 /// Result words under construction.
 #[derive(Default)]
 pub struct Words(pub Vec<u64>);
@@ -51,17 +68,7 @@ impl Words {
     }
 
     pub fn response(&mut self, r: &CoatingResponse) {
-        for z in [r.rs, r.rp, r.ts, r.tp] {
-            self.complex(z);
-        }
-        self.floats(&[
-            r.reflectance_s,
-            r.reflectance_p,
-            r.transmittance_s,
-            r.transmittance_p,
-            r.phase_rs_rad,
-            r.phase_rp_rad,
-        ]);
+        self.floats(&numbers(r));
     }
 
     pub fn jones_vector(&mut self, v: JonesVector) {

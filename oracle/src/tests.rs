@@ -1,8 +1,10 @@
-// Unit tests: section 2's edges, 01's known answers, sheets and trains, records, exports, measured surfaces, what lies beyond the limits.
+// Unit tests: section 2's edges, 01's known answers, sheets and trains, records, programs fed with them, exports, measured surfaces, findings, what lies beyond the limits.
 
 mod beyond;
 #[cfg(feature = "proved")]
 mod exports;
+mod feed;
+mod findings;
 mod known;
 mod measure;
 mod records;

@@ -1,6 +1,6 @@
 // dihkelu_evaluate: refusals in their order, which leave the list as it was, and an answer that leaves its rest.
 
-use crate::proved::evaluate;
+use crate::exports::linked_evaluate;
 
 /// A list of NaNs of odd payloads, quiet and signalling, none like another.
 fn lent(count: usize) -> Vec<f64> {
@@ -18,7 +18,7 @@ const PLACE: [f64; 4] = [1.0, 1.5, 0.3, 550.0];
 fn returned(code: u32, at: [f64; 4], flat: &[f64], count: usize) -> u64 {
     let mut list = lent(count);
     let before = bytes(&list);
-    let returned = evaluate(code, 550.0, at, flat, &mut list);
+    let returned = linked_evaluate(code, 550.0, at, flat, &mut list);
     let after = bytes(&list);
     if returned >> 32 == 0 {
         assert_eq!(returned, 14);

@@ -1,6 +1,6 @@
 // Records: the format, the table, the sample, README's list of functions.
 
-use crate::feed::{check, send};
+use crate::feed::{check, send, Order};
 use crate::functions::{of_groups, sample, table, GROUPS, SAMPLE_BYTES, SAMPLE_RECORDS};
 use crate::record::{Arguments, Record, Words};
 
@@ -85,7 +85,14 @@ fn the_sample_is_large_and_small_enough() {
 fn the_same_seed_gives_the_same_records() {
     let made = |seed| {
         let mut out = Vec::new();
-        assert_eq!(send(&mut out, &[], seed, 500).expect("written"), 500);
+        let order = Order {
+            groups: &[],
+            seed,
+            count: 500,
+            spoiled: None,
+        };
+        let sent = send(&mut out, &order).expect("written");
+        assert_eq!(sent.values().sum::<u64>(), 500);
         out
     };
     assert_eq!(made(3), made(3));

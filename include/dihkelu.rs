@@ -1,0 +1,144 @@
+//! The calls of libdihkelu.a for Rust, as include/dihkelu.h has them for C, which says what each does and writes. Take
+//! this file into a crate as a module and link the static library.
+#![allow(dead_code)]
+
+// A slice is a pointer and a count.
+extern "C" {
+    fn dihkelu_gate(sheet: *const u8, sheet_count: usize) -> u64;
+    fn dihkelu_start(
+        sheet: *const u8,
+        sheet_count: usize,
+        list: *mut f64,
+        list_count: usize,
+    ) -> u64;
+    fn dihkelu_step(
+        sheet: *const u8,
+        sheet_count: usize,
+        surfaces_done: u32,
+        s: f64,
+        p: f64,
+        list: *mut f64,
+        list_count: usize,
+    ) -> u64;
+    fn dihkelu_run(sheet: *const u8, sheet_count: usize, list: *mut f64, list_count: usize) -> u64;
+    fn dihkelu_answers(
+        sheet: *const u8,
+        sheet_count: usize,
+        surface: u32,
+        list: *mut f64,
+        list_count: usize,
+    ) -> u64;
+    fn dihkelu_evaluate(
+        code: u32,
+        design_wavelength_nm: f64,
+        n_incident: f64,
+        n_substrate: f64,
+        angle_incident_rad: f64,
+        wavelength_nm: f64,
+        layers: *const f64,
+        layers_count: usize,
+        list: *mut f64,
+        list_count: usize,
+    ) -> u64;
+}
+
+/// How many numbers `evaluate` writes, and `answers` for a bare and for a coated surface.
+pub const RESPONSE: usize = 14;
+pub const BARE: usize = 53;
+pub const COATED: usize = 67;
+
+/// A refusal of document 01.
+#[derive(Clone, Copy, Debug, PartialEq)]
+pub struct Refusal {
+    pub number: u32,
+    pub place: u32,
+}
+
+/// What a call returned, taken apart: the refusal's number is the high half, so all 64 bits are looked at.
+fn outcome(returned: u64) -> Result<u32, Refusal> {
+    let (number, low) = ((returned >> 32) as u32, returned as u32);
+    match number {
+        0 => Ok(low),
+        _ => Err(Refusal { number, place: low }),
+    }
+}
+
+// In each call the slices are valid and the list, being exclusive, overlaps nothing: that is all that the calls ask of
+// memory.
+
+/// The gate: the count of surfaces.
+pub fn gate(sheet: &[u8]) -> Result<u32, Refusal> {
+    outcome(unsafe { dihkelu_gate(sheet.as_ptr(), sheet.len()) })
+}
+
+/// A fresh train: writes s and p, gives the count of surfaces.
+pub fn start(sheet: &[u8], list: &mut [f64]) -> Result<u32, Refusal> {
+    let (at, count) = (list.as_mut_ptr(), list.len());
+    outcome(unsafe { dihkelu_start(sheet.as_ptr(), sheet.len(), at, count) })
+}
+
+/// A step: writes the next s and p, gives the surfaces done then.
+pub fn step(sheet: &[u8], done: u32, s: f64, p: f64, list: &mut [f64]) -> Result<u32, Refusal> {
+    let (at, count) = (list.as_mut_ptr(), list.len());
+    outcome(unsafe { dihkelu_step(sheet.as_ptr(), sheet.len(), done, s, p, at, count) })
+}
+
+/// A whole run: writes s, p after each surface, gives the count of surfaces.
+pub fn run(sheet: &[u8], list: &mut [f64]) -> Result<u32, Refusal> {
+    let (at, count) = (list.as_mut_ptr(), list.len());
+    outcome(unsafe { dihkelu_run(sheet.as_ptr(), sheet.len(), at, count) })
+}
+
+/// The answers of a surface, counted from 0: gives how many numbers it wrote.
+pub fn answers(sheet: &[u8], surface: u32, list: &mut [f64]) -> Result<u32, Refusal> {
+    let (at, count) = (list.as_mut_ptr(), list.len());
+    outcome(unsafe { dihkelu_answers(sheet.as_ptr(), sheet.len(), surface, at, count) })
+}
+
+/// One coated surface at n_incident, n_substrate, angle and wavelength; the layers are n, k, thickness one after the
+/// other. Gives how many numbers it wrote.
+pub fn evaluate(
+    code: u32,
+    design_wavelength_nm: f64,
+    [n_incident, n_substrate, angle, wavelength]: [f64; 4],
+    layers: &[f64],
+    list: &mut [f64],
+) -> Result<u32, Refusal> {
+    outcome(unsafe {
+        dihkelu_evaluate(
+            code,
+            design_wavelength_nm,
+            n_incident,
+            n_substrate,
+            angle,
+            wavelength,
+            layers.as_ptr(),
+            layers.len(),
+            list.as_mut_ptr(),
+            list.len(),
+        )
+    })
+}
+
+/// Whether subnormals are kept and rounding is to nearest, as dihkelu_environment_ok of the header finds out. A Rust
+/// program starts so; C code that it is linked with may have changed it.
+pub fn environment_ok() -> bool {
+    let seen = std::hint::black_box::<f64>;
+    let (one, tie) = (seen(1.0), seen(f64::EPSILON / 2.0));
+    let subnormal = seen(seen(f64::MIN_POSITIVE) * seen(0.5));
+    let found = [
+        subnormal,
+        subnormal + subnormal,
+        one + tie,
+        seen(-1.0) - tie,
+        one + 3.0 * tie,
+    ];
+    let wanted = [
+        1 << 51,
+        1 << 52,
+        0x3FF << 52,
+        0xBFF << 52,
+        (0x3FF << 52) + 2,
+    ];
+    found.map(|x| seen(x).to_bits()) == wanted
+}
