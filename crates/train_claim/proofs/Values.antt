@@ -9,8 +9,7 @@ use lib.ListN.{length, take}
 use lib.Seq.{take-all}
 use lib.Ieee.{Float}
 use Rattle.ieee.specs.Operators.{_⊗_}
-use Rattle.sheet.specs.Sheet.{SheetSurface, Sheet}
-use Rattle.sheet_values.specs.Nth.{nth}
+use Rattle.sheet.specs.Sheet.{SheetSurface, nth, Sheet}
 use Rattle.sheet_values.specs.Values.{value}
 use Rattle.train_steps.specs.Train.{chosen-powers, fresh, after-one}
 use Rattle.train_claim.specs.Claim.{product, chosen-s, chosen-p, worked-out}

@@ -1,25 +1,25 @@
 -- Demand 3, whole. Types only; `proofs/Claim.antt` inhabits `TrainClaim`.
 use mathlib.Core.Path.{_≡_}
 use mathlib.Core.Bool.{_&&_}
-use mathlib.Core.List.{List, [], _∷_}
+use mathlib.Core.List.{List, [], _∷_, map}
 use Prim.Native.Nat.{ℕ, suc, _+_, _*_, _≤_, _<_, min}
 use lib.Dec.{T}
 use lib.ListN.{length, getD, take}
 use lib.Ieee.{Float, le}
-use Rattle.sheet_surfaces.specs.Surfaces.{surface-answers}
-use Rattle.sheet_values.specs.Nth.{nth}
 use Rattle.ieee.specs.Operators.{_⊗_}
 use Rattle.ieee.specs.Functions.{zero-f}
 use Rattle.refusal.specs.Outcome.{answer, refusal}
-use Rattle.surface.specs.Answers.{answers, powers}
-use Rattle.surface.specs.Finite as Finite
-use Rattle.surface.specs.Finite.{Finite}
-use Rattle.sheet.specs.Sheet.{SheetSurface, Sheet, All, WellFormed, encode}
+use Rattle.surface.specs.Answers.{answers}
+use Rattle.surface.specs.Finite.{Finite, Answered}
+use Rattle.sheet.specs.Blocks.{All}
+use Rattle.sheet.specs.Sheet.{SheetSurface, nth, Sheet, WellFormed}
+use Rattle.sheet.specs.Claim.{Bytes}
 use Rattle.sheet_values.specs.Values.{value, films, surface-value}
+use Rattle.sheet_surfaces.specs.Surfaces.{surface-answers}
 use Rattle.gate.specs.Gate.{gated}
 use Rattle.gate.specs.Claim.{WithinLimits, GateClaim}
 use Rattle.train_steps.specs.declared.State.{State}
-use Rattle.train_steps.specs.Train.{chosen-powers, fresh, start, step, run, sum}
+use Rattle.train_steps.specs.Train.{chosen-powers, fresh, start, after-one, step, state-after, run, sum}
 
 -- ---- section 7's values, from a sheet's data alone: the BEAM's powers, multiplied in sheet order by the chosen powers of so many surfaces from the first on
 unfoldable pub product : Float → List Float → Float
@@ -38,7 +38,11 @@ chosen-p wavelength (y ∷ ys) = chosen-powers wavelength y .p ∷ chosen-p wave
 unfoldable pub worked-out : Sheet → ℕ → State
 worked-out x n =
     let w = value (x .wavelength) in
-    record { done = min n (length (x .surfaces)); s = product (value (x .s)) (chosen-s w (take n (x .surfaces))); p = product (value (x .p)) (chosen-p w (take n (x .surfaces))) }
+    record {
+      done = min n (length (x .surfaces));
+      s = product (value (x .s)) (chosen-s w (take n (x .surfaces)));
+      p = product (value (x .p)) (chosen-p w (take n (x .surfaces)));
+    }
 
 -- ---- a list of actions, all with one sheet
 pub data Action : Type 0 where
@@ -46,7 +50,7 @@ pub data Action : Type 0 where
 
 -- the state that an action returns, which is the state as before where it was refused
 abbrev pub act : List ℕ → Action → State → State
-act src a-step st = step src st .state
+act src a-step st = state-after st (step src st)
 
 abbrev pub acts : List ℕ → List Action → State → State
 acts src [] st = st
@@ -68,44 +72,58 @@ abbrev pub AllFall : List ℕ → List Action → State → Type 0
 AllFall src [] st = Unit
 AllFall src (a ∷ more) st = Falls st (act src a st) × AllFall src more (act src a st)
 
--- ---- every power, amplitude, phase, Jones and Mueller entry of a surface's answers is finite, and its powers alone are those of its answers
-pub record AnsweredWhole (wavelength : Float) (y : SheetSurface) : Type 0 where
-  pub answered : Finite.Answered wavelength (surface-value y) (films (y .layers))
-  pub powers : powers wavelength (surface-value y) (films (y .layers)) ≡ answer (answered .value .powers)
-
--- ---- the claim for one admitted sheet
+-- ---- demand 3 for one admitted sheet, in its own words
 pub record AdmittedSheet (src : List ℕ) (x : Sheet) : Type 0 where
-  -- the first step has Start
+  -- 'For every admitted sheet, take every list of steps from its fresh train'
   pub starts : start src ≡ answer (fresh x)
-  -- over every list of actions, the refused ones included: the values at its end, and the bounds at each of its actions
-  pub lists : (actions : List Action) → (acts src actions (fresh x) ≡ worked-out x (count-steps actions)) × AllFall src actions (fresh x)
-  -- a whole run that is not refused writes the same, surface by surface; the rest of the list is untouched
+  -- 'refused steps included; each is handed that sheet and the train that the last one returned. After the list the train holds the surfaces done, s and p that
+  -- 01's section 7 works out from the sheet.'
+  pub lists : (actions : List Action) → acts src actions (fresh x) ≡ worked-out x (count-steps actions)
+  -- 'Each step leaves s and p at least zero and no larger than they were, and their sum no larger than it was.'
+  pub falls : (actions : List Action) → AllFall src actions (fresh x)
+  -- 'A whole run that is not refused writes the same s and p, surface by surface.'
   pub runs : (list : List Float) → 2 * length (x .surfaces) ≤ length list → run src list .result ≡ answer (length (x .surfaces))
-  pub writes-s : (list : List Float) → 2 * length (x .surfaces) ≤ length list → (d : Float) (i : ℕ) → i < length (x .surfaces) → getD (run src list .list) (2 * i) d ≡ worked-out x (suc i) .s
-  pub writes-p : (list : List Float) → 2 * length (x .surfaces) ≤ length list → (d : Float) (i : ℕ) → i < length (x .surfaces) → getD (run src list .list) (2 * i + 1) d ≡ worked-out x (suc i) .p
-  pub leaves : (list : List Float) → 2 * length (x .surfaces) ≤ length list → (d : Float) (i : ℕ) → 2 * length (x .surfaces) ≤ i → getD (run src list .list) i d ≡ getD list i d
-  -- a step is not refused where surfaces done is under the sheet's count; otherwise it is, with 7, and the state is as before
-  pub accepted : (st : State) → st .done < length (x .surfaces) → step src st .refusal ≡ record { number = 0; place = 0 }
-  pub seven : (st : State) → length (x .surfaces) ≤ st .done → step src st ≡ record { refusal = record { number = 7; place = 0 }; state = st }
-  -- a whole run is refused with 8 where its list is shorter than 2 × surfaces, and the list is as before
-  pub eight : (list : List Float) → length list < 2 * length (x .surfaces) → run src list ≡ record { result = refusal 8 0; list = list }
-  -- the answers of a surface that a sheet has are that surface's; 7 where it has none
-  pub asked : (i : ℕ) → i < length (x .surfaces) → let y = nth (x .surfaces) i in surface-answers src i ≡ answers (value (x .wavelength)) (surface-value y) (films (y .layers))
-  pub no-surface : (i : ℕ) → length (x .surfaces) ≤ i → surface-answers src i ≡ refusal 7 0
-  -- every answer is finite, and so are s, p and their sum after any number of steps
-  pub answers : All (AnsweredWhole (value (x .wavelength))) (x .surfaces)
+  pub writes-s : (list : List Float) → 2 * length (x .surfaces) ≤ length list → (d : Float) (i : ℕ) → i < length (x .surfaces)
+      → getD (run src list .list) (2 * i) d ≡ worked-out x (suc i) .s
+  pub writes-p : (list : List Float) → 2 * length (x .surfaces) ≤ length list → (d : Float) (i : ℕ) → i < length (x .surfaces)
+      → getD (run src list .list) (2 * i + 1) d ≡ worked-out x (suc i) .p
+  -- 'Every power, amplitude, phase, Jones and Mueller entry of that sheet's surfaces' answers under demand 2, as section 7 names them, is finite.'
+  pub answers : All (λ (y : SheetSurface). Answered (value (x .wavelength)) (surface-value y) (films (y .layers))) (x .surfaces)
+  -- and so are s, p and their sum after any number of steps
   pub finite : (n : ℕ) → (Finite (worked-out x n .s) × Finite (worked-out x n .p)) × Finite (sum (worked-out x n .s) (worked-out x n .p))
+
+-- ---- what else each call does with an admitted sheet, of any state and any list
+pub record EveryCall (src : List ℕ) (x : Sheet) : Type 0 where
+  -- a step of any state is taken where surfaces done is under the sheet's count, and refused with 7 otherwise
+  pub taken : (st : State) → st .done < length (x .surfaces) → step src st ≡ answer (after-one (value (x .wavelength)) st (nth (x .surfaces) (st .done)))
+  pub seven : (st : State) → length (x .surfaces) ≤ st .done → step src st ≡ refusal 7 0
+  -- a whole run leaves the rest of its list; it is refused with 8 where the list is shorter than 2 × surfaces, and the list is as before
+  pub leaves : (list : List Float) → 2 * length (x .surfaces) ≤ length list → (d : Float) (i : ℕ) → 2 * length (x .surfaces) ≤ i → getD (run src list .list) i d ≡ getD list i d
+  pub eight : (list : List Float) → length list < 2 * length (x .surfaces) → run src list ≡ record { result = refusal 8 0; list = list }
+  -- the answers of a surface that the sheet has are that surface's; 7 where it has none
+  pub answered : (i : ℕ) → i < length (x .surfaces) → let y = nth (x .surfaces) i in surface-answers src i ≡ answers (value (x .wavelength)) (surface-value y) (films (y .layers))
+  pub no-surface : (i : ℕ) → length (x .surfaces) ≤ i → surface-answers src i ≡ refusal 7 0
 
 -- ---- the claim for bytes that the gate refuses: every call has the same refusal and leaves what it was lent
 pub record TurnedBack (src : List ℕ) (number place : ℕ) : Type 0 where
   pub starts : start src ≡ refusal number place
-  pub steps : (st : State) → step src st ≡ record { refusal = record { number = number; place = place }; state = st }
+  pub steps : (st : State) → step src st ≡ refusal number place
   pub runs : (list : List Float) → run src list ≡ record { result = refusal number place; list = list }
-  pub asked : (i : ℕ) → surface-answers src i ≡ refusal number place
+  pub answered : (i : ℕ) → surface-answers src i ≡ refusal number place
 
--- ---- demand 3: the gate admits exactly the sheets of 01's grammar and limits, and every admitted sheet has all of this; there is such a sheet
+-- ---- an admitted sheet that has every payload, and LAYERs after both coatings 5: no limit refuses every coated surface
+pub record EveryPayload : Type 0 where
+  pub sheet : Sheet
+  pub formed : WellFormed sheet
+  pub within : WithinLimits sheet
+  pub payloads : map (λ (y : SheetSurface). y .payload) (sheet .surfaces) ≡ 0 ∷ 1 ∷ 2 ∷ 3 ∷ 4 ∷ 5 ∷ 6 ∷ 7 ∷ 8 ∷ 9 ∷ 10 ∷ 11 ∷ 12 ∷ 13 ∷ 14 ∷ 15 ∷ []
+  pub layers : map (λ (y : SheetSurface). length (y .layers)) (sheet .surfaces) ≡ 0 ∷ 0 ∷ 0 ∷ 0 ∷ 0 ∷ 0 ∷ 0 ∷ 0 ∷ 0 ∷ 0 ∷ 1 ∷ 16 ∷ 0 ∷ 0 ∷ 0 ∷ 0 ∷ []
+
+-- ---- demand 3
 pub record TrainClaim : Type 0 where
+  -- 'For any bytes, the gate admits them as a sheet exactly when they meet 01's grammar and limits.'
   pub gate : GateClaim
-  pub admitted : (x : Sheet) → WellFormed x → WithinLimits x → AdmittedSheet (encode x) x
+  pub admitted : (src : List ℕ) → Bytes src → (x : Sheet) → gated src ≡ answer x → AdmittedSheet src x
+  pub every-call : (src : List ℕ) → Bytes src → (x : Sheet) → gated src ≡ answer x → EveryCall src x
   pub turned-back : (src : List ℕ) (number place : ℕ) → gated src ≡ refusal number place → TurnedBack src number place
-  pub one : (x : Sheet) × (WellFormed x × WithinLimits x)
+  pub one : EveryPayload
