@@ -14,14 +14,13 @@ use Rattle.thin_film_coating.specs.declared.Coating.{Coating}
 use Rattle.thin_film_coating.specs.declared.Coating.the-variants as C
 use Rattle.thin_film.specs.declared.SurfaceCoating.{SurfaceCoating}
 use Rattle.thin_film.specs.Coating.{coating-of, layers-of}
-use Rattle.thin_film_layers.specs.Walk.{ordered}
+use Rattle.thin_film_layers.specs.Evaluation.{ordered}
 use Rattle.thin_film_valid.specs.Valid.{valid}
 use Rattle.thin_film_coating.specs.Evaluate.{respond, evaluate-coating}
 use Rattle.thin_film.specs.Evaluate.{evaluate-surface}
 use Rattle.gate_limits.specs.declared.Interface.{Interface}
 use Rattle.gate_limits.specs.declared.Interface.the-variants.{Bare, Coated}
-use Rattle.gate_limits.specs.Coating.{coded}
-use Rattle.c_layers.specs.Evaluate.{layers, evaluate-coded, evaluate}
+use Rattle.c_layers.specs.Evaluate.{layers, call-coating, evaluate-coded, evaluate}
 
 abbrev pub Plain : {A : Type 0} → Outcome A → Type 0
 Plain (answer a) = Unit {0}
@@ -59,4 +58,4 @@ module _ (n-incident n-substrate angle wavelength : Float) where
 
   pub of-code : (code : ℕ) (design : Float) (flat : List Float) → Plain (evaluate code design n-incident n-substrate angle wavelength flat)
   unfolding evaluate
-  of-code code design flat = either (eqb (length flat % 3) 0) (evaluate-coded (coded code design) flat n-incident n-substrate angle wavelength) invalid-parameter (of-coded (coded code design) flat) (omega arith, refl)
+  of-code code design flat = either (eqb (length flat % 3) 0) (evaluate-coded (call-coating code design) flat n-incident n-substrate angle wavelength) invalid-parameter (of-coded (call-coating code design) flat) (omega arith, refl)

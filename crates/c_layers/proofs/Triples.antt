@@ -6,7 +6,7 @@ use mathlib.Core.List.{List, [], _∷_}
 use lib.ListN.{length, getD}
 use lib.Ieee.{Float, nan}
 use Rattle.thin_film_solver.specs.declared.ThinFilmLayer.{ThinFilmLayer}
-use Rattle.thin_film_layers.specs.Walk.{no-layer}
+use Rattle.thin_film_layers.specs.Evaluation.{no-layer}
 use Rattle.c_layers.specs.Evaluate.{layers}
 
 pub count : (flat : List Float) → length (layers flat) ≡ length flat / 3

@@ -8,6 +8,8 @@ use lib.Ieee.{Float}
 use Rattle.refusal.specs.Outcome.{Outcome, invalid-parameter}
 use Rattle.thin_film_solver.specs.declared.ThinFilmLayer.{ThinFilmLayer}
 use Rattle.thin_film_solver.specs.declared.CoatingResponse.{CoatingResponse}
+use Rattle.thin_film_coating.specs.declared.Coating.the-variants as C
+use Rattle.thin_film.specs.declared.SurfaceCoating.the-variants as S
 use Rattle.thin_film.specs.Evaluate.{evaluate-surface}
 use Rattle.gate_limits.specs.declared.Interface.{Interface}
 use Rattle.gate_limits.specs.declared.Interface.the-variants.{Bare, Coated}
@@ -20,6 +22,10 @@ layers (n ∷ []) = []
 layers (n ∷ k ∷ []) = []
 layers (n ∷ k ∷ thickness ∷ flat) = record { n = n; k = k; «thickness_nm» = thickness } ∷ layers flat
 
+-- a sheet's codes, and 8 for Custom(IdealAr), so that each SurfaceCoating has one
+unfoldable pub call-coating : ℕ → Float → Interface
+call-coating code design = cond (eqb code 8) (Coated (S.Custom C.IdealAr)) (coded code design)
+
 -- SurfaceCoating::evaluate of a coating; where a code has none it is 1
 unfoldable pub evaluate-coded : Interface → List Float → Float → Float → Float → Float → Outcome CoatingResponse
 evaluate-coded (Coated surface) flat n-incident n-substrate angle wavelength = evaluate-surface surface (layers flat) n-incident n-substrate angle wavelength
@@ -28,4 +34,4 @@ evaluate-coded Bare flat n-incident n-substrate angle wavelength = invalid-param
 -- 1 for a flat list that is no multiple of 3
 unfoldable pub evaluate : ℕ → Float → Float → Float → Float → Float → List Float → Outcome CoatingResponse
 evaluate code design n-incident n-substrate angle wavelength flat =
-    cond (eqb (length flat % 3) 0) (evaluate-coded (coded code design) flat n-incident n-substrate angle wavelength) invalid-parameter
+    cond (eqb (length flat % 3) 0) (evaluate-coded (call-coating code design) flat n-incident n-substrate angle wavelength) invalid-parameter

@@ -3,14 +3,17 @@
 ghost use mathlib.Core.Path.{_≡_};
 ghost use Prim.Native.Nat.{_<_, _+_, _*_};
 ghost use lib.ListN.{length, getD};
-ghost use Rattle.thin_film_solver.specs.Stack.{steps};
-ghost use Rattle.thin_film_layers.specs.Walk.{ordered, no-layer, outcome};
+ghost use Rattle.thin_film_solver.specs.Internal.{solved};
+ghost use Rattle.thin_film_layers.specs.Evaluation.{ordered, no-layer, outcome};
 ghost use Rattle.thin_film.specs.Evaluate.{evaluate-surface};
-ghost use Rattle.c_layers.specs.Evaluate.{layers, evaluate};
+ghost use Rattle.c_layers.specs.Evaluate.{layers, call-coating, evaluate};
 use gate_limits::Interface;
 use thin_film::SurfaceCoating;
+use thin_film_coating::Coating;
 use thin_film_layers::Evaluation;
-use thin_film_solver::Stack;
+use thin_film_layers::Prepared;
+use thin_film_solver::CoatingResponse;
+use thin_film_solver::Incidence;
 use thin_film_solver::ThinFilmLayer;
 
 // The j-th layer.
@@ -25,19 +28,24 @@ fn layer_at(flat: &[f64], j: usize) -> ThinFilmLayer
     }
 }
 
-// A stack with every layer of the list, read from either end.
-fn through(flat: &[f64], far: bool, start: Stack) -> Stack
-    ensures { λ r. ⌜ r ≡ steps start (ordered far (layers (now (flat .entry)))) ⌝ }
+// The response with every layer of the list, in its order or reversed.
+fn solve(flat: &[f64], reversed: bool, light: Incidence) -> CoatingResponse
+    ensures { λ r. ⌜ r ≡ solved light (ordered reversed (layers (now (flat .entry)))) ⌝ }
 {
     let n = flat.len() / 3;
-    let mut stack = start;
+    let mut ms = thin_film_matrix::identity();
+    let mut mp = thin_film_matrix::identity();
     let mut i = 0;
     while i < n {
-        let j = thin_film_layers::nth_index(far, n, i);
-        stack = thin_film_solver::step(stack, layer_at(flat, j));
+        let j = thin_film_layers::nth_index(reversed, n, i);
+        let terms = thin_film_solver::terms_of(light, layer_at(flat, j));
+        let next_s = thin_film_solver::step_s(ms, terms);
+        let next_p = thin_film_solver::step_p(mp, terms);
+        ms = next_s;
+        mp = next_p;
         i += 1;
     }
-    stack
+    thin_film_solver::finish(light, ms, mp)
 }
 
 // A coating beside its layers.
@@ -51,20 +59,27 @@ fn evaluate_known(
 ) -> Evaluation
     ensures { λ r. ⌜ outcome r ≡ evaluate-surface coating (layers (now (flat .entry))) «n_incident» «n_substrate» «angle_incident_rad» «wavelength_nm» ⌝ }
 {
-    let pending = thin_film::reading::prepare_surface(
+    match thin_film::reading::prepare_surface(
         coating,
         flat.len() / 3,
         n_incident,
         n_substrate,
         angle_incident_rad,
         wavelength_nm,
-    );
-    if pending.read {
-        let start = pending.stack;
-        Evaluation::Response(thin_film_solver::finish(through(flat, pending.far, start)))
-    } else {
-        thin_film_layers::conclude(pending)
+    ) {
+        Prepared::Answered(answer) => answer,
+        Prepared::Layers { reversed, light } => Evaluation::Response(solve(flat, reversed, light)),
     }
+}
+
+// From a code to a coating: a sheet's codes, and 8 for Custom(IdealAr).
+fn coating_of(code: u32, design_wavelength_nm: f64) -> Interface
+    ensures { λ r. ⌜ r ≡ call-coating code «design_wavelength_nm» ⌝ }
+{
+    if code == 8 {
+        return Interface::Coated(SurfaceCoating::Custom(Coating::IdealAr));
+    }
+    gate_limits::coded(code, design_wavelength_nm)
 }
 
 // The coating by its code, the layers in a flat list; 1 for a code that has no coating, and for a
@@ -83,7 +98,7 @@ pub fn evaluate(
     if flat.len() % 3 != 0 {
         return Evaluation::Refused(refusal::INVALID_PARAMETER);
     }
-    match gate_limits::coded(code, design_wavelength_nm) {
+    match coating_of(code, design_wavelength_nm) {
         Interface::Coated(coating) => evaluate_known(
             coating,
             flat,

@@ -1,12 +1,8 @@
 -- What dihkelu_start, dihkelu_step and dihkelu_run return and write, over document 01's train. Definitions only.
-use mathlib.Core.Bool.{cond}
 use Prim.Native.Nat.{ℕ}
-use lib.Dec.{eqb}
-use Rattle.refusal.specs.Outcome.{Outcome, answer, refusal}
 use Rattle.sheet.specs.Sheet.{Sheet}
-use Rattle.gate.specs.Gate.{surfaces-of}
+use Rattle.sheet.specs.Read.{surfaces-of}
 use Rattle.train_steps.specs.declared.State.{State}
-use Rattle.train_steps.specs.declared.Stepped.{Stepped}
 use Rattle.train_steps.specs.Train.{fresh, Ran}
 use Rattle.c_call.specs.Call.{Done, done, Reply, returned}
 use Rattle.c_call.specs.Layout.{both}
@@ -22,10 +18,6 @@ start-layout x = state-layout (surfaces-of x) (fresh x)
 -- dihkelu_step: the surfaces done, and the powers after them
 abbrev pub step-layout : State → Reply
 step-layout st = state-layout (st .done) st
-
--- a step's state, or its refusal, whose number is not 0
-abbrev pub step-outcome : Stepped → Outcome State
-step-outcome r = cond (eqb (r .refusal .number) 0) (answer (r .state)) (refusal (r .refusal .number) (r .refusal .place))
 
 -- dihkelu_run: the count of surfaces, and the list as the run leaves it
 abbrev pub run-done : Ran → Done

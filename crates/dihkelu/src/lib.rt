@@ -9,10 +9,11 @@ ghost use Rattle.c_call.specs.Call.{done, Apart, returned, answered};
 ghost use Rattle.c_call.specs.Layout.{evaluated, surface-answered};
 ghost use Rattle.train_steps.specs.Train.{step, run};
 ghost use Rattle.sheet_surfaces.specs.Surfaces.{surface-answers};
-ghost use Rattle.dihkelu.specs.Train.{start-layout, step-layout, step-outcome, run-done};
+ghost use Rattle.dihkelu.specs.Train.{start-layout, step-layout, run-done};
 use gate::Gated;
 use thin_film_layers::Evaluation;
 use train_steps::State;
+use train_steps::TrainReply;
 
 // ---- a coated surface
 
@@ -75,12 +76,10 @@ pub extern "C" fn dihkelu_start(sheet: &[u8], list: &mut [f64]) -> u64
     ensures { λ r. ⌜ done r (now (list .exit)) ≡ answered start-layout (gated (now (sheet .entry))) (now (list .entry)) ⌝ }
 {
     match gate::gate(sheet) {
-        Gated::Admitted(count) => c_call::put_powers(
-            count as u64,
-            sheet::float_from(sheet, 4),
-            sheet::float_from(sheet, 6),
-            list,
-        ),
+        Gated::Admitted(count) => {
+            let beam = sheet_values::beam_of(sheet);
+            c_call::put_powers(count as u64, beam.s, beam.p, list)
+        }
         Gated::Refused(r) => c_call::packed(r),
     }
 }
@@ -95,22 +94,17 @@ pub extern "C" fn dihkelu_step(
     p: f64,
     list: &mut [f64],
 ) -> u64
-    ensures { λ r. ⌜ done r (now (list .exit)) ≡ answered step-layout (step-outcome (step (now (sheet .entry)) (record { done = «surfaces_done»; s = s; p = p }))) (now (list .entry)) ⌝ }
+    ensures { λ r. ⌜ done r (now (list .exit)) ≡ answered step-layout (step (now (sheet .entry)) (record { done = «surfaces_done»; s = s; p = p })) (now (list .entry)) ⌝ }
 {
-    let stepped = train_steps::step(
-        sheet,
-        State {
-            done: surfaces_done,
-            s,
-            p,
-        },
-    );
-    let refusal = stepped.refusal;
-    if refusal.number != 0 {
-        return c_call::packed(refusal);
+    let state = State {
+        done: surfaces_done,
+        s,
+        p,
+    };
+    match train_steps::step(sheet, state) {
+        TrainReply::State(next) => c_call::put_powers(next.done as u64, next.s, next.p, list),
+        TrainReply::Refused(r) => c_call::packed(r),
     }
-    let state = stepped.state;
-    c_call::put_powers(state.done as u64, state.s, state.p, list)
 }
 
 // A whole run: writes s, p after each surface and returns the count of surfaces; or a refusal: 4, 5,

@@ -132,15 +132,15 @@ module _ (b : Float) (code : ℕ) where
   unfolding coded interface layers-of mirror-layers
   at-mirror e = sym (ap presets e ∙ pairs-is 6 b)
 
-  none : (p q r t u : Bool) → true ≡ layers-within b (preset-layers (cond p (Coated S.IdealAr) (cond q (Coated (S.Custom C.Multilayer)) (cond r (Coated (S.Custom C.IdealBeamsplitter)) (cond t (Coated (S.Custom C.IdealMirror)) (cond u (Coated (S.Custom C.IdealAr)) Bare))))))
+  none : (p q r t : Bool)
+      → true ≡ layers-within b (preset-layers (cond p (Coated S.IdealAr) (cond q (Coated (S.Custom C.Multilayer)) (cond r (Coated (S.Custom C.IdealBeamsplitter)) (cond t (Coated (S.Custom C.IdealMirror)) Bare)))))
   unfolding layers-of layers-within
-  none true q r t u = refl
-  none false true r t u = refl
-  none false false true t u = refl
-  none false false false true u = refl
-  none false false false false true = refl
-  none false false false false false = refl
+  none true q r t = refl
+  none false true r t = refl
+  none false false true t = refl
+  none false false false true = refl
+  none false false false false = refl
 
   pub at-others : (code ≡ 2 → ⊥) → (code ≡ 3 → ⊥) → (code ≡ 4 → ⊥) → true ≡ layers-within b (preset-layers (interface code))
   unfolding coded interface
-  at-others f g h = simp (ne-eqb code 2 f, ne-eqb code 3 g, ne-eqb code 4 h) (none (eqb code 1) (eqb code 5) (eqb code 6) (eqb code 7) (eqb code 8))
+  at-others f g h = simp (ne-eqb code 2 f, ne-eqb code 3 g, ne-eqb code 4 h) (none (eqb code 1) (eqb code 5) (eqb code 6) (eqb code 7))

@@ -11,8 +11,8 @@ use Rattle.thin_film.specs.Coating.{standard-wavelength, layers-of}
 use Rattle.gate_limits.specs.declared.Interface.{Interface}
 use Rattle.gate_limits.specs.declared.Interface.the-variants.{Bare, Coated}
 
--- payload / 2 is the coating: 0 bare, 1 IdealAr, 2 MgF2, 3 BroadbandAr, 4 HighReflectanceMirror, 5 Custom layers, 6 Coating::IdealBeamsplitter, 7 Coating::IdealMirror.
--- 8, which no sheet has, is Custom(IdealAr), so that each SurfaceCoating has a code
+-- payload / 2 is the coating: 0 bare, 1 IdealAr, 2 MgF2, 3 BroadbandAr, 4 HighReflectanceMirror, 5 Custom layers,
+-- 6 Coating::IdealBeamsplitter, 7 Coating::IdealMirror
 unfoldable pub coded : ℕ → Float → Interface
 coded code design =
     cond (eqb code 1) (Coated S.IdealAr)
@@ -21,8 +21,7 @@ coded code design =
     (cond (eqb code 4) (Coated S.HighReflectanceMirror)
     (cond (eqb code 5) (Coated (S.Custom C.Multilayer))
     (cond (eqb code 6) (Coated (S.Custom C.IdealBeamsplitter))
-    (cond (eqb code 7) (Coated (S.Custom C.IdealMirror))
-    (cond (eqb code 8) (Coated (S.Custom C.IdealAr)) Bare)))))))
+    (cond (eqb code 7) (Coated (S.Custom C.IdealMirror)) Bare))))))
 
 -- a sheet's MgF2 is at 550
 unfoldable pub interface : ℕ → Interface

@@ -22,7 +22,7 @@ pub enum Interface {
     Coated(SurfaceCoating),
 }
 
-// From a code to a coating. Code 5 is made of layers of its own; 8, Custom(IdealAr), is in no sheet.
+// From a code to a coating. Code 5 is made of layers of its own.
 pub fn coded(code: u32, design_wavelength_nm: f64) -> Interface
     ensures { λ r. ⌜ r ≡ coded code «design_wavelength_nm» ⌝ }
 {
@@ -42,8 +42,6 @@ pub fn coded(code: u32, design_wavelength_nm: f64) -> Interface
         Interface::Coated(SurfaceCoating::Custom(Coating::IdealBeamsplitter))
     } else if code == 7 {
         Interface::Coated(SurfaceCoating::Custom(Coating::IdealMirror))
-    } else if code == 8 {
-        Interface::Coated(SurfaceCoating::Custom(Coating::IdealAr))
     } else {
         Interface::Bare
     }

@@ -3,8 +3,8 @@
 ghost use mathlib.Core.Path.{_≡_};
 ghost use Rattle.sheet.specs.Internal.{next-place, place-on, layer-at, layers-at};
 ghost use Rattle.sheet_values.specs.Values.{film, films};
-ghost use Rattle.thin_film_solver.specs.Stack.{steps};
-ghost use Rattle.thin_film_layers.specs.Walk.{ordered, outcome};
+ghost use Rattle.thin_film_solver.specs.Internal.{solved};
+ghost use Rattle.thin_film_layers.specs.Evaluation.{ordered, outcome};
 ghost use Rattle.thin_film.specs.Evaluate.{evaluate-surface};
 ghost use Rattle.surface.specs.Answers.{answers, powers, returned};
 ghost use Rattle.sheet_answers.specs.Outcome.{outcome-of};
@@ -15,7 +15,9 @@ use surface::AnswersReply;
 use surface::Powers;
 use thin_film::SurfaceCoating;
 use thin_film_layers::Evaluation;
-use thin_film_solver::Stack;
+use thin_film_layers::Prepared;
+use thin_film_solver::CoatingResponse;
+use thin_film_solver::Incidence;
 use thin_film_solver::ThinFilmLayer;
 
 // A surface's powers alone, or a refusal.
@@ -31,22 +33,27 @@ pub fn layer_after(src: &[u8], at: usize, j: usize) -> ThinFilmLayer
     sheet_values::layer_at(src, sheet::place_on(src, sheet::next_place(src, at), j))
 }
 
-// The stack with the n LAYERs after the block at a place, read from either end.
-fn through(src: &[u8], at: usize, n: usize, far: bool, start: Stack) -> Stack
-    ensures { λ r. ⌜ r ≡ steps start (ordered far (films (layers-at (now (src .entry)) (next-place (now (src .entry)) at) n))) ⌝ }
+// The response with the n LAYERs after the block at a place, in their order or reversed.
+fn solve(src: &[u8], at: usize, n: usize, reversed: bool, light: Incidence) -> CoatingResponse
+    ensures { λ r. ⌜ r ≡ solved light (ordered reversed (films (layers-at (now (src .entry)) (next-place (now (src .entry)) at) n))) ⌝ }
 {
-    let mut stack = start;
+    let mut ms = thin_film_matrix::identity();
+    let mut mp = thin_film_matrix::identity();
     let mut i = 0;
     while i < n {
-        let j = thin_film_layers::nth_index(far, n, i);
-        stack = thin_film_solver::step(stack, layer_after(src, at, j));
+        let j = thin_film_layers::nth_index(reversed, n, i);
+        let terms = thin_film_solver::terms_of(light, layer_after(src, at, j));
+        let next_s = thin_film_solver::step_s(ms, terms);
+        let next_p = thin_film_solver::step_p(mp, terms);
+        ms = next_s;
+        mp = next_p;
         i += 1;
     }
-    stack
+    thin_film_solver::finish(light, ms, mp)
 }
 
-// A coated surface. Only Custom(Multilayer) has the LAYERs after it, which are read from the far end
-// where light goes from the denser medium to the rarer one.
+// A coated surface. Only Custom(Multilayer) has the LAYERs after it, which are reversed where light
+// goes from the denser medium to the rarer one.
 fn evaluate_at(
     src: &[u8],
     at: usize,
@@ -57,19 +64,22 @@ fn evaluate_at(
 ) -> Evaluation
     ensures { λ r. ⌜ outcome r ≡ evaluate-surface coating (films (layers-at (now (src .entry)) (next-place (now (src .entry)) at) n)) (surface .«n_incident») (surface .«n_substrate») (surface .«angle_rad») «wavelength_nm» ⌝ }
 {
-    let pending = thin_film::reading::prepare_surface(
+    match thin_film::reading::prepare_surface(
         coating,
         n,
         surface.n_incident,
         surface.n_substrate,
         surface.angle_rad,
         wavelength_nm,
-    );
-    if pending.read {
-        let start = pending.stack;
-        Evaluation::Response(thin_film_solver::finish(through(src, at, n, pending.far, start)))
-    } else {
-        thin_film_layers::conclude(pending)
+    ) {
+        Prepared::Answered(answer) => answer,
+        Prepared::Layers { reversed, light } => Evaluation::Response(solve(
+            src,
+            at,
+            n,
+            reversed,
+            light,
+        )),
     }
 }
 

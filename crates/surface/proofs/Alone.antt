@@ -15,7 +15,8 @@ use Rattle.gate_limits.specs.declared.Interface.the-variants.{Bare, Coated}
 use Rattle.surface.specs.declared.Powers.{Powers}
 use Rattle.surface.specs.declared.Answers.{Answers}
 use Rattle.gate_limits.specs.Coating.{interface}
-use Rattle.surface.specs.Answers.{assembled, coated-answers, coated-powers, bare-powers, no-response, bare-answers, answers-of, powers-of}
+use Rattle.thin_film_solver.specs.Solve.{no-response}
+use Rattle.surface.specs.Answers.{assembled, coated-answers, coated-powers, bare-powers, bare-answers, answers-of, powers-of}
 use Rattle.surface.specs.Finite.{PowersAnswered}
 
 -- the powers of an outcome; p where it refuses

@@ -29,7 +29,7 @@ use Rattle.thin_film_coating.specs.declared.Coating.the-variants as C
 use Rattle.thin_film.specs.declared.SurfaceCoating.{SurfaceCoating}
 use Rattle.thin_film.specs.declared.SurfaceCoating.the-variants as S
 use Rattle.thin_film.specs.Coating.{coating-of, layers-of, mgf2-layers, mirror-layers}
-use Rattle.thin_film_layers.specs.Walk.{ordered}
+use Rattle.thin_film_layers.specs.Evaluation.{ordered}
 use Rattle.thin_film_presets.specs.Layers.{broadband-layers, bragg-layers}
 use Rattle.thin_film_valid.specs.Valid.{valid}
 use Rattle.thin_film_valid.specs.Ideal.{ideal-ar, ideal-mirror, ideal-beamsplitter}
@@ -88,6 +88,7 @@ root-half : In 1 1 1 0 (sqrt half)
 root-half = sqrt-in half-in tt
 
 ideal-ar-bounded : Bounded ideal-ar
+unfolding Solve.respond
 ideal-ar-bounded = record {
   rs = zero-pow 411;
   rp = zero-pow 411;
@@ -102,6 +103,7 @@ ideal-ar-bounded = record {
 }
 
 ideal-mirror-bounded : Bounded ideal-mirror
+unfolding Solve.respond
 ideal-mirror-bounded = record {
   rs = of-real-pow 411 (neg-mag one-mag) tt;
   rp = of-real-pow 411 one-mag tt;
@@ -116,6 +118,7 @@ ideal-mirror-bounded = record {
 }
 
 ideal-beamsplitter-bounded : Bounded ideal-beamsplitter
+unfolding Solve.respond
 ideal-beamsplitter-bounded = record {
   rs = of-real-pow 411 (in-mag root-half) tt;
   rp = of-real-pow 411 (in-mag root-half) tt;

@@ -25,7 +25,8 @@ use Rattle.gate_limits.specs.declared.Interface.the-variants.{Bare, Coated}
 use Rattle.surface.specs.declared.Powers.{Powers}
 use Rattle.gate_limits.specs.Coating.{interface, preset-layers}
 use Rattle.gate_limits.specs.Limits.{within, layers-pass, surface-passes, passes}
-use Rattle.surface.specs.Answers.{assembled, coated-powers, coated-answers, bare-powers, no-response, bare-answers, answers-of, answers}
+use Rattle.thin_film_solver.specs.Solve.{respond, no-response}
+use Rattle.surface.specs.Answers.{assembled, coated-powers, coated-answers, bare-powers, bare-answers, answers-of, answers}
 use Rattle.surface.specs.Finite.{UnitPowers, FiniteComplex, FiniteResponse, Answered, EverySurfaceAnswered, ProductFalls, SumFalls}
 use Rattle.gate_limits.proofs.Ranges.{wavelength-in, Inside, surface-in}
 use Rattle.surface.proofs.Polarized.{PowerJones, jones-finite, mueller-finite}
@@ -52,6 +53,7 @@ zero-finite : FiniteComplex zero
 zero-finite = record { re = zero-mag .fine; im = zero-mag .fine }
 
 none-finite : FiniteResponse no-response
+unfolding respond
 none-finite = record {
   rs = zero-finite;
   rp = zero-finite;

@@ -12,7 +12,8 @@ use Rattle.polarization.specs.Surface.{indices-valid, bare, surface-fresnel-jon
 use Rattle.gate_limits.specs.declared.Surface.{Surface}
 use Rattle.surface.specs.declared.Answers.{Answers}
 use Rattle.surface.specs.declared.AnswersReply.{AnswersReply}
-use Rattle.surface.specs.Answers.{assembled, bare-powers, no-response, bare-answers, returned, outcome}
+use Rattle.thin_film_solver.specs.Solve.{no-response}
+use Rattle.surface.specs.Answers.{assembled, bare-powers, bare-answers, returned, outcome}
 
 -- by the test of surface_fresnel_jones
 module _ (f : SurfaceJones → Answers) (m : SurfaceJones) where

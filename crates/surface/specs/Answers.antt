@@ -10,6 +10,7 @@ use Rattle.thin_film_complex.specs.Complex.{zero}
 use Rattle.refusal.specs.Outcome.{Outcome, answer, refusal, map}
 use Rattle.thin_film_solver.specs.declared.ThinFilmLayer.{ThinFilmLayer}
 use Rattle.thin_film_solver.specs.declared.CoatingResponse.{CoatingResponse}
+use Rattle.thin_film_solver.specs.Solve.{no-response}
 use Rattle.thin_film.specs.Evaluate.{evaluate-surface}
 use Rattle.fresnel.specs.Fresnel.{fresnel-dielectric}
 use Rattle.polarization.specs.declared.SurfaceJones.{SurfaceJones}
@@ -55,20 +56,6 @@ bare-powers s =
     record { «reflectance_s» = r .rs; «reflectance_p» = r .rp; «transmittance_s» = one ⊖ r .rs; «transmittance_p» = one ⊖ r .rp }
 
 -- a bare surface has no response
-abbrev pub no-response : CoatingResponse
-no-response = record {
-  rs = zero;
-  rp = zero;
-  ts = zero;
-  tp = zero;
-  «reflectance_s» = zero-f;
-  «reflectance_p» = zero-f;
-  «transmittance_s» = zero-f;
-  «transmittance_p» = zero-f;
-  «phase_rs_rad» = zero-f;
-  «phase_rp_rad» = zero-f;
-}
-
 unfoldable pub bare-answers : Surface → Outcome Answers
 bare-answers s = map (assembled false (bare-powers s) no-response) (surface-fresnel-jones (s .«n_incident») (s .«n_substrate») (s .«angle_rad»))
 

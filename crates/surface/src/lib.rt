@@ -1,7 +1,7 @@
 // The answers of one surface of a train: document 01's section 7.
 ghost use mathlib.Core.Path.{_≡_};
 ghost use Rattle.refusal.specs.Outcome.{refusal};
-ghost use Rattle.surface.specs.Answers.{assembled, coated-powers, coated-answers, bare-powers, no-response, bare-answers, no-answers, returned};
+ghost use Rattle.surface.specs.Answers.{assembled, coated-powers, coated-answers, bare-powers, bare-answers, no-answers, returned};
 use gate_limits::Surface;
 use polarization::SurfaceJones;
 use polarization_mueller::JonesMatrix;
@@ -98,24 +98,6 @@ pub fn bare_powers(surface: Surface) -> Powers
     }
 }
 
-fn no_response() -> CoatingResponse
-    ensures { λ r. ⌜ r ≡ no-response ⌝ }
-{
-    let zero = Complex::zero();
-    CoatingResponse {
-        rs: zero,
-        rp: zero,
-        ts: zero,
-        tp: zero,
-        reflectance_s: 0.0,
-        reflectance_p: 0.0,
-        transmittance_s: 0.0,
-        transmittance_p: 0.0,
-        phase_rs_rad: 0.0,
-        phase_rp_rad: 0.0,
-    }
-}
-
 // Zero throughout, beside a refusal.
 fn no_answers() -> Answers
     ensures { λ r. ⌜ r ≡ no-answers ⌝ }
@@ -131,7 +113,7 @@ fn no_answers() -> Answers
         reflection: dark,
         transmission: dark,
     };
-    assembled(false, powers, no_response(), jones)
+    assembled(false, powers, thin_film_solver::no_response(), jones)
 }
 
 // A refusal's number, with no answers.
@@ -156,7 +138,12 @@ pub fn bare_answers(surface: Surface) -> AnswersReply
     );
     if jones.refusal == 0 {
         let matrices = jones.matrices;
-        let answers = assembled(false, bare_powers(surface), no_response(), matrices);
+        let answers = assembled(
+            false,
+            bare_powers(surface),
+            thin_film_solver::no_response(),
+            matrices,
+        );
         AnswersReply {
             refusal: 0,
             answers,

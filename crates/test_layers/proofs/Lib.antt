@@ -1,3 +1,2 @@
 -- laws
 pub mod Lent
-pub mod Places

@@ -3,7 +3,7 @@ ghost use mathlib.Core.Path.{_≡_};
 ghost use Prim.Native.Nat.{_≤_};
 ghost use lib.ListN.{take};
 ghost use Rattle.thin_film_solver.specs.Solve as Solve;
-ghost use Rattle.thin_film_layers.specs.Walk.{outcome};
+ghost use Rattle.thin_film_layers.specs.Evaluation.{outcome};
 ghost use Rattle.thin_film_coating.specs.Evaluate.{evaluate-coating};
 ghost use Rattle.thin_film.specs.Evaluate.{evaluate-surface};
 use thin_film::SurfaceCoating;

@@ -11,7 +11,7 @@ use Rattle.thin_film_solver.specs.declared.ThinFilmLayer.{ThinFilmLayer}
 use Rattle.thin_film_solver.specs.declared.CoatingResponse.{CoatingResponse}
 use Rattle.thin_film_solver.specs.Solve as Solve
 use Rattle.thin_film_valid.specs.Valid.{valid}
-use Rattle.thin_film_layers.specs.Walk.{ordered}
+use Rattle.thin_film_layers.specs.Evaluation.{ordered}
 use Rattle.thin_film_layers.proofs.Order.{as-long}
 use Rattle.thin_film_coating.specs.declared.Coating.{Coating}
 use Rattle.thin_film_coating.specs.declared.Coating.the-variants as C

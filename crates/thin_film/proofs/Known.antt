@@ -11,7 +11,7 @@ use Rattle.refusal.specs.Outcome.{answer}
 use Rattle.thin_film_solver.proofs.Known as Solved
 use Rattle.thin_film_coating.specs.declared.Coating.the-variants as C
 use Rattle.thin_film.specs.declared.SurfaceCoating.the-variants as S
-use Rattle.thin_film_layers.specs.Walk.{ordered}
+use Rattle.thin_film_layers.specs.Evaluation.{ordered}
 use Rattle.thin_film.specs.Coating.{layers-of}
 use Rattle.thin_film_valid.specs.Valid.{valid}
 use Rattle.thin_film.specs.Evaluate.{evaluate-surface}

@@ -5,7 +5,7 @@ use lib.Ieee.{Float, lt}
 use Rattle.refusal.specs.Outcome.{Outcome, map}
 use Rattle.thin_film_solver.specs.declared.ThinFilmLayer.{ThinFilmLayer}
 use Rattle.thin_film_solver.specs.declared.CoatingResponse.{CoatingResponse}
-use Rattle.thin_film_layers.specs.Walk.{ordered}
+use Rattle.thin_film_layers.specs.Evaluation.{ordered}
 use Rattle.thin_film_coating.specs.Evaluate.{evaluate-coating}
 use Rattle.thin_film.specs.declared.SurfaceCoating.{SurfaceCoating}
 use Rattle.thin_film.specs.Coating.{coating-of, layers-of}

@@ -1,3 +1,4 @@
--- Coatings of thin_film.rs as they are ordered.
+-- Coatings of thin_film.rs as they are ordered; Internal need not be believed.
 pub mod Coating
 pub mod Evaluate
+pub mod Internal

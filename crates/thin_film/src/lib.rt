@@ -1,8 +1,7 @@
 // Optical coatings of thin_film.rs as they are ordered: what they are made of, and their response at a
 // wavelength and an angle of incidence. A list of layers stands beside the enum that speaks of it.
 ghost use mathlib.Core.Path.{_≡_};
-ghost use mathlib.Core.List.{[]};
-ghost use Rattle.thin_film_layers.specs.Walk.{outcome};
+ghost use Rattle.thin_film_layers.specs.Evaluation.{outcome};
 ghost use Rattle.thin_film.specs.Coating.{mgf2-default, to-coating, label, text};
 ghost use Rattle.thin_film.specs.Evaluate.{evaluate-surface};
 use thin_film_coating::Built;
@@ -87,28 +86,8 @@ impl SurfaceCoating {
         }
     }
 
-    // The response of this coating, with no layer beside it.
-    pub fn evaluate_without_layers(
-        self,
-        n_incident: f64,
-        n_substrate: f64,
-        angle_incident_rad: f64,
-        wavelength_nm: f64,
-    ) -> Evaluation
-        ensures { λ r. ⌜ outcome r ≡ evaluate-surface self [] «n_incident» «n_substrate» «angle_incident_rad» «wavelength_nm» ⌝ }
-    {
-        thin_film_layers::conclude(reading::prepare_surface(
-            self,
-            0,
-            n_incident,
-            n_substrate,
-            angle_incident_rad,
-            wavelength_nm,
-        ))
-    }
-
-    // The response of this coating; layers are those of Custom(Multilayer). They are read from the
-    // far end where light goes from the denser medium to the rarer one.
+    // The response of this coating; layers are those of Custom(Multilayer). They are reversed where
+    // light goes from the denser medium to the rarer one.
     pub fn evaluate(
         self,
         layers: &[ThinFilmLayer],
@@ -119,7 +98,7 @@ impl SurfaceCoating {
     ) -> Evaluation
         ensures { λ r. ⌜ outcome r ≡ evaluate-surface self (now (layers .entry)) «n_incident» «n_substrate» «angle_incident_rad» «wavelength_nm» ⌝ }
     {
-        thin_film_layers::conclude(thin_film_layers::through(
+        thin_film_layers::evaluate_list(
             layers,
             reading::prepare_surface(
                 self,
@@ -129,6 +108,6 @@ impl SurfaceCoating {
                 angle_incident_rad,
                 wavelength_nm,
             ),
-        ))
+        )
     }
 }

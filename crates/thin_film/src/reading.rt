@@ -1,40 +1,74 @@
-// SurfaceCoating::evaluate, up to the layers of a lent list.
+// SurfaceCoating::evaluate, up to the layers beside the coating.
 ghost use mathlib.Core.Path.{_≡_};
-ghost use mathlib.Core.List.{List, []};
+ghost use mathlib.Core.List.{List};
 ghost use lib.ListN.{length};
-ghost use lib.Ieee.{lt};
 ghost use Rattle.thin_film_solver.specs.declared.ThinFilmLayer.{ThinFilmLayer};
-ghost use Rattle.thin_film_layers.specs.Walk as Walk;
-ghost use Rattle.thin_film_layers.specs.Walk.{ordered, outcome};
-ghost use Rattle.thin_film_coating.specs.Evaluate.{evaluate-coating};
-ghost use Rattle.thin_film_coating.specs.declared.Coating.the-variants as C;
-ghost use Rattle.thin_film.specs.Coating.{layers-of};
+ghost use Rattle.thin_film_layers.specs.Internal.{read-from};
+ghost use Rattle.thin_film.specs.Coating.{coating-of};
 ghost use Rattle.thin_film.specs.Evaluate.{evaluate-surface};
+ghost use Rattle.thin_film.specs.Internal.{own-layers, count-beside};
 use crate::SurfaceCoating;
 use crate::presets;
 use thin_film_coating::Coating;
-use thin_film_layers::Evaluation;
-use thin_film_layers::Pending;
+use thin_film_layers::Prepared;
 
-// A preset coating's response.
-fn evaluate_preset(
-    coating: SurfaceCoating,
-    n_incident: f64,
-    n_substrate: f64,
-    angle_incident_rad: f64,
-    wavelength_nm: f64,
-) -> Evaluation
-    ensures { λ r. ⌜ outcome r ≡ evaluate-coating C.Multilayer (ordered (lt «n_substrate» «n_incident») (layers-of coating [])) «n_incident» «n_substrate» «angle_incident_rad» «wavelength_nm» ⌝ }
+// to_coating, without the layers.
+fn coating_of(coating: SurfaceCoating) -> Coating
+    ensures { λ r. ⌜ r ≡ coating-of coating ⌝ }
 {
-    if !thin_film_valid::valid(n_incident, n_substrate, angle_incident_rad, wavelength_nm) {
-        return Evaluation::Refused(refusal::INVALID_PARAMETER);
+    match coating {
+        SurfaceCoating::IdealAr => Coating::IdealAr,
+        SurfaceCoating::MgF2 {
+            design_wavelength_nm: _,
+        } => Coating::Multilayer,
+        SurfaceCoating::BroadbandAr => Coating::Multilayer,
+        SurfaceCoating::HighReflectanceMirror => Coating::Multilayer,
+        SurfaceCoating::Custom(c) => c,
     }
-    let start = thin_film_solver::begin(n_incident, n_substrate, angle_incident_rad, wavelength_nm);
-    let stack = presets::through_preset(coating, n_incident > n_substrate, start);
-    Evaluation::Response(thin_film_solver::finish(stack))
 }
 
-// SurfaceCoating::evaluate, up to the layers of Custom(Multilayer): there are count of them.
+// How many of the count layers beside a coating are its own: a preset has none there.
+fn count_beside(coating: SurfaceCoating, count: usize) -> usize
+    ensures { λ r. ⌜ r ≡ count-beside coating count ⌝ }
+{
+    match coating {
+        SurfaceCoating::IdealAr => count,
+        SurfaceCoating::MgF2 {
+            design_wavelength_nm: _,
+        } => 0,
+        SurfaceCoating::BroadbandAr => 0,
+        SurfaceCoating::HighReflectanceMirror => 0,
+        SurfaceCoating::Custom(_) => count,
+    }
+}
+
+// A preset coating is answered from its own layers, in the order that is prepared.
+fn with_own_layers(coating: SurfaceCoating, prepared: Prepared) -> Prepared
+    ensures { λ r. ⌜ ((layers : List ThinFilmLayer) → read-from r layers ≡ read-from prepared (own-layers coating layers)) ⌝ }
+{
+    match prepared {
+        Prepared::Answered(_) => prepared,
+        Prepared::Layers { reversed, light } => match coating {
+            SurfaceCoating::MgF2 {
+                design_wavelength_nm,
+            } => thin_film_coating::answered(presets::solve_one(
+                light,
+                thin_film_presets::quarter_wave(1.38, design_wavelength_nm),
+            )),
+            SurfaceCoating::BroadbandAr => thin_film_coating::answered(presets::solve_broadband(
+                light,
+                reversed,
+            )),
+            SurfaceCoating::HighReflectanceMirror =>
+                thin_film_coating::answered(presets::solve_mirror(light)),
+            SurfaceCoating::IdealAr => prepared,
+            SurfaceCoating::Custom(_) => prepared,
+        },
+    }
+}
+
+// The layers beside the coating are those of Custom(Multilayer): there are count of them, and they
+// are reversed where light goes from the denser medium to the rarer one.
 pub fn prepare_surface(
     coating: SurfaceCoating,
     count: usize,
@@ -42,34 +76,19 @@ pub fn prepare_surface(
     n_substrate: f64,
     angle_incident_rad: f64,
     wavelength_nm: f64,
-) -> Pending
-    ensures { λ r. ⌜ ((layers : List ThinFilmLayer) → length layers ≡ count → outcome (Walk.conclude (Walk.through r layers)) ≡ evaluate-surface coating layers «n_incident» «n_substrate» «angle_incident_rad» «wavelength_nm») ⌝ }
+) -> Prepared
+    ensures { λ r. ⌜ ((layers : List ThinFilmLayer) → length layers ≡ count → read-from r layers ≡ evaluate-surface coating layers «n_incident» «n_substrate» «angle_incident_rad» «wavelength_nm») ⌝ }
 {
-    match coating {
-        SurfaceCoating::IdealAr => thin_film_coating::prepare(
-            Coating::IdealAr,
-            false,
-            count,
-            n_incident,
-            n_substrate,
-            angle_incident_rad,
-            wavelength_nm,
-        ),
-        SurfaceCoating::Custom(c) => thin_film_coating::prepare(
-            c,
+    with_own_layers(
+        coating,
+        thin_film_coating::prepare(
+            coating_of(coating),
             n_incident > n_substrate,
-            count,
+            count_beside(coating, count),
             n_incident,
             n_substrate,
             angle_incident_rad,
             wavelength_nm,
         ),
-        _ => thin_film_layers::settled(evaluate_preset(
-            coating,
-            n_incident,
-            n_substrate,
-            angle_incident_rad,
-            wavelength_nm,
-        )),
-    }
+    )
 }

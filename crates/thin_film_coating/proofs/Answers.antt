@@ -10,62 +10,51 @@ use borrow.Author.Tests.{le-leb, lt-leb}
 use Rattle.refusal.specs.Outcome.{answer, invalid-parameter, too-many-layers}
 use Rattle.thin_film_solver.specs.declared.ThinFilmLayer.{ThinFilmLayer}
 use Rattle.thin_film_solver.specs.Solve as Solve
-use Rattle.thin_film_solver.specs.Stack.{begin}
+use Rattle.thin_film_solver.specs.Internal.{incidence}
+use Rattle.thin_film_solver.proofs.Steps.{evaluates}
 use Rattle.thin_film_valid.specs.Valid.{valid}
-use Rattle.thin_film_layers.specs.declared.Pending.{Pending}
-use Rattle.thin_film_layers.specs.declared.Evaluation.the-variants as E
-use Rattle.thin_film_layers.specs.Walk.{outcome, ordered, through, conclude, settled}
+use Rattle.thin_film_layers.specs.declared.Prepared.{Prepared}
+use Rattle.thin_film_layers.specs.declared.Prepared.the-variants as P
+use Rattle.thin_film_layers.specs.Evaluation.{ordered}
+use Rattle.thin_film_layers.specs.Internal.{read-from}
 use Rattle.thin_film_layers.proofs.Order.{as-long}
-use Rattle.thin_film_layers.proofs.Answers.{at-once, all-read}
 use Rattle.thin_film_coating.specs.declared.Coating.{Coating}
 use Rattle.thin_film_coating.specs.declared.Coating.the-variants as C
-use Rattle.thin_film_coating.specs.Evaluate.{respond, evaluate-coating, start, prepare}
+use Rattle.thin_film_coating.specs.Evaluate.{respond, evaluate-coating}
+use Rattle.thin_film_coating.specs.Internal.{refused, start, prepare}
 
 module _ (n-incident n-substrate angle wavelength : Float) where
-  module _ (layers : List ThinFilmLayer) where
-    pub invalid : (coating : Coating) → valid n-incident n-substrate angle wavelength ≡ false → evaluate-coating coating layers n-incident n-substrate angle wavelength ≡ invalid-parameter
-    unfolding evaluate-coating
-    invalid coating e = simp e
+  module _ (layers : List ThinFilmLayer) (coating : Coating) (coating-is : coating ≡ C.Multilayer) (passes : valid n-incident n-substrate angle wavelength ≡ true) where
+    pub solved : length layers ≤ 64 → evaluate-coating coating layers n-incident n-substrate angle wavelength ≡ answer (Solve.evaluate n-incident n-substrate angle wavelength layers)
+    unfolding evaluate-coating respond
+    solved h = simp (passes, coating-is, le-leb _ _ h)
 
-    module _ (coating k : Coating) (coating-is : coating ≡ k) (passes : valid n-incident n-substrate angle wavelength ≡ true) where
-      pub response : evaluate-coating coating layers n-incident n-substrate angle wavelength ≡ respond k layers n-incident n-substrate angle wavelength
-      unfolding evaluate-coating
-      response = simp (passes, coating-is)
+  -- what is prepared for as many layers, or for as few as can be read, comes to the coating's response to them
+  module _ (reversed : Bool) (layers : List ThinFilmLayer) (count : ℕ) (alike : leb (length layers) 64 ≡ leb count 64) where
+    few : (t : Bool) → read-from (cond t (P.Layers reversed (incidence n-incident n-substrate angle wavelength)) (refused 3)) layers
+        ≡ cond t (answer (Solve.evaluate n-incident n-substrate angle wavelength (ordered reversed layers))) too-many-layers
+    unfolding read-from
+    few true = ap answer (evaluates n-incident n-substrate angle wavelength (ordered reversed layers))
+    few false = refl
 
-    module _ (coating : Coating) (coating-is : coating ≡ C.Multilayer) (passes : valid n-incident n-substrate angle wavelength ≡ true) where
-      pub solved : length layers ≤ 64 → evaluate-coating coating layers n-incident n-substrate angle wavelength ≡ answer (Solve.evaluate n-incident n-substrate angle wavelength layers)
-      unfolding respond
-      solved h = response coating C.Multilayer coating-is passes ∙ simp (le-leb _ _ h)
-
-      pub too-many : 64 < length layers → evaluate-coating coating layers n-incident n-substrate angle wavelength ≡ too-many-layers
-      unfolding respond
-      too-many h = response coating C.Multilayer coating-is passes ∙ simp (lt-leb _ _ h)
-
-  -- what is prepared for as many layers comes to the coating's response to them
-  module _ (far : Bool) (layers : List ThinFilmLayer) where
-    few : (t : Bool)
-        → outcome (conclude (through (cond t (record { read = true; far = far; stack = begin n-incident n-substrate angle wavelength; settled = E.Refused (record { number = 3; place = 0 }) }) (settled (E.Refused (record { number = 3; place = 0 })))) layers))
-        ≡ cond t (answer (Solve.evaluate n-incident n-substrate angle wavelength (ordered far layers))) too-many-layers
-    few true = all-read n-incident n-substrate angle wavelength far _ layers
-    few false = at-once _ _ refl layers
-
-    started : (coating : Coating) → outcome (conclude (through (start coating far (length layers) n-incident n-substrate angle wavelength) layers)) ≡ respond coating (ordered far layers) n-incident n-substrate angle wavelength
-    unfolding start respond
-    started C.IdealAr = at-once _ _ refl layers
-    started C.IdealMirror = at-once _ _ refl layers
-    started C.IdealBeamsplitter = at-once _ _ refl layers
+    started : (coating : Coating) → read-from (start coating reversed count (incidence n-incident n-substrate angle wavelength)) layers ≡ respond coating (ordered reversed layers) n-incident n-substrate angle wavelength
+    unfolding start respond read-from
+    started C.IdealAr = refl
+    started C.IdealMirror = refl
+    started C.IdealBeamsplitter = refl
     started C.Multilayer =
-        few (leb (length layers) 64) ∙ ap (λ (n : ℕ). cond (leb n 64) (answer (Solve.evaluate n-incident n-substrate angle wavelength (ordered far layers))) too-many-layers) (sym (as-long far layers))
+        few (leb count 64)
+        ∙ ap (λ (t : Bool). cond t (answer (Solve.evaluate n-incident n-substrate angle wavelength (ordered reversed layers))) too-many-layers)
+        (sym alike ∙ ap (λ (n : ℕ). leb n 64) (sym (as-long reversed layers)))
 
     module _ (coating : Coating) where
-      tested : (t : Bool)
-          → outcome (conclude (through (cond t (start coating far (length layers) n-incident n-substrate angle wavelength) (settled (E.Refused (record { number = 1; place = 0 })))) layers))
-          ≡ cond t (respond coating (ordered far layers) n-incident n-substrate angle wavelength) invalid-parameter
+      tested : (t : Bool) → read-from (cond t (start coating reversed count (incidence n-incident n-substrate angle wavelength)) (refused 1)) layers
+          ≡ cond t (respond coating (ordered reversed layers) n-incident n-substrate angle wavelength) invalid-parameter
+      unfolding read-from
       tested true = started coating
-      tested false = at-once _ _ refl layers
+      tested false = refl
 
-      pub prepared : (count : ℕ) (p : Pending) → p ≡ prepare coating far count n-incident n-substrate angle wavelength → length layers ≡ count
-          → outcome (conclude (through p layers)) ≡ evaluate-coating coating (ordered far layers) n-incident n-substrate angle wavelength
+      pub prepared : (p : Prepared) → p ≡ prepare coating reversed count n-incident n-substrate angle wavelength
+          → read-from p layers ≡ evaluate-coating coating (ordered reversed layers) n-incident n-substrate angle wavelength
       unfolding prepare evaluate-coating
-      prepared count p e n-is =
-          ap (λ (z : Pending). outcome (conclude (through z layers))) (e ∙ ap (λ (m : ℕ). prepare coating far m n-incident n-substrate angle wavelength) (sym n-is)) ∙ tested (valid n-incident n-substrate angle wavelength)
+      prepared p e = ap (λ (z : Prepared). read-from z layers) e ∙ tested (valid n-incident n-substrate angle wavelength)

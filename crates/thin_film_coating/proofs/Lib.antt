@@ -1,3 +1,4 @@
 -- laws
 pub mod Repeat
 pub mod Answers
+pub mod Places

@@ -1,6 +1,5 @@
 -- `Coating::evaluate` of thin_film.rs. Definitions only.
-use Prim.Native.Nat.{ℕ}
-use mathlib.Core.Bool.{Bool, true, cond}
+use mathlib.Core.Bool.{cond}
 use mathlib.Core.List.{List}
 use lib.Dec.{leb}
 use lib.ListN.{length}
@@ -9,12 +8,8 @@ use Rattle.refusal.specs.Outcome.{Outcome, answer, invalid-parameter, too-many-
 use Rattle.thin_film_solver.specs.declared.ThinFilmLayer.{ThinFilmLayer}
 use Rattle.thin_film_solver.specs.declared.CoatingResponse.{CoatingResponse}
 use Rattle.thin_film_solver.specs.Solve as Solve
-use Rattle.thin_film_solver.specs.Stack.{begin}
 use Rattle.thin_film_valid.specs.Valid.{valid}
 use Rattle.thin_film_valid.specs.Ideal.{ideal-ar, ideal-mirror, ideal-beamsplitter}
-use Rattle.thin_film_layers.specs.declared.Evaluation.the-variants as E
-use Rattle.thin_film_layers.specs.declared.Pending.{Pending}
-use Rattle.thin_film_layers.specs.Walk.{settled}
 use Rattle.thin_film_coating.specs.declared.Coating.{Coating}
 use Rattle.thin_film_coating.specs.declared.Coating.the-variants as C
 
@@ -30,15 +25,3 @@ respond C.Multilayer layers n-incident n-substrate angle wavelength =
 unfoldable pub evaluate-coating : Coating → List ThinFilmLayer → Float → Float → Float → Float → Outcome CoatingResponse
 evaluate-coating coating layers n-incident n-substrate angle wavelength =
     cond (valid n-incident n-substrate angle wavelength) (respond coating layers n-incident n-substrate angle wavelength) invalid-parameter
-
--- the same up to the layers, of which there are count
-unfoldable pub start : Coating → Bool → ℕ → Float → Float → Float → Float → Pending
-start C.IdealAr far count n-incident n-substrate angle wavelength = settled (E.Response ideal-ar)
-start C.IdealMirror far count n-incident n-substrate angle wavelength = settled (E.Response ideal-mirror)
-start C.IdealBeamsplitter far count n-incident n-substrate angle wavelength = settled (E.Response ideal-beamsplitter)
-start C.Multilayer far count n-incident n-substrate angle wavelength =
-    cond (leb count 64) (record { read = true; far = far; stack = begin n-incident n-substrate angle wavelength; settled = E.Refused (record { number = 3; place = 0 }) }) (settled (E.Refused (record { number = 3; place = 0 })))
-
-unfoldable pub prepare : Coating → Bool → ℕ → Float → Float → Float → Float → Pending
-prepare coating far count n-incident n-substrate angle wavelength =
-    cond (valid n-incident n-substrate angle wavelength) (start coating far count n-incident n-substrate angle wavelength) (settled (E.Refused (record { number = 1; place = 0 })))

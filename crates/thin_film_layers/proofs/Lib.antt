@@ -1,4 +1,4 @@
 -- laws
 pub mod Order
-pub mod Answers
-pub mod Lent
+pub mod Matrices
+pub mod Lists

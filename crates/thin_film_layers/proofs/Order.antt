@@ -1,44 +1,43 @@
--- Facts on lists of layers that the loops over layers cite: a stack takes one layer more, and the i-th layer that is read stands where `nth-index` says.
---     front, done, as-long, within, goes-on                 where every layer is read, from either end
---     within-list, inside, starts, turns, ends, none-lent       where all or none of a lent list are
+-- Facts on lists of layers that the loops over layers cite: the i-th layer that is read stands where `nth-index` says, and one is taken at a turn.
 -- Assumes nothing.
-use mathlib.Core.Path.{_≡_, refl, sym, _∙_, ap}
+use mathlib.Core.Path.{_≡_, refl, sym, _∙_, ap, subst}
 use Prim.Native.Nat.{ℕ, suc, _+_, _-_, _<_, _≤_, zero-le}
 use native.Mathlib.Nat.{not-suc-le-zero, le-refl, le-of-suc-le-suc, eq-or-lt-of-le}
 use native.Mathlib.Numerals.{add-one}
 use native.Mathlib.Omega.{arith}
-use mathlib.Core.Bool.{Bool, true, false, cond}
+use mathlib.Core.Bool.{Bool, true, false}
 use mathlib.Core.List.{List, [], _∷_, reverse, reverse-cons}
 use mathlib.Core.Logic.{inl, inr}
 use lib.ListN.{length, getD, drop, length-reverse, List·getD-append}
 use lib.Seq.{drop-cons, drop-length, getD-at}
+use lib.Ieee.{Float}
+use Rattle.refusal.specs.Outcome.{Outcome, answer, refusal}
+use Rattle.thin_film_matrix.specs.Matrix.{Matrix, identity}
+use Rattle.thin_film_solver.specs.declared.CoatingResponse.{CoatingResponse}
+use Rattle.thin_film_solver.specs.declared.Incidence.{Incidence}
+use Rattle.thin_film_solver.specs.declared.Terms.{Terms}
 use Rattle.thin_film_solver.specs.declared.ThinFilmLayer.{ThinFilmLayer}
-use Rattle.thin_film_solver.specs.declared.Stack.{Stack}
-use Rattle.thin_film_solver.specs.Stack.{step, steps}
-use Rattle.thin_film_layers.specs.Walk.{ordered, count, nth-index, reading, through}
-use Rattle.thin_film_layers.specs.declared.Pending.{Pending}
-use Rattle.thin_film_layers.specs.Walk as Walk
-
--- past the last layer nothing is left
-pub done : (k : Stack) (ls : List ThinFilmLayer) (i : ℕ) → i ≡ length ls → steps k (drop i ls) ≡ k
-unfolding steps
-done k ls i e = ap (λ (m : ℕ). steps k (drop m ls)) e ∙ ap (steps k) (drop-length ls)
-
--- from the i-th on, a stack takes the i-th, and goes on from the next
-next : (k : Stack) (ls : List ThinFilmLayer) (i : ℕ) (d : ThinFilmLayer) → i < length ls → steps k (drop i ls) ≡ steps (step k (getD ls i d)) (drop (i + 1) ls)
-unfolding steps
-next k ls i d h = ap (steps k) (drop-cons ls i d h) ∙ ap (λ (m : ℕ). steps (step k (getD ls i d)) (drop m ls)) (sym (add-one i))
+use Rattle.thin_film_solver.specs.Solve as Solve
+use Rattle.thin_film_solver.specs.Solve.{no-response}
+use Rattle.thin_film_solver.specs.Internal.{incidence, terms-of, step-s, step-p, finish, onward, solved}
+use Rattle.thin_film_solver.proofs.Steps.{evaluates, takes, ends}
+use Rattle.thin_film_layers.specs.declared.Evaluation.{Evaluation}
+use Rattle.thin_film_layers.specs.declared.Evaluation.the-variants as E
+use Rattle.thin_film_layers.specs.declared.Prepared.{Prepared}
+use Rattle.thin_film_layers.specs.declared.Prepared.the-variants as P
+use Rattle.thin_film_layers.specs.Evaluation.{outcome, ordered}
+use Rattle.thin_film_layers.specs.Internal.{nth-index, read-from, read-count, reversed-in, light-in, concluded, all-layers, response}
 
 pub front : (ls : List ThinFilmLayer) → ordered false ls ≡ ls
 unfolding ordered
 front ls = refl
 
-pub as-long : (far : Bool) (ls : List ThinFilmLayer) → length (ordered far ls) ≡ length ls
+pub as-long : (reversed : Bool) (ls : List ThinFilmLayer) → length (ordered reversed ls) ≡ length ls
 unfolding ordered
 as-long false ls = refl
 as-long true ls = length-reverse ls
 
-pub within : (far : Bool) (n i : ℕ) → i < n → nth-index far n i < n
+pub within : (reversed : Bool) (n i : ℕ) → i < n → nth-index reversed n i < n
 within false n i h = h
 within true n i h = omega arith
 
@@ -56,56 +55,83 @@ getD-reverse (x ∷ xs) i d h = ap (λ (l : List ThinFilmLayer). getD l i d) (re
     one-in : i < length xs → suc (length xs - 1 - i) ≡ suc (length xs) - 1 - i
     one-in l = omega arith
 
-found : (far : Bool) (ls : List ThinFilmLayer) (i : ℕ) (d : ThinFilmLayer) → i < length ls → getD ls (nth-index far (length ls) i) d ≡ getD (ordered far ls) i d
+nth : (reversed : Bool) (ls : List ThinFilmLayer) (i : ℕ) (d : ThinFilmLayer) → i < length ls → getD ls (nth-index reversed (length ls) i) d ≡ getD (ordered reversed ls) i d
 unfolding ordered
-found false ls i d h = refl
-found true ls i d h = sym (getD-reverse ls i d h)
+nth false ls i d h = refl
+nth true ls i d h = sym (getD-reverse ls i d h)
 
--- one turn of a loop that reads the i-th layer where it stands
-pub goes-on : (far : Bool) (ls : List ThinFilmLayer) (k : Stack) (i : ℕ) (d : ThinFilmLayer) → i < length ls
-    → steps (step k (getD ls (nth-index far (length ls) i) d)) (drop (i + 1) (ordered far ls)) ≡ steps k (drop i (ordered far ls))
-goes-on far ls k i d h = ap (λ (z : ThinFilmLayer). steps (step k z) (drop (i + 1) (ordered far ls))) (found far ls i d h) ∙ sym (next k (ordered far ls) i d (rw as-long h))
+-- what is left of the layers from the i-th on leads to the response of all of them
+abbrev pub Left : Incidence → Matrix → Matrix → ℕ → List ThinFilmLayer → Type 0
+Left light ms mp i ls = onward light ms mp (drop i ls) ≡ solved light ls
 
--- ---- all or none of a lent list
-module _ (far : Bool) (ys : List ThinFilmLayer) where
-  listed : (read : Bool) → length (ordered far (cond read ys [])) ≡ cond read (length ys) 0
-  listed true = as-long far ys
-  listed false = as-long far []
+pub begun : (light : Incidence) (ls : List ThinFilmLayer) (ms mp : Matrix) → ms ≡ identity → mp ≡ identity → Left light ms mp 0 ls
+begun light ls ms mp e f = ap (λ (m : Matrix). onward light m mp ls) e ∙ ap (λ (m : Matrix). onward light identity m ls) f
 
-  placed : (read : Bool) (i : ℕ) → i < cond read (length ys) 0 → nth-index far (cond read (length ys) 0) i < length ys
-  placed true i h = within far (length ys) i h
-  placed false i h = absurd (not-suc-le-zero h)
+module _ (light : Incidence) (reversed : Bool) (ls : List ThinFilmLayer) where
+  -- a turn that takes the i-th layer, which stands at j
+  pub turn : (n i j : ℕ) (d y : ThinFilmLayer) (t : Terms) (ms mp ms′ mp′ : Matrix) → n ≡ length ls → i < n → j ≡ nth-index reversed n i → y ≡ getD ls j d → t ≡ terms-of (light .snell) (light .«wavelength_nm») y
+      → ms′ ≡ step-s ms t → mp′ ≡ step-p mp t → Left light ms mp i (ordered reversed ls) → Left light ms′ mp′ (i + 1) (ordered reversed ls)
+  turn n i j d y t ms mp ms′ mp′ n-is h j-is y-is t-is s-is p-is left =
+      let within-list : i < length ls = subst (λ (m : ℕ). i < m) n-is h in
+      let y-at : y ≡ getD (ordered reversed ls) i d = y-is ∙ ap (λ (m : ℕ). getD ls m d) (j-is ∙ ap (λ (m : ℕ). nth-index reversed m i) n-is) ∙ nth reversed ls i d within-list in
+      ap (λ (m : Matrix). onward light m mp′ (drop (i + 1) (ordered reversed ls))) s-is
+      ∙ ap (λ (m : Matrix). onward light (step-s ms t) m (drop (i + 1) (ordered reversed ls))) p-is
+      ∙ ap (λ (m : ℕ). onward light (step-s ms t) (step-p mp t) (drop m (ordered reversed ls))) (add-one i)
+      ∙ takes light ms mp t (getD (ordered reversed ls) i d) (drop (suc i) (ordered reversed ls)) (t-is ∙ ap (terms-of (light .snell) (light .«wavelength_nm»)) y-at)
+      ∙ ap (onward light ms mp) (sym (drop-cons (ordered reversed ls) i d (rw as-long within-list))) ∙ left
 
-  turned : (read : Bool) (k : Stack) (i : ℕ) (d : ThinFilmLayer) → i < cond read (length ys) 0
-      → steps (step k (getD ys (nth-index far (cond read (length ys) 0) i) d)) (drop (i + 1) (ordered far (cond read ys []))) ≡ steps k (drop i (ordered far (cond read ys [])))
-  turned true k i d h = goes-on far ys k i d h
-  turned false k i d h = absurd (not-suc-le-zero h)
+  -- past the last layer nothing is left
+  pub last : (ms mp : Matrix) (i : ℕ) → i ≡ length ls → Left light ms mp i (ordered reversed ls) → finish light ms mp ≡ solved light (ordered reversed ls)
+  last ms mp i e left =
+      ends light ms mp
+      ∙ ap (onward light ms mp) (sym (drop-length (ordered reversed ls)))
+      ∙ ap (λ (m : ℕ). onward light ms mp (drop m (ordered reversed ls))) (as-long reversed ls ∙ sym e) ∙ left
 
-bounded : (read : Bool) (n : ℕ) → cond read n 0 ≤ n
-bounded true n = le-refl n
-bounded false n = zero-le
+-- ---- an evaluation that is prepared, in both of its cases
+pub answered : (p : Prepared) (a : Evaluation) (layers : List ThinFilmLayer) → p ≡ P.Answered a → outcome a ≡ read-from p layers
+unfolding read-from
+answered p a layers e = ap (λ (z : Prepared). read-from z layers) (sym e)
 
-module _ (p : Pending) (ys : List ThinFilmLayer) where
-  pub within-list : count p (length ys) ≤ length ys
-  within-list = bounded (p .read) (length ys)
+pub solves : (p : Prepared) (reversed : Bool) (light : Incidence) (layers : List ThinFilmLayer) (r : CoatingResponse) → p ≡ P.Layers reversed light → r ≡ solved light (ordered reversed layers) → answer r ≡ read-from p layers
+unfolding read-from
+solves p reversed light layers r e f = ap answer f ∙ ap (λ (z : Prepared). read-from z layers) (sym e)
 
-  pub inside : (i : ℕ) → i < count p (length ys) → nth-index (p .far) (count p (length ys)) i < length ys
-  inside i h = placed (p .far) ys (p .read) i h
+-- ---- all or none of the caller's list
+-- the layers that are read, in the order in which they are
+abbrev pub reading : Prepared → List ThinFilmLayer → List ThinFilmLayer
+reading (P.Answered a) ys = []
+reading (P.Layers reversed light) ys = ordered reversed ys
 
-  -- before the first, a turn, and past the last
-  pub starts : Walk.steps p (reading p ys) ≡ through p ys
-  unfolding through
-  starts = refl
+pub bounded : (p : Prepared) (n : ℕ) → read-count p n ≤ n
+bounded (P.Answered a) n = zero-le
+bounded (P.Layers reversed light) n = le-refl n
 
-  pub turns : (a : Pending) (i : ℕ) (d : ThinFilmLayer) → i < count p (length ys)
-      → Walk.steps (Walk.step a (getD ys (nth-index (p .far) (count p (length ys)) i) d)) (drop (i + 1) (reading p ys)) ≡ Walk.steps a (drop i (reading p ys))
-  unfolding Walk.steps Walk.step reading
-  turns a i d h = ap (λ (k : Stack). record { read = a .read; far = a .far; stack = k; settled = a .settled }) (turned (p .far) ys (p .read) (a .stack) i d h)
+pub inside : (p : Prepared) (n i : ℕ) → i < read-count p n → nth-index (reversed-in p) (read-count p n) i < n
+inside (P.Answered a) n i h = absurd (not-suc-le-zero h)
+inside (P.Layers reversed light) n i h = within reversed n i h
 
-  pub ends : (a : Pending) (i : ℕ) → i ≡ count p (length ys) → Walk.steps a (drop i (reading p ys)) ≡ a
-  unfolding Walk.steps reading
-  ends a i e = ap (λ (k : Stack). record { read = a .read; far = a .far; stack = k; settled = a .settled }) (done (a .stack) _ i (e ∙ sym (listed (p .far) ys (p .read))))
+pub turns : (p : Prepared) (ys : List ThinFilmLayer) (i : ℕ) (d : ThinFilmLayer) (t : Terms) (ms mp ms′ mp′ : Matrix) → i < read-count p (length ys)
+    → t ≡ terms-of (light-in p .snell) (light-in p .«wavelength_nm») (getD ys (nth-index (reversed-in p) (read-count p (length ys)) i) d)
+    → ms′ ≡ step-s ms t → mp′ ≡ step-p mp t → Left (light-in p) ms mp i (reading p ys) → Left (light-in p) ms′ mp′ (i + 1) (reading p ys)
+turns (P.Answered a) ys i d t ms mp ms′ mp′ h e f g left = absurd (not-suc-le-zero h)
+turns (P.Layers reversed light) ys i d t ms mp ms′ mp′ h e f g left = turn light reversed ys (length ys) i _ d _ t ms mp ms′ mp′ refl h refl refl e f g left
 
--- an empty list leaves all as it is
-pub none-lent : (p : Pending) → through p [] ≡ p
-none-lent p = sym (starts p []) ∙ ends p [] p 0 (omega (arith, within-list p []))
+pub concludes : (p : Prepared) (ys : List ThinFilmLayer) (ms mp : Matrix) (i : ℕ) → i ≡ read-count p (length ys) → Left (light-in p) ms mp i (reading p ys) → outcome (concluded p ms mp) ≡ read-from p ys
+unfolding read-from
+concludes (P.Answered a) ys ms mp i e left = refl
+concludes (P.Layers reversed light) ys ms mp i e left = ap answer (last light reversed ys ms mp i e left)
+
+-- ---- evaluate_tmm_multilayer
+abbrev value : Outcome CoatingResponse → CoatingResponse
+value (answer r) = r
+value (refusal number place) = no-response
+
+valued : (e : Evaluation) → response e ≡ value (outcome e)
+valued (E.Response r) = refl
+valued (E.Refused r) = refl
+
+pub every : (n-incident n-substrate angle wavelength : Float) (layers : List ThinFilmLayer) (e : Evaluation)
+    → outcome e ≡ read-from (all-layers n-incident n-substrate angle wavelength) layers → response e ≡ Solve.evaluate n-incident n-substrate angle wavelength layers
+unfolding read-from
+every n-incident n-substrate angle wavelength layers e h =
+    valued e ∙ ap value h ∙ ap (solved (incidence n-incident n-substrate angle wavelength)) (front layers) ∙ evaluates n-incident n-substrate angle wavelength layers

@@ -1,2 +1,3 @@
--- An evaluation while its layers are read.
-pub mod Walk
+-- What an evaluation gives; Internal need not be believed.
+pub mod Evaluation
+pub mod Internal

@@ -3,7 +3,7 @@
 ghost use mathlib.Core.Path.{_≡_};
 ghost use Rattle.math_exp.specs.Exp.{exp};
 ghost use Rattle.thin_film_complex.specs.Complex.{_⊠_, _⧄_};
-ghost use Rattle.thin_film_matrix.specs.Matrix.{matrix, dot, mat-mul};
+ghost use Rattle.thin_film_matrix.specs.Matrix.{matrix, dot, mat-mul, identity};
 ghost use Rattle.thin_film_matrix.specs.Film.{cos-theta, cos-delta, i-sin-delta};
 use thin_film_complex::Complex;
 
@@ -29,6 +29,15 @@ pub fn mat_mul_2x2(a: [[Complex; 2]; 2], b: [[Complex; 2]; 2]) -> [[Complex; 2];
             dot(a[1][0], b[0][1], a[1][1], b[1][1]),
         ],
     ]
+}
+
+// Before the first layer.
+pub fn identity() -> [[Complex; 2]; 2]
+    ensures { λ r. ⌜ r ≡ identity ⌝ }
+{
+    let one = Complex::real(1.0);
+    let zero = Complex::zero();
+    [[one, zero], [zero, one]]
 }
 
 // ---- one film

@@ -7,7 +7,7 @@ use mathlib.Core.List.{List, [], _∷_}
 use lib.ListN.{length, getD}
 use lib.Ieee.{Float}
 use Rattle.thin_film_solver.specs.Solve.{dielectric}
-use Rattle.thin_film_layers.specs.Walk.{no-layer}
+use Rattle.thin_film_layers.specs.Evaluation.{no-layer}
 use Rattle.thin_film_presets.specs.Layers.{quarter-wave, bragg-layers}
 
 -- within a list it is the same whatever stands for what is past its end

@@ -27,15 +27,11 @@ bragg-layers n-high n-low zero design = dielectric n-high (quarter-wave design n
 bragg-layers n-high n-low (suc pairs) design =
     dielectric n-high (quarter-wave design n-high) ∷ dielectric n-low (quarter-wave design n-low) ∷ bragg-layers n-high n-low pairs design
 
--- the last layer of BroadbandAr: TiO2 15
-abbrev pub broadband-last : ThinFilmLayer
-broadband-last = dielectric n-tio2 (ofBits binary64 0x402E_0000_0000_0000)
-
 -- to_coating, BroadbandAr: SiO2 88, TiO2 112, SiO2 32, TiO2 15
 unfoldable pub broadband-layers : List ThinFilmLayer
 broadband-layers =
     dielectric n-sio2 (ofBits binary64 0x4056_0000_0000_0000)
     ∷ dielectric n-tio2 (ofBits binary64 0x405C_0000_0000_0000)
     ∷ dielectric n-sio2 (ofBits binary64 0x4040_0000_0000_0000)
-    ∷ broadband-last
+    ∷ dielectric n-tio2 (ofBits binary64 0x402E_0000_0000_0000)
     ∷ []

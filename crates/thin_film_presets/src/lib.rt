@@ -2,8 +2,8 @@
 ghost use mathlib.Core.Path.{_≡_};
 ghost use lib.ListN.{getD, replicate};
 ghost use Rattle.thin_film_solver.specs.Solve as Solve;
-ghost use Rattle.thin_film_layers.specs.Walk.{no-layer};
-ghost use Rattle.thin_film_presets.specs.Layers.{quarter-wave, bragg-layers, broadband-layers, broadband-last};
+ghost use Rattle.thin_film_layers.specs.Evaluation.{no-layer};
+ghost use Rattle.thin_film_presets.specs.Layers.{quarter-wave, bragg-layers, broadband-layers};
 use thin_film_solver::ThinFilmLayer;
 
 // No layer in any place.
@@ -25,19 +25,16 @@ pub fn quarter_wave(n: f64, design_wavelength_nm: f64) -> ThinFilmLayer
 }
 
 // The four layers of the broadband coating, from the incident medium to the substrate: SiO2, TiO2,
-// SiO2, TiO2. Past them the last again.
-pub fn broadband(i: usize) -> ThinFilmLayer
-    ensures { λ r. ⌜ r ≡ getD broadband-layers i broadband-last ⌝ }
+// SiO2, TiO2.
+pub fn broadband() -> [ThinFilmLayer; 4]
+    ensures { λ r. ⌜ r ≡ broadband-layers ⌝ }
 {
-    if i == 0 {
-        ThinFilmLayer::dielectric(1.46, 88.0)
-    } else if i == 1 {
-        ThinFilmLayer::dielectric(2.30, 112.0)
-    } else if i == 2 {
-        ThinFilmLayer::dielectric(1.46, 32.0)
-    } else {
-        ThinFilmLayer::dielectric(2.30, 15.0)
-    }
+    [
+        ThinFilmLayer::dielectric(1.46, 88.0),
+        ThinFilmLayer::dielectric(2.30, 112.0),
+        ThinFilmLayer::dielectric(1.46, 32.0),
+        ThinFilmLayer::dielectric(2.30, 15.0),
+    ]
 }
 
 // The i-th layer of (H L)^N H, the same for each N that has one: N = i has.

@@ -1,4 +1,4 @@
--- The transfer-matrix method of thin_film.rs, one layer at a time.
+-- The transfer-matrix method of thin_film.rs; Internal need not be believed.
 pub mod Layer
 pub mod Solve
-pub mod Stack
+pub mod Internal

@@ -7,10 +7,10 @@ use Rattle.ieee.specs.Functions.{zero-f, one, two, half, abs, max, clamp}
 use Rattle.math_root.specs.Root.{squareRoot}
 use Rattle.math_trig.specs.Trig.{sin, cos}
 use Rattle.thin_film_complex.specs.declared.Complex.{Complex}
-use Rattle.thin_film_complex.specs.Complex.{real, scale, norm-sq, arg, _⊞_, _⊟_, _⊠_, _⧄_}
+use Rattle.thin_film_complex.specs.Complex.{real, zero, scale, norm-sq, arg, _⊞_, _⊟_, _⊠_, _⧄_}
 use Rattle.thin_film_solver.specs.declared.ThinFilmLayer.{ThinFilmLayer}
 use Rattle.thin_film_solver.specs.declared.CoatingResponse.{CoatingResponse}
-use Rattle.thin_film_solver.specs.declared.Solved.{Solved}
+use Rattle.thin_film_solver.specs.declared.Polarized.{Polarized}
 use Rattle.thin_film_matrix.specs.Matrix.{Matrix, at, mat-mul, identity}
 use Rattle.thin_film_solver.specs.Layer.{layer-s, layer-p}
 
@@ -72,14 +72,14 @@ unfoldable pub transmittance : Complex → Complex → Complex → Float
 transmittance eta0 eta t = clamp (eta .re ⊘ eta0 .re ⊗ norm-sq t) zero-f one
 
 -- the answers for one polarization
-unfoldable pub solve : Matrix → Complex → Complex → Solved
+unfoldable pub solve : Matrix → Complex → Complex → Polarized
 solve m eta0 eta =
     let r = reflection m eta0 eta in
     let t = transmission m eta0 eta in
     record { r = r; t = t; reflectance = reflectance r; transmittance = transmittance eta0 eta t; phase = arg r }
 
 -- the response, of the answers for s and for p
-unfoldable pub respond : Solved → Solved → CoatingResponse
+unfoldable pub respond : Polarized → Polarized → CoatingResponse
 respond s p = record {
   rs = s .r;
   rp = p .r;
@@ -92,6 +92,12 @@ respond s p = record {
   «phase_rs_rad» = s .phase;
   «phase_rp_rad» = p .phase;
 }
+
+-- where there is no response
+abbrev pub no-response : CoatingResponse
+no-response =
+    let dark : Polarized = record { r = zero; t = zero; reflectance = zero-f; transmittance = zero-f; phase = zero-f } in
+    respond dark dark
 
 -- evaluate_tmm_multilayer: the layers in the order from the incident medium to the substrate
 unfoldable pub evaluate : Float → Float → Float → Float → List ThinFilmLayer → CoatingResponse

@@ -6,7 +6,7 @@ use lib.Ieee.{Float}
 use borrow.Author.Needs.{needs}
 use Rattle.refusal.specs.declared.Refusal.{Refusal}
 use Rattle.refusal.specs.Outcome.{refused as refused-with}
-use Rattle.thin_film_layers.specs.Walk.{outcome}
+use Rattle.thin_film_layers.specs.Evaluation.{outcome}
 use Rattle.c_layers.specs.Evaluate.{evaluate}
 use Rattle.c_layers.proofs.Plain.{of-code}
 use Rattle.c_call.specs.Call.{done, packed, answered}

@@ -10,7 +10,7 @@ use Rattle.thin_film_solver.specs.declared.CoatingResponse.{CoatingResponse}
 use Rattle.thin_film.specs.declared.SurfaceCoating.{SurfaceCoating}
 use Rattle.thin_film_layers.specs.declared.Evaluation.{Evaluation}
 use Rattle.thin_film_layers.specs.declared.Evaluation.the-variants as E
-use Rattle.thin_film_layers.specs.Walk.{outcome}
+use Rattle.thin_film_layers.specs.Evaluation.{outcome}
 use Rattle.thin_film.specs.Evaluate.{evaluate-surface}
 use Rattle.gate_limits.specs.declared.Surface.{Surface}
 use Rattle.gate_limits.specs.declared.Interface.{Interface}

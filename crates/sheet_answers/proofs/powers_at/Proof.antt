@@ -7,7 +7,7 @@ use Rattle.refusal.specs.Outcome.{answer, map}
 use Rattle.thin_film_solver.specs.declared.ThinFilmLayer.{ThinFilmLayer}
 use Rattle.thin_film.specs.declared.SurfaceCoating.{SurfaceCoating}
 use Rattle.thin_film_layers.specs.declared.Evaluation.{Evaluation}
-use Rattle.thin_film_layers.specs.Walk.{outcome}
+use Rattle.thin_film_layers.specs.Evaluation.{outcome}
 use Rattle.thin_film.specs.Evaluate.{evaluate-surface}
 use Rattle.gate_limits.specs.declared.Surface.{Surface}
 use Rattle.gate_limits.specs.declared.Interface.{Interface}

@@ -1,19 +1,16 @@
--- `test_layers::evaluate_multilayer` meets its contract: what is lent is as much of the places as the count says. Assumes nothing.
-use mathlib.Core.Path.{_∙_}
-use native.Mathlib.Omega.{arith}
+-- `test_layers::evaluate_multilayer` meets its contract. Assumes nothing.
+use mathlib.Core.Path.{_∙_, ap}
+use borrow.Author.Tests.{le-leb, lt-leb}
+use Rattle.refusal.specs.Outcome.{answer}
 use borrow.Author.Needs.{needs}
-use Rattle.test_layers.proofs.Places.{at-most, same}
 use Rattle.test_layers.proofs.evaluate_multilayer.Statement.{statement}
 use Rattle.test_layers.proofs.evaluate_multilayer.Tie as tie
 
-multilayer-requires : tie.Need-multilayer-requires
-multilayer-requires c κs = omega (arith, c .within .ensures, at-most (c .before .args .count))
-
 returns : tie.Need-returns
-returns c =
-    let items = c .before .before .args .items in
-    let count = c .before .before .args .count in
-    c .multilayer .ensures ∙ simp (c .before .within .ensures, same count items (omega arith))
+returns c = simp (lt-leb _ _ (c .if1 .taken))
+
+returns-2 : tie.Need-returns-2
+returns-2 c = ap answer (c .multilayer .ensures) ∙ simp (le-leb _ _ (c .before .if1 .left))
 
 pub evaluate-multilayer-spec : {M : Type 1} → statement M
-evaluate-multilayer-spec = tie.close (tie.spec (λ c κs. search needs) multilayer-requires returns)
+evaluate-multilayer-spec = tie.close (tie.spec returns (λ c κs. search needs) returns-2)

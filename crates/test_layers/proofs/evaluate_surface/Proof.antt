@@ -1,19 +1,15 @@
--- `test_layers::evaluate_surface` meets its contract: what is lent is as much of the places as the count says. Assumes nothing.
+-- `test_layers::evaluate_surface` meets its contract. Assumes nothing.
 use mathlib.Core.Path.{_∙_}
-use native.Mathlib.Omega.{arith}
+use borrow.Author.Tests.{le-leb, lt-leb}
 use borrow.Author.Needs.{needs}
-use Rattle.test_layers.proofs.Places.{at-most, same}
 use Rattle.test_layers.proofs.evaluate_surface.Statement.{statement}
 use Rattle.test_layers.proofs.evaluate_surface.Tie as tie
 
-surface-requires : tie.Need-surface-requires
-surface-requires c κs = omega (arith, c .within .ensures, at-most (c .before .args .count))
-
 returns : tie.Need-returns
-returns c =
-    let items = c .before .before .args .items in
-    let count = c .before .before .args .count in
-    c .surface .ensures ∙ simp (c .before .within .ensures, same count items (omega arith))
+returns c = simp (lt-leb _ _ (c .if1 .taken))
+
+returns-2 : tie.Need-returns-2
+returns-2 c = c .surface .ensures ∙ simp (le-leb _ _ (c .before .if1 .left))
 
 pub evaluate-surface-spec : {M : Type 1} → statement M
-evaluate-surface-spec = tie.close (tie.spec (λ c κs. search needs) surface-requires returns)
+evaluate-surface-spec = tie.close (tie.spec returns (λ c κs. search needs) returns-2)

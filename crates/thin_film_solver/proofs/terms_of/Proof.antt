@@ -11,7 +11,7 @@ use Rattle.thin_film_matrix.specs.Film.{cos-theta, cos-delta, i-sin-delta}
 use Rattle.thin_film_solver.specs.declared.ThinFilmLayer.{ThinFilmLayer}
 use Rattle.thin_film_solver.specs.declared.Terms.{Terms}
 use Rattle.thin_film_solver.specs.Layer.{index, factor, delta}
-use Rattle.thin_film_solver.specs.Stack.{terms-of}
+use Rattle.thin_film_solver.specs.Internal.{terms-of}
 use borrow.Author.Needs.{needs}
 use Rattle.thin_film_solver.proofs.terms_of.Statement.{statement}
 use Rattle.thin_film_solver.proofs.terms_of.Tie as tie
@@ -22,7 +22,7 @@ unfolding terms-of delta index factor
 parts snell wavelength layer n z e f d q n-is z-is e-is f-is d-is q-is = simp (q-is, d-is, f-is, e-is, z-is, n-is)
 
 returns : tie.Need-returns
-returns c = parts _ _ _ _ _ _ _ _ _ (c .before .before .before .before .before .before .new .ensures) (c .before .before .before .before .before .cos-theta .ensures) (c .before .before .before .before .mul .ensures) (c .before .before .before .div .ensures) (c .before .scale .ensures) (c .phase-of .ensures)
+returns c = parts _ _ _ _ _ _ _ _ _ (c .before .before .before .before .before .before .before .new .ensures) (c .before .before .before .before .before .before .cos-theta .ensures) (c .before .before .before .before .before .mul .ensures) (c .before .before .before .before .div .ensures) (c .before .scale .ensures) (c .phase-of .ensures)
 
 pub terms-of-spec : {M : Type 1} → statement M
 terms-of-spec = tie.close (tie.spec (λ c κs. search needs) (λ c κs. search needs) (λ c κs. search needs) (λ c κs. search needs) (λ c κs. search needs) (λ c κs. search needs) returns)

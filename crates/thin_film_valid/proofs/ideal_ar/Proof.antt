@@ -4,7 +4,7 @@ use Rattle.thin_film_valid.proofs.ideal_ar.Statement.{statement}
 use Rattle.thin_film_valid.proofs.ideal_ar.Tie as tie
 
 returns : tie.Need-returns
-returns c = simp (c .real .ensures, c .before .zero .ensures)
+returns c = simp (c .respond .ensures, c .before .real .ensures, c .before .before .zero .ensures)
 
 pub ideal-ar-spec : {M : Type 1} → statement M
-ideal-ar-spec = tie.close (tie.spec (λ c κs. search needs) (λ c κs. search needs) returns)
+ideal-ar-spec = tie.close (tie.spec (λ c κs. search needs) (λ c κs. search needs) (λ c κs. search needs) returns)

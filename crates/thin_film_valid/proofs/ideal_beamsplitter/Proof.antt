@@ -4,7 +4,7 @@ use Rattle.thin_film_valid.proofs.ideal_beamsplitter.Statement.{stateme
 use Rattle.thin_film_valid.proofs.ideal_beamsplitter.Tie as tie
 
 returns : tie.Need-returns
-returns c = simp (c .real .ensures, c .before .sqrt .ensures)
+returns c = simp (c .respond .ensures, c .before .real .ensures, c .before .before .sqrt .ensures)
 
 pub ideal-beamsplitter-spec : {M : Type 1} → statement M
-ideal-beamsplitter-spec = tie.close (tie.spec (λ c κs. search needs) (λ c κs. search needs) returns)
+ideal-beamsplitter-spec = tie.close (tie.spec (λ c κs. search needs) (λ c κs. search needs) (λ c κs. search needs) returns)

@@ -55,7 +55,7 @@ use Rattle.thin_film_solver.proofs.ThinFilmLayer as L
 use Rattle.thin_film_solver.proofs.ThinFilmLayer.Laws as L′
 use Rattle.thin_film_coating.specs.declared.Coating.{Coating}
 use Rattle.thin_film_layers.specs.declared.Evaluation.{Evaluation}
-use Rattle.thin_film_layers.specs.Walk.{outcome}
+use Rattle.thin_film_layers.specs.Evaluation.{outcome}
 use Rattle.thin_film_coating.specs.Evaluate.{evaluate-coating}
 use Rattle.thin_film_coating.proofs.Coating as T
 use Rattle.thin_film_coating.proofs.Coating.Laws as T′

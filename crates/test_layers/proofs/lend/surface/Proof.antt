@@ -55,7 +55,7 @@ use Rattle.thin_film_solver.proofs.ThinFilmLayer as L
 use Rattle.thin_film_solver.proofs.ThinFilmLayer.Laws as L′
 use Rattle.thin_film.specs.declared.SurfaceCoating.{SurfaceCoating}
 use Rattle.thin_film_layers.specs.declared.Evaluation.{Evaluation}
-use Rattle.thin_film_layers.specs.Walk.{outcome}
+use Rattle.thin_film_layers.specs.Evaluation.{outcome}
 use Rattle.thin_film.specs.Evaluate.{evaluate-surface}
 use Rattle.thin_film.proofs.SurfaceCoating as T
 use Rattle.thin_film.proofs.SurfaceCoating.Laws as T′

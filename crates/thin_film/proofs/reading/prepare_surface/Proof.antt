@@ -1,71 +1,68 @@
 -- `thin_film::reading::prepare_surface` meets its contract. Assumes nothing.
-use mathlib.Core.Path.{_≡_, refl, sym, _∙_, ap}
-use mathlib.Core.Bool.{false}
-use mathlib.Core.List.{List, [], _∷_}
+use mathlib.Core.Path.{_≡_, refl, _∙_, ap}
+use Prim.Native.Nat.{ℕ}
+use mathlib.Core.Bool.{Bool}
+use mathlib.Core.List.{List}
+use lib.Dec.{leb}
+use lib.ListN.{length}
 use lib.Ieee.{Float, lt}
-use types.Run.{OneOf, miss}
-use denote.Enum.Declared.{tagOf}
 use Rattle.thin_film_solver.specs.declared.ThinFilmLayer.{ThinFilmLayer}
+use Rattle.thin_film_layers.specs.declared.Prepared.{Prepared}
+use Rattle.thin_film_layers.specs.Evaluation.{ordered}
+use Rattle.thin_film_layers.specs.Internal.{read-from}
+use Rattle.thin_film_presets.specs.Layers.{broadband-layers, bragg-layers}
 use Rattle.thin_film_coating.specs.declared.Coating.{Coating}
 use Rattle.thin_film_coating.specs.declared.Coating.the-variants as C
+use Rattle.thin_film_coating.specs.Evaluate.{respond, evaluate-coating}
+use Rattle.thin_film_coating.specs.Internal.{prepare}
+use Rattle.thin_film_coating.proofs.Answers.{prepared}
 use Rattle.thin_film.specs.declared.SurfaceCoating.{SurfaceCoating}
 use Rattle.thin_film.specs.declared.SurfaceCoating.the-variants as S
-use Rattle.thin_film.specs.Coating.{layers-of}
-use Rattle.thin_film_layers.specs.Walk.{ordered}
-use Rattle.thin_film_coating.specs.Evaluate.{respond, evaluate-coating}
+use Rattle.thin_film.specs.Coating.{coating-of, layers-of, mgf2-layers, mirror-layers}
 use Rattle.thin_film.specs.Evaluate.{evaluate-surface}
-use Rattle.thin_film.proofs.SurfaceCoating.{the-type}
-use Rattle.thin_film_layers.proofs.Answers.{at-once}
-use Rattle.thin_film_coating.proofs.Answers.{prepared}
+use Rattle.thin_film.specs.Internal.{own-layers, count-beside}
 use borrow.Author.Needs.{needs}
 use Rattle.thin_film.proofs.reading.prepare_surface.Statement.{statement}
 use Rattle.thin_film.proofs.reading.prepare_surface.Tie as tie
 
-module _ (n-incident n-substrate angle wavelength : Float) (layers : List ThinFilmLayer) where
+-- a preset coating has no more than 64 layers, as what it has beside it
+alike : (s : SurfaceCoating) (layers : List ThinFilmLayer) (count : ℕ) → length layers ≡ count → leb (length (own-layers s layers)) 64 ≡ leb (count-beside s count) 64
+unfolding own-layers mgf2-layers broadband-layers mirror-layers bragg-layers
+alike (S.MgF2 design) layers count e = refl
+alike S.BroadbandAr layers count e = refl
+alike S.HighReflectanceMirror layers count e = refl
+alike S.IdealAr layers count e = ap (λ (n : ℕ). leb n 64) e
+alike (S.Custom c) layers count e = ap (λ (n : ℕ). leb n 64) e
+
+module _ (reversed : Bool) (n-incident n-substrate angle wavelength : Float) (layers : List ThinFilmLayer) where
   -- an ideal coating ignores the list
-  ideal : (s : SurfaceCoating) → s ≡ S.IdealAr → evaluate-surface s layers n-incident n-substrate angle wavelength ≡ evaluate-coating C.IdealAr (ordered false layers) n-incident n-substrate angle wavelength
-  unfolding evaluate-surface evaluate-coating respond
-  ideal s e = simp e
+  ideal : (k : Coating) → evaluate-coating k (ordered reversed layers) n-incident n-substrate angle wavelength ≡ evaluate-coating k (ordered reversed (layers-of (S.Custom k) layers)) n-incident n-substrate angle wavelength
+  unfolding evaluate-coating respond layers-of
+  ideal C.IdealAr = refl
+  ideal C.IdealMirror = refl
+  ideal C.IdealBeamsplitter = refl
+  ideal C.Multilayer = refl
 
-  custom-of : (k : Coating) → evaluate-surface (S.Custom k) layers n-incident n-substrate angle wavelength ≡ evaluate-coating k (ordered (lt n-substrate n-incident) layers) n-incident n-substrate angle wavelength
-  unfolding evaluate-surface evaluate-coating respond layers-of
-  custom-of C.IdealAr = refl
-  custom-of C.IdealMirror = refl
-  custom-of C.IdealBeamsplitter = refl
-  custom-of C.Multilayer = refl
+  same : (s : SurfaceCoating) → evaluate-coating (coating-of s) (ordered reversed (own-layers s layers)) n-incident n-substrate angle wavelength ≡ evaluate-coating (coating-of s) (ordered reversed (layers-of s layers)) n-incident n-substrate angle wavelength
+  unfolding evaluate-coating respond layers-of own-layers
+  same (S.MgF2 design) = refl
+  same S.BroadbandAr = refl
+  same S.HighReflectanceMirror = refl
+  same S.IdealAr = refl
+  same (S.Custom c) = ideal c
 
-  custom : (k : Coating) (s : SurfaceCoating) → s ≡ S.Custom k → evaluate-surface s layers n-incident n-substrate angle wavelength ≡ evaluate-coating k (ordered (lt n-substrate n-incident) layers) n-incident n-substrate angle wavelength
-  custom k s e = ap (λ (z : SurfaceCoating). evaluate-surface z layers n-incident n-substrate angle wavelength) e ∙ custom-of k
-
-  -- a preset coating has layers of its own
-  preset : (s : SurfaceCoating) → OneOf (1 ∷ 2 ∷ 3 ∷ []) (tagOf the-type s)
-      → evaluate-surface s layers n-incident n-substrate angle wavelength ≡ evaluate-coating C.Multilayer (ordered (lt n-substrate n-incident) (layers-of s [])) n-incident n-substrate angle wavelength
-  unfolding evaluate-surface layers-of
-  preset S.IdealAr k = absurd (miss (1 ∷ 2 ∷ 3 ∷ []) 0 tt k)
-  preset (S.MgF2 design) k = refl
-  preset S.BroadbandAr k = refl
-  preset S.HighReflectanceMirror k = refl
-  preset (S.Custom c) k = absurd (miss (1 ∷ 2 ∷ 3 ∷ []) 4 tt k)
+comes-to : (n-incident n-substrate angle wavelength : Float) (s : SurfaceCoating) (k : Coating) (count beside : ℕ) (p r : Prepared) → k ≡ coating-of s → beside ≡ count-beside s count
+    → p ≡ prepare k (lt n-substrate n-incident) beside n-incident n-substrate angle wavelength → ((layers : List ThinFilmLayer) → read-from r layers ≡ read-from p (own-layers s layers))
+    → (layers : List ThinFilmLayer) → length layers ≡ count → read-from r layers ≡ evaluate-surface s layers n-incident n-substrate angle wavelength
+unfolding evaluate-surface
+comes-to n-incident n-substrate angle wavelength s k count beside p r k-is b-is p-is r-is layers e =
+    r-is layers
+    ∙ prepared n-incident n-substrate angle wavelength (lt n-substrate n-incident) (own-layers s layers) (count-beside s count) (alike s layers count e) (coating-of s) p
+    (p-is ∙ ap (λ (z : Coating). prepare z (lt n-substrate n-incident) beside n-incident n-substrate angle wavelength) k-is ∙ ap (λ (m : ℕ). prepare (coating-of s) (lt n-substrate n-incident) m n-incident n-substrate angle wavelength) b-is)
+    ∙ same (lt n-substrate n-incident) n-incident n-substrate angle wavelength layers s
 
 returns : tie.Need-returns
-returns c = λ layers h. prepared _ _ _ _ _ layers _ _ _ (c .prepare .ensures) h ∙ sym (ideal _ _ _ _ _ _ (c .before .enum-told .given .1))
-
-returns-2 : tie.Need-returns-2
-returns-2 c = λ layers h. prepared _ _ _ _ _ layers _ _ _ (c .prepare2 .ensures) h ∙ sym (custom _ _ _ _ _ _ _ (c .before .before .coating .given .1))
-
-returns-3 : tie.Need-returns-3
-returns-3 c = λ layers h. at-once _ _ (c .settled .ensures) layers ∙ c .before .evaluate-preset .ensures ∙ sym (preset _ _ _ _ _ _ (c .before .before .match .keys3))
+returns c = comes-to _ _ _ _ _ _ _ _ _ _ (c .before .before .before .coating-of .ensures) (c .before .before .count-beside .ensures) (c .before .prepare .ensures) (c .with-own-layers .ensures)
 
 pub prepare-surface-spec : {M : Type 1} → statement M
-prepare-surface-spec =
-    tie.close
-    (tie.spec
-    (λ c. search needs)
-    (λ c κs. search needs)
-    (λ c. search needs)
-    (λ c κs. search needs)
-    (λ c κs. search needs)
-    (λ c κs. search needs)
-    returns
-    returns-2
-    returns-3)
+prepare-surface-spec = tie.close (tie.spec (λ c κs. search needs) (λ c κs. search needs) (λ c κs. search needs) (λ c κs. search needs) returns)

@@ -13,7 +13,7 @@ use Rattle.thin_film_solver.specs.declared.ThinFilmLayer.{ThinFilmLayer}
 use Rattle.thin_film_coating.specs.declared.Built.{Built}
 use Rattle.thin_film_coating.specs.declared.Coating.the-variants as C
 use Rattle.thin_film_presets.specs.Layers.{bragg-layers}
-use Rattle.thin_film_layers.specs.Walk.{no-layer}
+use Rattle.thin_film_layers.specs.Evaluation.{no-layer}
 use Rattle.thin_film_coating.specs.Coating.{built, too-many, bragg-mirror}
 use Rattle.thin_film_presets.proofs.Nth.{alike}
 use Rattle.thin_film_coating.proofs.Repeat.{stored, all-stored}
