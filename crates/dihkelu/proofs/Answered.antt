@@ -17,8 +17,8 @@ use Rattle.gate_limits.specs.declared.Interface.{Interface}
 use Rattle.gate_limits.specs.declared.Interface.the-variants.{Bare, Coated}
 use Rattle.gate_limits.specs.Coating.{interface}
 use Rattle.surface.specs.Answers.{coated-answers, bare-answers, answers-of}
-use Rattle.sheet.specs.Sheet.{Sheet}
-use Rattle.sheet_values.specs.Nth.{nth}
+use Rattle.sheet.specs.Sheet.{nth, Sheet}
+use Rattle.sheet.specs.Claim.{Bytes}
 use Rattle.sheet_values.specs.Values.{value, films, surface-value}
 use Rattle.gate.specs.Gate.{gated}
 use Rattle.sheet_surfaces.specs.declared.SurfaceReply.{SurfaceReply}
@@ -42,9 +42,9 @@ module _ (wavelength : Float) (s : Value.Surface) (layers : List ThinFilmLayer) 
   of-interface (Coated coating) = mapped coated-answers (evaluate-surface coating layers (s .«n_incident») (s .«n_substrate») (s .«angle_rad») wavelength) (of-surface (s .«n_incident») (s .«n_substrate») (s .«angle_rad») wavelength coating layers)
 
 -- ---- a surface of a sheet
-pub answers-sound : (src : List ℕ) (i : ℕ) → Sound (surface-answers src i)
+pub answers-sound : (src : List ℕ) → Bytes src → (i : ℕ) → Sound (surface-answers src i)
 unfolding surface-answers
-answers-sound src i = go (gated src) (gate-sound src)
+answers-sound src bytes i = go (gated src) (gate-sound src bytes)
   where
     go : (o : Outcome Sheet) → Sound o → Sound (answers-to i o)
     go (answer x) h =

@@ -4,27 +4,26 @@ use mathlib.Core.Bool.{Bool, true, false, cond}
 use mathlib.Core.List.{List, [], _++_}
 use Prim.Native.Nat.{ℕ, _+_, _*_, _^_, _≤_, _<_}
 use native.Mathlib.Omega.{arith}
-use borrow.Author.Tests.{ltb-true, ne-eqb}
+use borrow.Author.Tests.{ltb-true}
 use lib.Dec.{leb, ltb, lit<}
 use lib.ListN.{length, drop}
 use lib.Ieee.{Float}
-use Rattle.refusal.specs.Outcome.{Outcome, answer, refusal, map}
-use Rattle.sheet.specs.Sheet.{Sheet}
+use Rattle.refusal.specs.Outcome.{Outcome, answer, refusal, map, bind}
+use Rattle.sheet.specs.Sheet.{nth, Sheet}
 use Rattle.sheet.specs.Claim.{Bytes}
-use Rattle.gate.specs.Gate.{surfaces-of, gated, gate}
+use Rattle.sheet.specs.Read.{surfaces-of}
+use Rattle.gate.specs.Gate.{gated, gate}
 use Rattle.gate.proofs.Claim.{gate-claim}
 use Rattle.surface.specs.declared.Answers.{Answers}
 use Rattle.train_steps.specs.declared.State.{State}
-use Rattle.train_steps.specs.declared.Stepped.{Stepped}
 use Rattle.train_steps.specs.Train.{after-one, stepped, step, Ran, ran, run}
-use Rattle.sheet_values.specs.Nth.{nth}
 use Rattle.sheet_values.specs.Values.{value}
 use Rattle.sheet_surfaces.specs.Surfaces.{surface-answers}
 use Rattle.c_layers.specs.Evaluate.{evaluate}
 use Rattle.c_layers.proofs.Plain.{of-code}
 use Rattle.c_call.specs.Call.{done, packed, returned, Reply, answered}
 use Rattle.c_call.specs.Layout.{response-numbers, common, evaluated, surface-answered}
-use Rattle.dihkelu.specs.Train.{start-layout, step-layout, step-outcome, run-done}
+use Rattle.dihkelu.specs.Train.{start-layout, step-layout, run-done}
 use Rattle.dihkelu.specs.Numbers.{Tells, said, Numbers}
 use Rattle.dihkelu.proofs.Returned.{Sound, plain-sound}
 use Rattle.dihkelu.proofs.Places.{gate-sound}
@@ -56,9 +55,6 @@ either : (b : Bool) (x y : Ran) → Tells (x .result) (returned (x .result)) →
 either true x y h k = h
 either false x y h k = k
 
-above : (n : ℕ) → 0 < n → n ≡ 0 → ⊥
-above n h e = omega arith
-
 never : {A : Type 0} (number place : ℕ) (a : A) → refusal number place ≡ answer a → ⊥
 never number place a e = let z : _≡_ {A = ℕ} 0 1 = cc in omega arith
 
@@ -72,18 +68,18 @@ module _ (src : List ℕ) (bytes : Bytes src) where
 
   of-gate : Tells (gate src) (returned (gate src))
   unfolding gate
-  of-gate = go (gated src) (gate-sound src) few
+  of-gate = go (gated src) (gate-sound src bytes) few
     where
       go : (o : Outcome Sheet) → Sound o → ((x : Sheet) → o ≡ answer x → length (x .surfaces) ≤ 64) → Tells (map surfaces-of o) (returned (map surfaces-of o))
       go (answer x) s h = tells-answer (surfaces-of x) (below (surfaces-of x) (h x refl))
       go (refusal number place) s h = tells-refusal number place (s .0) (s .1)
 
   of-start : (list : List Float) → Tells (said start-layout (gated src) list) (answered start-layout (gated src) list .returned)
-  of-start list = tells start-layout (gated src) (gate-sound src) (λ x e. below (surfaces-of x) (few x e)) list
+  of-start list = tells start-layout (gated src) (gate-sound src bytes) (λ x e. below (surfaces-of x) (few x e)) list
 
   of-run : (list : List Float) → Tells (run src list .result) (run-done (run src list) .returned)
   unfolding run
-  of-run list = go (gated src) (gate-sound src) few
+  of-run list = go (gated src) (gate-sound src bytes) few
     where
       go : (o : Outcome Sheet) → Sound o → ((x : Sheet) → o ≡ answer x → length (x .surfaces) ≤ 64) → Tells (ran list o .result) (returned (ran list o .result))
       go (answer x) s h = either (leb (2 * length (x .surfaces)) (length list)) _ _ (tells-answer (surfaces-of x) (below (surfaces-of x) (h x refl))) tells-short
@@ -91,31 +87,24 @@ module _ (src : List ℕ) (bytes : Bytes src) where
 
   -- ---- a step
   module _ (st : State) where
-    refuses : (number place : ℕ) → 0 < number → step-outcome (record { refusal = record { number = number; place = place }; state = st }) ≡ refusal number place
-    refuses number place h = simp (ne-eqb number 0 (above number h))
-
-    step-sound : Sound (step-outcome (step src st))
+    pub step-sound : Sound (step src st)
     unfolding step
-    step-sound = go (gated src) (gate-sound src)
+    step-sound = go (gated src) (gate-sound src bytes)
       where
-        at : (b : Bool) (x y : Stepped) → Sound (step-outcome x) → Sound (step-outcome y) → Sound (step-outcome (cond b x y))
-        at true x y h k = h
-        at false x y h k = k
+        at : (b : Bool) (x : Outcome State) → Sound x → Sound (cond b x (refusal 7 0))
+        at true x h = h
+        at false x h = (lit< tt, lit< tt)
 
-        go : (o : Outcome Sheet) → Sound o → Sound (step-outcome (stepped st o))
-        go (answer x) s =
-            at (ltb (st .done) (length (x .surfaces)))
-            (record { refusal = record { number = 0; place = 0 }; state = after-one (value (x .wavelength)) st (nth (x .surfaces) (st .done)) })
-            (record { refusal = record { number = 7; place = 0 }; state = st })
-            tt (lit< tt, lit< tt)
-        go (refusal number place) s = subst Sound (sym (refuses number place (s .0))) s
+        go : (o : Outcome Sheet) → Sound o → Sound (bind o (stepped st))
+        go (answer x) s = at (ltb (st .done) (length (x .surfaces))) (answer (after-one (value (x .wavelength)) st (nth (x .surfaces) (st .done)))) tt
+        go (refusal number place) s = s
 
-    step-small : (next : State) → step-outcome (step src st) ≡ answer next → next .done < 2 ^ 32
+    step-small : (next : State) → step src st ≡ answer next → next .done < 2 ^ 32
     unfolding step after-one
-    step-small next = go (gated src) (gate-sound src) few
+    step-small next = go (gated src) few
       where
-        go : (o : Outcome Sheet) → Sound o → ((x : Sheet) → o ≡ answer x → length (x .surfaces) ≤ 64) → step-outcome (stepped st o) ≡ answer next → next .done < 2 ^ 32
-        go (answer x) s h e = at (ltb (st .done) (length (x .surfaces))) refl e
+        go : (o : Outcome Sheet) → ((x : Sheet) → o ≡ answer x → length (x .surfaces) ≤ 64) → bind o (stepped st) ≡ answer next → next .done < 2 ^ 32
+        go (answer x) h e = at (ltb (st .done) (length (x .surfaces))) refl e
           where
             after : State
             after = after-one (value (x .wavelength)) st (nth (x .surfaces) (st .done))
@@ -123,18 +112,17 @@ module _ (src : List ℕ) (bytes : Bytes src) where
             done-is : answer after ≡ answer next → after .done ≡ next .done
             done-is e = cc
 
-            at : (b : Bool) → ltb (st .done) (length (x .surfaces)) ≡ b
-                → step-outcome (cond b (record { refusal = record { number = 0; place = 0 }; state = after }) (record { refusal = record { number = 7; place = 0 }; state = st })) ≡ answer next → next .done < 2 ^ 32
+            at : (b : Bool) → ltb (st .done) (length (x .surfaces)) ≡ b → cond b (answer after) (refusal 7 0) ≡ answer next → next .done < 2 ^ 32
             at true t e =
                 let d : st .done + 1 ≡ next .done = done-is e in
                 let l : st .done < length (x .surfaces) = ltb-true (st .done) (length (x .surfaces)) t in
                 let m : length (x .surfaces) ≤ 64 = h x refl in
                 omega arith
             at false t e = absurd (never 7 0 next e)
-        go (refusal number place) s h e = absurd (never number place next (sym (refuses number place (s .0)) ∙ e))
+        go (refusal number place) h e = absurd (never number place next e)
 
-    of-step : (list : List Float) → Tells (said step-layout (step-outcome (step src st)) list) (answered step-layout (step-outcome (step src st)) list .returned)
-    of-step list = tells step-layout (step-outcome (step src st)) step-sound step-small list
+    of-step : (list : List Float) → Tells (said step-layout (step src st) list) (answered step-layout (step src st) list .returned)
+    of-step list = tells step-layout (step src st) step-sound step-small list
 
 -- ---- how many numbers are written
 answers-small : (a : Answers) → surface-answered a .returned < 2 ^ 32
@@ -150,7 +138,7 @@ numbers = record {
   of-start = of-start;
   of-step = of-step;
   of-run = of-run;
-  of-answers = λ src i list. tells surface-answered (surface-answers src i) (answers-sound src i) (λ a e. answers-small a) list;
+  of-answers = λ src bytes i list. tells surface-answered (surface-answers src i) (answers-sound src bytes i) (λ a e. answers-small a) list;
   of-evaluate = λ code design n-incident n-substrate angle wavelength flat list.
       let o = evaluate code design n-incident n-substrate angle wavelength flat in
       tells evaluated o (plain-sound o (of-code n-incident n-substrate angle wavelength code design flat)) (λ r e. lit< tt) list;

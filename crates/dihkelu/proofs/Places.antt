@@ -5,7 +5,7 @@ use mathlib.Core.List.{List, [], _∷_}
 use Prim.Native.Nat.{ℕ, zero, suc, _+_, _*_, _%_, _^_, _≤_, _<_}
 use native.Mathlib.Omega.{arith}
 use lib.Dec.{T, eqb, leb, leb→le}
-use lib.ListN.{length, getD, length-append, length-drop}
+use lib.ListN.{length, getD, take, drop, length-append, length-drop}
 use lib.Ieee.Fits.{and-l, and-r}
 use borrow.Author.Tests.{leb-true}
 use Rattle.refusal.specs.Outcome.{Outcome}
@@ -38,10 +38,54 @@ unfolding blocks-from
 fault-most g zero s at ws q e = omega (arith, same at q e)
 fault-most g (suc fuel) s at [] q e = by (g .may-end s) e
   where
-    by : (t : Bool) → cond t (read []) (fault at) ≡ fault q → q ≤ at + 0
-    by true e = absurd (no-fault [] q e)
+    by : (t : Bool) → cond {A = Result (List Block)} t (read []) (fault at) ≡ fault q → q ≤ at + 0
+    by true e = absurd (no-fault {A = List Block} [] q e)
     by false e = omega (arith, same at q e)
-fault-most g (suc fuel) s at (w ∷ ws) q e = by (g .may s w) (leb (g .raws w) (length ws)) refl e (fault-most g fuel (g .after s w) (at + suc (g .raws w)) (drop-of ws) q)
+fault-most g (suc fuel) s at (w ∷ ws) q e =
+    by (g .may s w) (leb (g .raws w) (length ws)) refl e (λ z. fault-most g fuel (g .after s w) (at + suc (g .raws w)) (drop (g .raws w) ws) q z)
   where
-    drop-of : List ℕ → List ℕ
-    drop-of l = lib.ListN.drop (g .raws w) l
+    rest : Result (List Block)
+    rest = blocks-from g fuel (g .after s w) (at + suc (g .raws w)) (drop (g .raws w) ws)
+
+    by : (t u : Bool) → leb (g .raws w) (length ws) ≡ u → cond (t && u) (mapped (λ bs. record { word = w; raw = take (g .raws w) ws } ∷ bs) rest) (fault at) ≡ fault q
+        → (rest ≡ fault q → q ≤ at + suc (g .raws w) + length (drop (g .raws w) ws)) → q ≤ at + suc (length ws)
+    by true true f e again = let h = again (of-mapped (λ bs. record { word = w; raw = take (g .raws w) ws } ∷ bs) rest q e) in let l = leb-true (g .raws w) (length ws) f in omega (arith, length-drop (g .raws w) ws)
+    by true false f e again = omega (arith, same at q e)
+    by false u f e again = omega (arith, same at q e)
+
+faulty : (src : List ℕ) (place : ℕ) → decode src ≡ fault place → place ≤ length (words-of src)
+unfolding decode
+faulty src place e =
+    let ws = words-of src in
+    let h = fault-most sheet-grammar (suc (length ws)) at-open 0 ws place (of-mapped sheet-of (blocks-from sheet-grammar (suc (length ws)) at-open 0 ws) place e) in
+    omega arith
+
+-- ---- a block stands at a word of the sheet
+starts-below : (at : ℕ) (bs : List Block) (i : ℕ) → i < length bs → getD (starts at bs) i 0 < at + length (flat bs)
+unfolding starts flat
+starts-below at [] i lt = absurd (omega arith)
+starts-below at (b ∷ bs) zero lt = omega (arith, length-append (b .raw) (flat bs))
+starts-below at (b ∷ bs) (suc i) lt = let h = starts-below (at + suc (length (b .raw))) bs i (omega arith) in omega (arith, length-append (b .raw) (flat bs))
+
+place-below : (x : Sheet) → WellFormed x → (place : ℕ) → FirstOutside x place → place ≤ 7625
+place-below x h place f = omega (arith, f .stands, starts-below 0 (blocks x) (f .block) (f .inside), length-limits x h .1)
+
+-- ---- the gate
+module _ (src : List ℕ) (bytes : Bytes src) where
+  fits : T (length-fits src) → (36 ≤ length src) × (length src ≤ 30500)
+  fits t =
+      let n = length src in
+      let u = and-r (eqb (n % 4) 0) (leb 36 n && leb n 30500) t in
+      (leb→le 36 n (and-l (leb 36 n) (leb n 30500) u), leb→le n 30500 (and-r (leb 36 n) (leb n 30500) u))
+
+  of-case : {o : Outcome Sheet} → Case src o → Sound o
+  of-case (short f) = (omega arith, omega arith)
+  of-case (broken t place d) = let l = fits t in let w = words-of-length src in (omega arith, omega (arith, faulty src place d))
+  of-case (outside t x d place f) = (omega arith, omega (arith, place-below x (grammar-claim .reads src bytes t x .0 d .0) place f))
+  of-case (inside t x d h) = tt
+
+  pub gate-sound : Sound (gated src)
+  gate-sound = of-case (cases src)
+
+  pub gate-apart : Apart (gated src)
+  gate-apart = sound-apart (gated src) gate-sound

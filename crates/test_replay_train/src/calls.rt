@@ -1,10 +1,10 @@
 // The functions 160 to 174: of sheets and trains. Each gives its count of words; 0 where it is not one
-// of these, or where a refusal or a run changed what it must leave.
+// of these, or where a run changed what it must leave.
 use super::answers::answers_out;
 use gate::Gated;
 use refusal::Refusal;
-use train_steps::Started;
 use train_steps::State;
+use train_steps::TrainReply;
 
 fn refusal_out(out: &mut [u64; 256], r: Refusal) -> usize {
     out[0] = r.number as u64;
@@ -33,28 +33,15 @@ fn gate_call(src: &[u8], out: &mut [u64; 256]) -> usize {
 
 fn start_call(src: &[u8], out: &mut [u64; 256]) -> usize {
     match train_steps::start(src) {
-        Started::Fresh(state) => state_out(out, state),
-        Started::Refused(r) => refusal_out(out, r),
+        TrainReply::State(state) => state_out(out, state),
+        TrainReply::Refused(r) => refusal_out(out, r),
     }
-}
-
-fn same_state(a: State, b: State) -> bool {
-    a.done == b.done
-        && (test_records::bits(a.s) == test_records::bits(b.s)
-            && test_records::bits(a.p) == test_records::bits(b.p))
 }
 
 fn step_call(src: &[u8], state: State, out: &mut [u64; 256]) -> usize {
-    let r = train_steps::step(src, state);
-    let refusal = r.refusal;
-    let next = r.state;
-    if refusal.number == 0 {
-        return state_out(out, next);
-    }
-    if same_state(state, next) {
-        refusal_out(out, refusal)
-    } else {
-        0
+    match train_steps::step(src, state) {
+        TrainReply::State(next) => state_out(out, next),
+        TrainReply::Refused(r) => refusal_out(out, r),
     }
 }
 
@@ -64,13 +51,10 @@ fn steps_from(src: &[u8], first: State, n: u32, out: &mut [u64; 256]) -> usize {
     let mut refused: u64 = 0;
     let mut i = 0;
     while i < n {
-        let r = train_steps::step(src, state);
-        let refusal = r.refusal;
-        let next = r.state;
-        if refusal.number > 0 {
-            refused += 1;
+        match train_steps::step(src, state) {
+            TrainReply::State(next) => state = next,
+            TrainReply::Refused(_) => refused += 1,
         }
-        state = next;
         i += 1;
     }
     out[4] = refused;
@@ -80,8 +64,8 @@ fn steps_from(src: &[u8], first: State, n: u32, out: &mut [u64; 256]) -> usize {
 
 fn steps_call(src: &[u8], n: u32, out: &mut [u64; 256]) -> usize {
     match train_steps::start(src) {
-        Started::Fresh(state) => steps_from(src, state, n, out),
-        Started::Refused(r) => refusal_out(out, r),
+        TrainReply::State(state) => steps_from(src, state, n, out),
+        TrainReply::Refused(r) => refusal_out(out, r),
     }
 }
 

@@ -4,19 +4,21 @@ use mathlib.Core.List.{List}
 use Prim.Native.Nat.{ℕ}
 use borrow.Author.Needs.{needs}
 use Rattle.refusal.specs.Outcome.{Outcome}
-use Rattle.gate.specs.Gate.{surfaces-of, gated, gate}
+use Rattle.sheet.specs.Read.{surfaces-of}
+use Rattle.sheet.proofs.Stands.{Known, bytes-from}
+use Rattle.gate.specs.Gate.{gated, gate}
 use Rattle.c_call.specs.Call.{Apart, returned}
 use Rattle.dihkelu.proofs.Places.{gate-apart}
 use Rattle.dihkelu.proofs.Returned.{apart-map}
 use Rattle.dihkelu.proofs.dihkelu_gate.Statement.{statement}
 use Rattle.dihkelu.proofs.dihkelu_gate.Tie as tie
 
-apart : (src : List ℕ) (o : Outcome ℕ) → o ≡ gate src → Apart o
+apart : (src : List ℕ) → Known src → (o : Outcome ℕ) → o ≡ gate src → Apart o
 unfolding gate
-apart src o e = subst Apart (sym e) (apart-map surfaces-of (gated src) (gate-apart src))
+apart src known o e = subst Apart (sym e) (apart-map surfaces-of (gated src) (gate-apart src (bytes-from src known)))
 
 number-of-requires : tie.Need-number-of-requires
-number-of-requires c κs = apart _ _ (c .gate .ensures)
+number-of-requires c κs = apart _ (c .before .shared-slice-known .given) _ (c .gate .ensures)
 
 returns : tie.Need-returns
 returns c = c .number-of .ensures ∙ ap returned (c .before .gate .ensures)
