@@ -11,8 +11,7 @@ use lib.ListN.{length, getD, drop, drop-of-length-le}
 use lib.Seq.{drop-cons, drop-drop, getD-drop}
 use lib.Ieee.{Float}
 use Rattle.refusal.specs.Outcome.{answer}
-use Rattle.sheet.specs.Sheet.{SheetSurface, Sheet}
-use Rattle.sheet_values.specs.Nth.{no-surface, nth}
+use Rattle.sheet.specs.Sheet.{SheetSurface, Sheet, no-surface, nth}
 use Rattle.sheet_values.specs.Values.{value, surface-value}
 use Rattle.gate.specs.Gate.{gated}
 use Rattle.sheet_surfaces.specs.Surfaces.{nth-surface}

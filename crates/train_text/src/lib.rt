@@ -12,7 +12,7 @@ ghost use Rattle.train_text.specs.Page.{Appended, reflects, RunOf};
 use gate::Gated;
 use refusal::Refusal;
 use sheet_surfaces::NthSurface;
-use train_steps::Started;
+use train_steps::TrainReply;
 
 // ---- numbers as text
 
@@ -192,8 +192,8 @@ fn admitted(src: &[u8], count: usize, list: &[f64; 128], page: &mut [u8]) -> usi
     ensures { λ r. ⌜ ((x : Sheet) → RunOf (now (src .entry)) x (fresh x .s) (fresh x .p) count (now (list .entry)) → Appended (now (page .entry)) 0 (Text.text (answer x)) r (now (page .exit))) × (r ≤ length (now (page .entry))) ⌝ }
 {
     match train_steps::start(src) {
-        Started::Fresh(state) => lines(src, state.s, state.p, count, list, page),
-        Started::Refused(r) => refused_line(page, r.number as u64, r.place as u64),
+        TrainReply::State(state) => lines(src, state.s, state.p, count, list, page),
+        TrainReply::Refused(r) => refused_line(page, r.number as u64, r.place as u64),
     }
 }
 
