@@ -28,10 +28,12 @@ call-coating code design = cond (eqb code 8) (Coated (S.Custom C.IdealAr)) (code
 
 -- SurfaceCoating::evaluate of a coating; where a code has none it is 1
 unfoldable pub evaluate-coded : Interface → List Float → Float → Float → Float → Float → Outcome CoatingResponse
-evaluate-coded (Coated surface) flat n-incident n-substrate angle wavelength = evaluate-surface surface (layers flat) n-incident n-substrate angle wavelength
+evaluate-coded (Coated surface) flat n-incident n-substrate angle wavelength =
+    evaluate-surface surface (layers flat) n-incident n-substrate angle wavelength
 evaluate-coded Bare flat n-incident n-substrate angle wavelength = invalid-parameter
 
 -- 1 for a flat list that is no multiple of 3
 unfoldable pub evaluate : ℕ → Float → Float → Float → Float → Float → List Float → Outcome CoatingResponse
 evaluate code design n-incident n-substrate angle wavelength flat =
-    cond (eqb (length flat % 3) 0) (evaluate-coded (call-coating code design) flat n-incident n-substrate angle wavelength) invalid-parameter
+    let coated = evaluate-coded (call-coating code design) flat n-incident n-substrate angle wavelength in
+    cond (eqb (length flat % 3) 0) coated invalid-parameter

@@ -46,7 +46,9 @@ refracts b n = le b (seven-eighths ⊗ n)
 
 -- ---- a layer, for an n_incident·abs(sin) of b: n 1 to 4, k equal to zero, thickness 0 to 100,000, b at most 0.875·n
 unfoldable pub layer-within : Float → ThinFilmLayer → Bool
-layer-within b layer = within one four (layer .n) && (eq (layer .k) zero-f && (within zero-f hundred-thousand (layer .«thickness_nm») && refracts b (layer .n)))
+layer-within b layer =
+    within one four (layer .n)
+    && (eq (layer .k) zero-f && (within zero-f hundred-thousand (layer .«thickness_nm») && refracts b (layer .n)))
 
 unfoldable pub layers-within : Float → List ThinFilmLayer → Bool
 layers-within b [] = true
@@ -64,7 +66,8 @@ abbrev pub angle-within : Float → Float → Surface → Bool
 angle-within b c s = le quarter c && (refracts b (s .«n_substrate») && layers-within b (preset-layers (interface (s .coating))))
 
 abbrev pub surface-within : Float → Float → Surface → Bool
-surface-within b c s = within one four (s .«n_incident») && (within one four (s .«n_substrate») && (finite (s .«angle_rad») && angle-within b c s))
+surface-within b c s =
+    within one four (s .«n_incident») && (within one four (s .«n_substrate») && (finite (s .«angle_rad») && angle-within b c s))
 
 unfoldable pub angle-passes : Surface → Bool
 angle-passes s = angle-within (snell-size (s .«n_incident») (s .«angle_rad»)) (cos (s .«angle_rad»)) s

@@ -46,7 +46,7 @@ use Rattle.surface.specs.Finite.{UnitPowers, FiniteResponse}
 use Rattle.gate_limits.proofs.Ranges.{layers-in, Inside}
 use Rattle.surface.proofs.Polarized.{PowerJones, cpow-finite, of-real-pow, diattenuator-pow}
 
--- ---- the layers that a coating is evaluated with: they pass, there are 16 at most, and read from the far end they are the same ones
+-- ---- the layers that a coating is evaluated with: they pass, there are 16 at most, and reversed they are the same ones
 chosen-pass : (n angle : Float) (coating : SurfaceCoating) (layers : List ThinFilmLayer) → T (layers-pass n angle (layers-of coating [])) → T (layers-pass n angle layers) → T (layers-pass n angle (layers-of coating layers))
 unfolding layers-of
 chosen-pass n angle S.IdealAr layers p t = p
@@ -73,12 +73,12 @@ turned : (snell : Float) (layers rest : List ThinFilmLayer) → AdmittedLayers s
 turned snell [] rest h g = g
 turned snell (layer ∷ layers) rest h g = turned snell layers (layer ∷ rest) (h .1) (h .0, g)
 
-ordered-in : (snell : Float) (far : Bool) (layers : List ThinFilmLayer) → AdmittedLayers snell layers → AdmittedLayers snell (ordered far layers)
+ordered-in : (snell : Float) (reversed : Bool) (layers : List ThinFilmLayer) → AdmittedLayers snell layers → AdmittedLayers snell (ordered reversed layers)
 unfolding ordered
 ordered-in snell false layers h = h
 ordered-in snell true layers h = turned snell layers [] h tt
 
-ordered-few : (far : Bool) (layers : List ThinFilmLayer) → length layers ≤ 16 → length (ordered far layers) ≤ 16
+ordered-few : (reversed : Bool) (layers : List ThinFilmLayer) → length layers ≤ 16 → length (ordered reversed layers) ≤ 16
 unfolding ordered
 ordered-few false layers h = h
 ordered-few true layers h = rw length-reverse h

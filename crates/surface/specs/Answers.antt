@@ -57,13 +57,16 @@ bare-powers s =
 
 -- a bare surface has no response
 unfoldable pub bare-answers : Surface → Outcome Answers
-bare-answers s = map (assembled false (bare-powers s) no-response) (surface-fresnel-jones (s .«n_incident») (s .«n_substrate») (s .«angle_rad»))
+bare-answers s =
+    map (assembled false (bare-powers s) no-response) (surface-fresnel-jones (s .«n_incident») (s .«n_substrate») (s .«angle_rad»))
 
 -- as a struct: the answers beside a refusal's number, which is 0 where there is none; zero throughout where refused
 abbrev pub no-answers : Answers
 no-answers =
     let dark = diattenuator zero zero in
-    assembled false (record { «reflectance_s» = zero-f; «reflectance_p» = zero-f; «transmittance_s» = zero-f; «transmittance_p» = zero-f }) no-response (record { reflection = dark; transmission = dark })
+    let z = zero-f in
+    let none : Powers = record { «reflectance_s» = z; «reflectance_p» = z; «transmittance_s» = z; «transmittance_p» = z } in
+    assembled false none no-response (record { reflection = dark; transmission = dark })
 
 unfoldable pub returned : Outcome Answers → AnswersReply
 returned (answer a) = record { refusal = 0; answers = a }
@@ -76,7 +79,8 @@ outcome r = cond (eqb (r .refusal) 0) (answer (r .answers)) (refusal (r .refusal
 -- ---- a surface's answers, for its words, its layers and a wavelength
 unfoldable pub answers-of : Interface → Float → Surface → List ThinFilmLayer → Outcome Answers
 answers-of Bare wavelength s layers = bare-answers s
-answers-of (Coated coating) wavelength s layers = map coated-answers (evaluate-surface coating layers (s .«n_incident») (s .«n_substrate») (s .«angle_rad») wavelength)
+answers-of (Coated coating) wavelength s layers =
+    map coated-answers (evaluate-surface coating layers (s .«n_incident») (s .«n_substrate») (s .«angle_rad») wavelength)
 
 abbrev pub answers : Float → Surface → List ThinFilmLayer → Outcome Answers
 answers wavelength s layers = answers-of (interface (s .coating)) wavelength s layers
@@ -84,7 +88,8 @@ answers wavelength s layers = answers-of (interface (s .coating)) wavelength s l
 -- ---- its powers alone; those of section 5 refuse nothing
 unfoldable pub powers-of : Interface → Float → Surface → List ThinFilmLayer → Outcome Powers
 powers-of Bare wavelength s layers = answer (bare-powers s)
-powers-of (Coated coating) wavelength s layers = map coated-powers (evaluate-surface coating layers (s .«n_incident») (s .«n_substrate») (s .«angle_rad») wavelength)
+powers-of (Coated coating) wavelength s layers =
+    map coated-powers (evaluate-surface coating layers (s .«n_incident») (s .«n_substrate») (s .«angle_rad») wavelength)
 
 abbrev pub powers : Float → Surface → List ThinFilmLayer → Outcome Powers
 powers wavelength s layers = powers-of (interface (s .coating)) wavelength s layers

@@ -1,4 +1,5 @@
--- What is claimed of the answers of a surface within the limits, and of powers that are multiplied. Definitions only; proofs/Finite.antt and proofs/Alone.antt have the proofs.
+-- What is claimed of the answers of a surface within the limits, and of powers that are multiplied. Definitions only;
+-- proofs/Finite.antt and proofs/Alone.antt have the proofs.
 use mathlib.Core.Path.{_≡_}
 use Prim.Native.Nat.{ℕ, _≤_, _<_}
 use mathlib.Core.Bool.{_&&_}
@@ -70,11 +71,15 @@ pub record Answered (wavelength : Float) (s : Surface) (layers : List ThinFilmLa
 
 -- for every wavelength and surface within the limits, with 0 to 16 layers
 abbrev pub EverySurfaceAnswered : Type 0
-EverySurfaceAnswered = (wavelength : Float) (s : Surface) (layers : List ThinFilmLayer) → T (wavelength-passes wavelength) → T (passes wavelength s layers) → length layers ≤ 16 → Answered wavelength s layers
+EverySurfaceAnswered =
+    (wavelength : Float) (s : Surface) (layers : List ThinFilmLayer) → T (wavelength-passes wavelength) → T (passes wavelength s layers)
+    → length layers ≤ 16 → Answered wavelength s layers
 
 -- a surface that is answered, within the limits or not, has the same powers alone
 abbrev pub PowersAnswered : Type 0
-PowersAnswered = (wavelength : Float) (s : Surface) (layers : List ThinFilmLayer) (value : Answers) → answers wavelength s layers ≡ answer value → powers wavelength s layers ≡ answer (value .powers)
+PowersAnswered =
+    (wavelength : Float) (s : Surface) (layers : List ThinFilmLayer) (value : Answers) → answers wavelength s layers ≡ answer value
+    → powers wavelength s layers ≡ answer (value .powers)
 
 -- ---- powers that are multiplied: x·y as rounded is at least 0 and at most x, for every f64 x and every y from 0 to 1
 abbrev pub ProductFalls : Type 0
@@ -82,4 +87,6 @@ ProductFalls = (x y : Float) → T (fits binary64 x) → T (power-passes x) → 
 
 -- and the rounded sum of two such products is at most the rounded sum
 abbrev pub SumFalls : Type 0
-SumFalls = (x y u v : Float) → T (fits binary64 x) → T (fits binary64 u) → T (power-passes x) → T (power-passes y) → T (power-passes u) → T (power-passes v) → T (le (x ⊗ y ⊕ u ⊗ v) (x ⊕ u))
+SumFalls =
+    (x y u v : Float) → T (fits binary64 x) → T (fits binary64 u) → T (power-passes x) → T (power-passes y) → T (power-passes u)
+    → T (power-passes v) → T (le (x ⊗ y ⊕ u ⊗ v) (x ⊕ u))

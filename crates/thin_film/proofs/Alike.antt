@@ -39,7 +39,7 @@ module _ (n-incident n-substrate angle wavelength : Float) where
 pub refuse-alike : RefuseAlike
 unfolding evaluate-surface evaluate-coating
 refuse-alike surface custom n-incident n-substrate angle wavelength =
-    let far = lt n-substrate n-incident in
+    let reversed = lt n-substrate n-incident in
     let layers = layers-of surface custom in
-    either (valid n-incident n-substrate angle wavelength) (respond (coating-of surface) (ordered far layers) n-incident n-substrate angle wavelength) (respond (coating-of surface) layers n-incident n-substrate angle wavelength) invalid-parameter
-    (responds n-incident n-substrate angle wavelength (coating-of surface) (ordered far layers) layers (as-long far layers))
+    either (valid n-incident n-substrate angle wavelength) (respond (coating-of surface) (ordered reversed layers) n-incident n-substrate angle wavelength) (respond (coating-of surface) layers n-incident n-substrate angle wavelength) invalid-parameter
+    (responds n-incident n-substrate angle wavelength (coating-of surface) (ordered reversed layers) layers (as-long reversed layers))

@@ -1,4 +1,5 @@
 -- Known answers, and that both evaluations refuse alike.
 pub mod Known
 pub mod Alike
+pub mod Decimals
 mod Mirror

@@ -1,10 +1,11 @@
 -- `SurfaceCoating` of thin_film.rs, beside a list of layers. Definitions only.
+use mathlib.Core.Path.{_≡_}
 use Prim.Native.Nat.{ℕ, _-_}
-use mathlib.Core.Bool.{cond}
+use mathlib.Core.Bool.{false, cond}
 use mathlib.Core.List.{List, [], _∷_, _++_}
 use lib.Dec.{leb}
 use lib.ListN.{length, replicate}
-use lib.Ieee.{Float, binary64, ofBits}
+use lib.Ieee.{Float, binary64, ofBits, round}
 use Rattle.thin_film_solver.specs.declared.ThinFilmLayer.{ThinFilmLayer}
 use Rattle.thin_film_solver.specs.Solve.{dielectric}
 use Rattle.thin_film_presets.specs.Layers.{n-sio2, n-tio2, quarter-wave, bragg-layers, broadband-layers}
@@ -24,6 +25,11 @@ standard-wavelength = ofBits binary64 0x4081_3000_0000_0000
 -- 1.38
 abbrev pub n-mgf2 : Float
 n-mgf2 = ofBits binary64 0x3FF6_147A_E147_AE14
+
+-- each is the double nearest to its decimal; proofs/Decimals.antt has the proof
+pub record Decimals : Type 0 where
+  pub design : standard-wavelength ≡ round binary64 false 550 1
+  pub mgf2 : n-mgf2 ≡ round binary64 false 138 100
 
 -- ---- layers
 -- to_coating, MgF2
@@ -58,7 +64,8 @@ mgf2-default = S.MgF2 standard-wavelength
 
 -- to_coating, of a coating beside its explicit layers; 3 for more than 64 of them
 abbrev pub to-coating : SurfaceCoating → Layers → Built
-to-coating (S.Custom C.Multilayer) custom = cond (leb (custom .count) 64) (record { refusal = 0; coating = C.Multilayer; layers = custom }) too-many
+to-coating (S.Custom C.Multilayer) custom =
+    cond (leb (custom .count) 64) (record { refusal = 0; coating = C.Multilayer; layers = custom }) too-many
 to-coating (S.Custom C.IdealAr) custom = built C.IdealAr []
 to-coating (S.Custom C.IdealMirror) custom = built C.IdealMirror []
 to-coating (S.Custom C.IdealBeamsplitter) custom = built C.IdealBeamsplitter []

@@ -13,11 +13,15 @@ use Rattle.thin_film.specs.Coating.{coating-of, layers-of}
 -- SurfaceCoating::evaluate: to_coating, then the layers reversed only where n_incident > n_substrate, then Coating::evaluate
 unfoldable pub evaluate-surface : SurfaceCoating → List ThinFilmLayer → Float → Float → Float → Float → Outcome CoatingResponse
 evaluate-surface surface custom n-incident n-substrate angle wavelength =
-    evaluate-coating (coating-of surface) (ordered (lt n-substrate n-incident) (layers-of surface custom)) n-incident n-substrate angle wavelength
+    let reversed = lt n-substrate n-incident in
+    evaluate-coating (coating-of surface) (ordered reversed (layers-of surface custom)) n-incident n-substrate angle wavelength
 
 -- 01 section 4: both refuse alike, with the same number and place and for the same arguments; proofs/Alike.antt has the proof
 abbrev pub refusal-of : Outcome CoatingResponse → Outcome (Unit {0})
 refusal-of o = map (λ r. tt) o
 
 abbrev pub RefuseAlike : Type 0
-RefuseAlike = (surface : SurfaceCoating) (custom : List ThinFilmLayer) (n-incident n-substrate angle wavelength : Float) → refusal-of (evaluate-surface surface custom n-incident n-substrate angle wavelength) ≡ refusal-of (evaluate-coating (coating-of surface) (layers-of surface custom) n-incident n-substrate angle wavelength)
+RefuseAlike =
+    (surface : SurfaceCoating) (custom : List ThinFilmLayer) (n-incident n-substrate angle wavelength : Float)
+    → refusal-of (evaluate-surface surface custom n-incident n-substrate angle wavelength)
+    ≡ refusal-of (evaluate-coating (coating-of surface) (layers-of surface custom) n-incident n-substrate angle wavelength)

@@ -1,4 +1,4 @@
--- Internal: how `SurfaceCoating::evaluate` comes to its layers. A reader need not believe it: `prepare_surface`'s contract names `evaluate-surface`.
+-- Internal: how `SurfaceCoating::evaluate` comes to its layers. A reader need not believe it: what is exported names `evaluate-surface`.
 use Prim.Native.Nat.{ℕ}
 use mathlib.Core.List.{List}
 use Rattle.thin_film_solver.specs.declared.ThinFilmLayer.{ThinFilmLayer}

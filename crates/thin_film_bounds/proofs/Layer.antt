@@ -26,7 +26,7 @@ use Rattle.thin_film_solver.specs.declared.ThinFilmLayer.{ThinFilmLayer}
 use Rattle.thin_film_matrix.specs.Matrix.{Matrix, mat-mul}
 use Rattle.thin_film_matrix.specs.Film.{sin-theta, cos-theta, exp-pos, exp-neg, cos-delta, sin-delta, i-sin-delta, characteristic}
 use Rattle.thin_film_solver.specs.Layer.{index, factor, delta, layer-s, layer-p}
-use Rattle.thin_film_solver.specs.Solve.{through-s, through-p}
+use Rattle.thin_film_solver.specs.Solve.{product-s, product-p}
 use Rattle.thin_film_bounds.specs.Range.{CMag, CPow, Real, MPow}
 use Rattle.thin_film_bounds.specs.Solver.{AdmittedLayer, AdmittedLayers}
 use Rattle.thin_film_bounds.proofs.Complex.{real-up, norm-same, norm-in, div-is, mul-real, sqrt-real, exp-mag}
@@ -203,11 +203,11 @@ module _ (snell : Float) (of : ThinFilmLayer → Matrix) (through : Matrix → L
     (through-none : (m : Matrix) → through m [] ≡ m)
     (through-one : (m : Matrix) (layer : ThinFilmLayer) (layers : List ThinFilmLayer) → through m (layer ∷ layers) ≡ through (mat-mul m (of layer)) layers)
     (of-pow : (layer : ThinFilmLayer) → AdmittedLayer snell layer → MPow 7 (of layer)) where
-  through-pow : (k : ℕ) (m : Matrix) (layers : List ThinFilmLayer) → MPow k m → AdmittedLayers snell layers → k + 9 * length layers ≤ 1023 → MPow (k + 9 * length layers) (through m layers)
-  through-pow k m [] M gs b = subst (λ (z : Matrix). MPow (k + 9 * 0) z) (sym (through-none m)) (mpow-up M (omega arith))
-  through-pow k m (layer ∷ layers) M gs b =
+  product-pow : (k : ℕ) (m : Matrix) (layers : List ThinFilmLayer) → MPow k m → AdmittedLayers snell layers → k + 9 * length layers ≤ 1023 → MPow (k + 9 * length layers) (through m layers)
+  product-pow k m [] M gs b = subst (λ (z : Matrix). MPow (k + 9 * 0) z) (sym (through-none m)) (mpow-up M (omega arith))
+  product-pow k m (layer ∷ layers) M gs b =
       subst (λ (z : Matrix). MPow (k + 9 * suc (length layers)) z) (sym (through-one m layer layers))
-      (mpow-up (through-pow (suc (suc (k + 7))) (mat-mul m (of layer)) layers (mat-mul-pow M (of-pow layer (gs .0)) (omega arith)) (gs .1) (omega arith)) (omega arith))
+      (mpow-up (product-pow (suc (suc (k + 7))) (mat-mul m (of layer)) layers (mat-mul-pow M (of-pow layer (gs .0)) (omega arith)) (gs .1) (omega arith)) (omega arith))
 
 -- ---- both polarizations
 module _ (snell w : Float) (S : Mag 4 0 snell) (W : In 100 0 10000 0 w) where
@@ -223,10 +223,10 @@ module _ (snell w : Float) (S : Mag 4 0 snell) (W : In 100 0 10000 0 w) where
   unfolding layer-p
   layer-p-pow layer g = characteristic-pow (delta snell w layer) (div (index layer) (cos-theta snell (index layer))) (delta-turns layer g) (eta-p-real snell layer S g)
 
-  pub through-s-pow : (k : ℕ) (m : Matrix) (layers : List ThinFilmLayer) → MPow k m → AdmittedLayers snell layers → k + 9 * length layers ≤ 1023 → MPow (k + 9 * length layers) (through-s snell w m layers)
-  unfolding through-s
-  through-s-pow = through-pow snell (layer-s snell w) (through-s snell w) (λ m. refl) (λ m layer layers. refl) layer-s-pow
+  pub product-s-pow : (k : ℕ) (m : Matrix) (layers : List ThinFilmLayer) → MPow k m → AdmittedLayers snell layers → k + 9 * length layers ≤ 1023 → MPow (k + 9 * length layers) (product-s snell w m layers)
+  unfolding product-s
+  product-s-pow = product-pow snell (layer-s snell w) (product-s snell w) (λ m. refl) (λ m layer layers. refl) layer-s-pow
 
-  pub through-p-pow : (k : ℕ) (m : Matrix) (layers : List ThinFilmLayer) → MPow k m → AdmittedLayers snell layers → k + 9 * length layers ≤ 1023 → MPow (k + 9 * length layers) (through-p snell w m layers)
-  unfolding through-p
-  through-p-pow = through-pow snell (layer-p snell w) (through-p snell w) (λ m. refl) (λ m layer layers. refl) layer-p-pow
+  pub product-p-pow : (k : ℕ) (m : Matrix) (layers : List ThinFilmLayer) → MPow k m → AdmittedLayers snell layers → k + 9 * length layers ≤ 1023 → MPow (k + 9 * length layers) (product-p snell w m layers)
+  unfolding product-p
+  product-p-pow = product-pow snell (layer-p snell w) (product-p snell w) (λ m. refl) (λ m layer layers. refl) layer-p-pow

@@ -28,12 +28,12 @@ use Rattle.thin_film_complex.specs.declared.Complex.{Complex}
 use Rattle.thin_film_complex.specs.Complex.{real, scale, norm-sq, arg, add, sub, mul}
 use Rattle.thin_film_solver.specs.declared.ThinFilmLayer.{ThinFilmLayer}
 use Rattle.thin_film_matrix.specs.Matrix.{Matrix, identity}
-use Rattle.thin_film_solver.specs.Solve.{eta0-s, eta0-p, least-cos, cos-theta-sub, eta-sub-s, eta-sub-p, through-s, through-p, b-of, c-of, reflection, transmission, reflectance, transmittance, solve, respond, evaluate}
+use Rattle.thin_film_solver.specs.Solve.{eta0-s, eta0-p, least-cos, cos-theta-sub, eta-sub-s, eta-sub-p, product-s, product-p, b-of, c-of, reflection, transmission, reflectance, transmittance, solve, respond, evaluate}
 use Rattle.thin_film_bounds.specs.Range.{CPow, Real, MPow}
 use Rattle.thin_film_bounds.specs.Solver.{AdmittedArguments, Bounded, EveryResponseBounded}
 use Rattle.thin_film_bounds.proofs.Complex.{real-in, real-up, mul-real}
 use Rattle.thin_film_bounds.proofs.Powers.{cpow-up, real-pow, cadd-pow, csub-pow, cmul-pow, norm-pow, norm-plus, cdiv-pow, mpow-up, identity-pow}
-use Rattle.thin_film_bounds.proofs.Layer.{eta-div, through-s-pow, through-p-pow}
+use Rattle.thin_film_bounds.proofs.Layer.{eta-div, product-s-pow, product-p-pow}
 
 -- ---- the amplitudes, from a matrix with entries up to 2 ^ 144
 double-pow : {z : Complex} → CPow 5 z → CPow 6 (scale z two)
@@ -150,18 +150,18 @@ module _ (n0 ns angle w : Float) (layers : List ThinFilmLayer) (g : AdmittedArgu
   unfolding eta-sub-p
   eta-p = eta-div (real ns) (cos-theta-sub (n0 ⊗ sin angle ⊘ ns)) (real-in (g .substrate)) cosine
 
-  product-s : MPow 144 (through-s (n0 ⊗ sin angle) w identity layers)
-  product-s = let f = g .few in mpow-up (through-s-pow (n0 ⊗ sin angle) w snell (g .wavelength-in) 0 identity layers identity-pow (g .admitted) (omega arith)) (omega arith)
+  s-pow : MPow 144 (product-s (n0 ⊗ sin angle) w identity layers)
+  s-pow = let f = g .few in mpow-up (product-s-pow (n0 ⊗ sin angle) w snell (g .wavelength-in) 0 identity layers identity-pow (g .admitted) (omega arith)) (omega arith)
 
-  product-p : MPow 144 (through-p (n0 ⊗ sin angle) w identity layers)
-  product-p = let f = g .few in mpow-up (through-p-pow (n0 ⊗ sin angle) w snell (g .wavelength-in) 0 identity layers identity-pow (g .admitted) (omega arith)) (omega arith)
+  p-pow : MPow 144 (product-p (n0 ⊗ sin angle) w identity layers)
+  p-pow = let f = g .few in mpow-up (product-p-pow (n0 ⊗ sin angle) w snell (g .wavelength-in) 0 identity layers identity-pow (g .admitted) (omega arith)) (omega arith)
 
   bounded : Bounded (evaluate n0 ns angle w layers)
   unfolding evaluate
   bounded =
-      response-bounded (through-s (n0 ⊗ sin angle) w identity layers) (through-p (n0 ⊗ sin angle) w identity layers)
+      response-bounded (product-s (n0 ⊗ sin angle) w identity layers) (product-p (n0 ⊗ sin angle) w identity layers)
       (eta0-s n0 (cos angle)) (eta-sub-s (n0 ⊗ sin angle) ns) (eta0-p n0 (cos angle)) (eta-sub-p (n0 ⊗ sin angle) ns)
-      product-s product-p (eta0-s-real (g .incident) (g .cosine)) eta-s (eta0-p-real (g .incident) (g .cosine)) eta-p
+      s-pow p-pow (eta0-s-real (g .incident) (g .cosine)) eta-s (eta0-p-real (g .incident) (g .cosine)) eta-p
 
 pub every-response-bounded : EveryResponseBounded
 every-response-bounded = bounded

@@ -1,4 +1,5 @@
--- 01 section 3's limits as ranges of what the solver is given, a thickness being of either sign; and what holds of its response. Definitions only; proofs/Solve.antt shows the second of the first.
+-- 01 section 3's limits as ranges of the solver's arguments, a thickness being of either sign; and what holds of its response.
+-- Definitions only; proofs/Solve.antt shows the second of the first.
 use Prim.Native.Nat.{_≤_}
 use mathlib.Core.List.{List, [], _∷_}
 use lib.Dec.{T}
@@ -53,4 +54,6 @@ pub record Bounded (r : CoatingResponse) : Type 0 where
   pub phase-rp : Mag 8 0 (r .«phase_rp_rad»)
 
 abbrev pub EveryResponseBounded : Type 0
-EveryResponseBounded = (n-incident n-substrate angle wavelength : Float) (layers : List ThinFilmLayer) → AdmittedArguments n-incident n-substrate angle wavelength layers → Bounded (evaluate n-incident n-substrate angle wavelength layers)
+EveryResponseBounded =
+    (n-incident n-substrate angle wavelength : Float) (layers : List ThinFilmLayer)
+    → AdmittedArguments n-incident n-substrate angle wavelength layers → Bounded (evaluate n-incident n-substrate angle wavelength layers)

@@ -2,3 +2,4 @@
 pub mod Repeat
 pub mod Answers
 pub mod Places
+pub mod Claim

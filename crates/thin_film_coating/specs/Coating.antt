@@ -1,5 +1,6 @@
 -- `Coating` of thin_film.rs with its layers by value. Definitions only.
-use Prim.Native.Nat.{ℕ, _-_}
+use mathlib.Core.Path.{_≡_}
+use Prim.Native.Nat.{ℕ, _-_, _<_}
 use mathlib.Core.Bool.{cond}
 use mathlib.Core.List.{List, [], _∷_, _++_}
 use lib.Dec.{leb}
@@ -7,7 +8,7 @@ use lib.ListN.{length, take, replicate}
 use lib.Ieee.{Float, binary64}
 use Rattle.ieee.specs.Operators.{_⊗_}
 use Rattle.math_root.specs.Root.{squareRoot}
-use Rattle.refusal.specs.Outcome.{Outcome, answer, refusal}
+use Rattle.refusal.specs.Outcome.{Outcome, answer, refusal, too-many-layers}
 use Rattle.thin_film_solver.specs.declared.ThinFilmLayer.{ThinFilmLayer}
 use Rattle.thin_film_solver.specs.Solve.{dielectric}
 use Rattle.thin_film_layers.specs.Evaluation.{no-layer}
@@ -50,3 +51,13 @@ quarter-wave-ar n-ambient n-substrate design = built C.Multilayer (quarter-wave-
 -- bragg_mirror; 3 over 31 pairs
 abbrev pub bragg-mirror : Float → Float → ℕ → Float → Built
 bragg-mirror n-high n-low pairs design = cond (leb pairs 31) (built C.Multilayer (bragg-layers n-high n-low pairs design)) too-many
+
+-- what a caller has of what is built, in document 01's words: the coating with its layers, or 3; proofs/Claim.antt has the proof
+pub record BuiltClaim : Type 0 where
+  pub of-quarter-wave-ar : (n-ambient n-substrate design : Float)
+      → outcome (quarter-wave-ar n-ambient n-substrate design) ≡ answer (C.Multilayer, quarter-wave-layers n-ambient n-substrate design)
+  pub of-bragg-mirror : (n-high n-low : Float) (pairs : ℕ) (design : Float)
+      → outcome (bragg-mirror n-high n-low pairs design)
+      ≡ cond (leb pairs 31) (answer (C.Multilayer, bragg-layers n-high n-low pairs design)) too-many-layers
+  -- what stands beside a refusal is more than 64 layers
+  pub of-refused : (64 < length (listed (too-many .layers))) × (too-many .coating ≡ C.Multilayer)

@@ -27,4 +27,5 @@ start C.Multilayer reversed count light = cond (leb count 64) (P.Layers reversed
 
 unfoldable pub prepare : Coating → Bool → ℕ → Float → Float → Float → Float → Prepared
 prepare coating reversed count n-incident n-substrate angle wavelength =
-    cond (valid n-incident n-substrate angle wavelength) (start coating reversed count (incidence n-incident n-substrate angle wavelength)) (refused 1)
+    let light = incidence n-incident n-substrate angle wavelength in
+    cond (valid n-incident n-substrate angle wavelength) (start coating reversed count light) (refused 1)

@@ -1,4 +1,4 @@
--- Internal: an evaluation while its layers are read. A reader need not believe it: the contracts of what is exported name `outcome` and the solver's definitions.
+-- Internal: an evaluation while its layers are read. A reader need not believe it: what is exported names `outcome` and `evaluate`.
 use Prim.Native.Nat.{ℕ, _-_}
 use mathlib.Core.Bool.{Bool, false, cond}
 use mathlib.Core.List.{List}
@@ -38,7 +38,8 @@ reversed-in (P.Layers reversed light) = reversed
 
 -- where no layer is read, there is no light
 abbrev pub light-in : Prepared → Incidence
-light-in (P.Answered a) = record { «n_incident» = zero-f; «n_substrate» = zero-f; «cos_theta0» = zero-f; snell = zero-f; «wavelength_nm» = zero-f }
+light-in (P.Answered a) =
+    record { «n_incident» = zero-f; «n_substrate» = zero-f; «cos_theta0» = zero-f; snell = zero-f; «wavelength_nm» = zero-f }
 light-in (P.Layers reversed light) = light
 
 -- the answer, once the layers are read

@@ -1,2 +1,3 @@
 -- laws
 pub mod Nth
+pub mod Decimals

@@ -1,7 +1,9 @@
 -- The layers of the coatings of thin_film.rs that have layers of their own. Definitions only.
 use Prim.Native.Nat.{ℕ, zero, suc}
 use mathlib.Core.List.{List, [], _∷_}
-use lib.Ieee.{Float, binary64, ofBits}
+use mathlib.Core.Path.{_≡_}
+use mathlib.Core.Bool.{false}
+use lib.Ieee.{Float, binary64, ofBits, round}
 use Rattle.ieee.specs.Functions.{four}
 use Rattle.ieee.specs.Operators.{_⊗_, _⊘_}
 use Rattle.thin_film_solver.specs.declared.ThinFilmLayer.{ThinFilmLayer}
@@ -15,6 +17,14 @@ n-sio2 = ofBits binary64 0x3FF7_5C28_F5C2_8F5C
 -- 2.30
 abbrev pub n-tio2 : Float
 n-tio2 = ofBits binary64 0x4002_6666_6666_6666
+
+-- each is the double nearest to its decimal; proofs/Decimals.antt has the proof
+abbrev decimal : ℕ → ℕ → Float
+decimal n d = round binary64 false n d
+
+pub record Decimals : Type 0 where
+  pub sio2 : n-sio2 ≡ decimal 146 100
+  pub tio2 : n-tio2 ≡ decimal 230 100
 
 -- ---- layers
 -- design_wavelength_nm / (4.0 * n)

@@ -9,7 +9,7 @@ use Rattle.thin_film_solver.specs.declared.CoatingResponse.{CoatingRespo
 use Rattle.thin_film_solver.specs.declared.Incidence.{Incidence}
 use Rattle.thin_film_solver.specs.declared.Terms.{Terms}
 use Rattle.thin_film_solver.specs.Layer.{layer-s, layer-p}
-use Rattle.thin_film_solver.specs.Solve.{through-s, through-p, evaluate}
+use Rattle.thin_film_solver.specs.Solve.{product-s, product-p, evaluate}
 use Rattle.thin_film_solver.specs.Internal.{incidence, terms-of, film, step-s, step-p, finish, onward, LayerByLayer}
 
 pub evaluates : LayerByLayer
@@ -29,10 +29,10 @@ module _ (i : Incidence) where
   -- one layer more
   pub takes : (ms mp : Matrix) (t : Terms) (layer : ThinFilmLayer) (layers : List ThinFilmLayer) → t ≡ terms-of (i .snell) (i .«wavelength_nm») layer
       → onward i (step-s ms t) (step-p mp t) layers ≡ onward i ms mp (layer ∷ layers)
-  unfolding onward step-s step-p through-s through-p terms-of layer-s layer-p characteristic
+  unfolding onward step-s step-p product-s product-p terms-of layer-s layer-p characteristic
   takes ms mp t layer layers e = ap (λ (u : Terms). onward i (step-s ms u) (step-p mp u) layers) e
 
   -- none is left
   pub ends : (ms mp : Matrix) → finish i ms mp ≡ onward i ms mp []
-  unfolding onward through-s through-p
+  unfolding onward product-s product-p
   ends ms mp = refl

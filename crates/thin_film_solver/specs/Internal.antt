@@ -14,7 +14,7 @@ use Rattle.thin_film_solver.specs.declared.CoatingResponse.{CoatingRespo
 use Rattle.thin_film_solver.specs.declared.Incidence.{Incidence}
 use Rattle.thin_film_solver.specs.declared.Terms.{Terms}
 use Rattle.thin_film_solver.specs.Layer.{index, delta}
-use Rattle.thin_film_solver.specs.Solve.{eta0-s, eta0-p, eta-sub-s, eta-sub-p, through-s, through-p, solve, respond, evaluate}
+use Rattle.thin_film_solver.specs.Solve.{eta0-s, eta0-p, eta-sub-s, eta-sub-p, product-s, product-p, solve, respond, evaluate}
 
 -- before any layer is read
 unfoldable pub incidence : Float → Float → Float → Float → Incidence
@@ -53,7 +53,7 @@ finish i ms mp =
 
 -- the response, of the products so far and the layers that are left
 unfoldable pub onward : Incidence → Matrix → Matrix → List ThinFilmLayer → CoatingResponse
-onward i ms mp layers = finish i (through-s (i .snell) (i .«wavelength_nm») ms layers) (through-p (i .snell) (i .«wavelength_nm») mp layers)
+onward i ms mp layers = finish i (product-s (i .snell) (i .«wavelength_nm») ms layers) (product-p (i .snell) (i .«wavelength_nm») mp layers)
 
 -- the response of a list of layers
 abbrev pub solved : Incidence → List ThinFilmLayer → CoatingResponse

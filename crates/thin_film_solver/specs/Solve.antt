@@ -41,13 +41,13 @@ unfoldable pub eta-sub-p : Float → Float → Complex
 eta-sub-p snell n-substrate = real n-substrate ⧄ cos-theta-sub (snell ⊘ n-substrate)
 
 -- ---- M = M * M_layer, through the layers
-unfoldable pub through-s : Float → Float → Matrix → List ThinFilmLayer → Matrix
-through-s snell wavelength ms [] = ms
-through-s snell wavelength ms (layer ∷ layers) = through-s snell wavelength (mat-mul ms (layer-s snell wavelength layer)) layers
+unfoldable pub product-s : Float → Float → Matrix → List ThinFilmLayer → Matrix
+product-s snell wavelength ms [] = ms
+product-s snell wavelength ms (layer ∷ layers) = product-s snell wavelength (mat-mul ms (layer-s snell wavelength layer)) layers
 
-unfoldable pub through-p : Float → Float → Matrix → List ThinFilmLayer → Matrix
-through-p snell wavelength mp [] = mp
-through-p snell wavelength mp (layer ∷ layers) = through-p snell wavelength (mat-mul mp (layer-p snell wavelength layer)) layers
+unfoldable pub product-p : Float → Float → Matrix → List ThinFilmLayer → Matrix
+product-p snell wavelength mp [] = mp
+product-p snell wavelength mp (layer ∷ layers) = product-p snell wavelength (mat-mul mp (layer-p snell wavelength layer)) layers
 
 -- ---- solve for one polarization: its matrix m, the incident admittance eta0, the substrate's eta
 -- [B; C] = M * [1; eta_sub]
@@ -104,8 +104,8 @@ unfoldable pub evaluate : Float → Float → Float → Float → List ThinFilmL
 evaluate n-incident n-substrate angle wavelength layers =
     let snell = n-incident ⊗ sin angle in
     respond
-    (solve (through-s snell wavelength identity layers) (eta0-s n-incident (cos angle)) (eta-sub-s snell n-substrate))
-    (solve (through-p snell wavelength identity layers) (eta0-p n-incident (cos angle)) (eta-sub-p snell n-substrate))
+    (solve (product-s snell wavelength identity layers) (eta0-s n-incident (cos angle)) (eta-sub-s snell n-substrate))
+    (solve (product-p snell wavelength identity layers) (eta0-p n-incident (cos angle)) (eta-sub-p snell n-substrate))
 
 -- ---- CoatingResponse
 -- (R_s + R_p) * 0.5

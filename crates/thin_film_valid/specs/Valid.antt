@@ -6,4 +6,5 @@ use Rattle.ieee.specs.Functions.{finite-positive}
 
 -- the seven tests of evaluate: what is not finite or not positive is InvalidParameter
 unfoldable pub valid : Float → Float → Float → Float → Bool
-valid n-incident n-substrate angle wavelength = finite-positive n-incident && finite-positive n-substrate && finite angle && finite-positive wavelength
+valid n-incident n-substrate angle wavelength =
+    finite-positive n-incident && finite-positive n-substrate && finite angle && finite-positive wavelength
