@@ -2,14 +2,14 @@
 use mathlib.Core.Path.{_≡_, refl, sym, ap, _∙_, subst}
 use mathlib.Core.Bool.{Bool, true, false, _||_, cond}
 use mathlib.Core.Logic.{_⊎_, ⊎-elim}
-use mathlib.Core.List.{List, [], _∷_, _++_}
+use mathlib.Core.List.{List, [], _∷_, _++_, map as map-list}
 use Prim.Native.Nat.{ℕ, zero, suc, _*_, _≤_, _<_}
 use native.Mathlib.Omega.{arith}
 use lib.Dec.{T, eqb, leb, ltb, lit≤, lit<}
 use lib.ListN.{length, getD, replicate}
 use lib.Ieee as Ieee
 use lib.Ieee.{Float, lt, ofBits}
-use borrow.Author.Tests.{ltb-true, ltb-false}
+use borrow.Author.Tests.{ltb-true, le-ltb}
 use Rattle.ieee.specs.Functions.{zero-f, one, finite-positive}
 use Rattle.refusal.specs.Outcome.{Outcome, answer, refusal, map, bind, invalid-parameter, too-many-layers}
 use Rattle.thin_film_solver.specs.declared.ThinFilmLayer.{ThinFilmLayer}
@@ -17,6 +17,7 @@ use Rattle.thin_film_solver.specs.declared.CoatingResponse.{CoatingResponse}
 use Rattle.thin_film_solver.specs.Solve as Solve
 use Rattle.thin_film_layers.specs.Evaluation.{ordered, no-layer}
 use Rattle.thin_film_valid.specs.Valid.{valid}
+use Rattle.thin_film_presets.specs.Layers.{bragg-layers}
 use Rattle.thin_film_coating.specs.declared.Coating.{Coating}
 use Rattle.thin_film_coating.specs.declared.Coating.the-variants as C
 use Rattle.thin_film_coating.specs.declared.Layers.{Layers}
@@ -44,23 +45,23 @@ use Rattle.gate.proofs.Claim.{gate-claim}
 use Rattle.sheet_surfaces.specs.Surfaces.{of-surface, surface-of, numbered, layer-of, nth-surface, nth-layer, surface-answers}
 use Rattle.sheet_surfaces.proofs.Answers.{all-nth}
 use Rattle.train_steps.specs.declared.State.{State}
-use Rattle.train_steps.specs.Train.{fresh, start, stepped, step, ran, run}
+use Rattle.train_steps.specs.Train.{fresh, start, stepped, step, Ran, ran, run}
 use Rattle.train_claim.proofs.Claim.{train-claim}
 use Rattle.refusal_claim.specs.Claim.{one-of, Only, Refuses, Sheet, Numbers, RefusalClaim}
 
 -- ---- numbers of refusals
 wider : (n : ℕ) (ms ks : List ℕ) → T (one-of n ms) → T (one-of n (ms ++ ks))
 wider n [] ks t = absurd t
-wider n (m ∷ ms) ks t = by (eqb n m) t
+wider n (m ∷ ms) ks t = by (eqb n m) t (wider n ms ks)
   where
-    by : (b : Bool) → T (b || one-of n ms) → T (b || one-of n (ms ++ ks))
-    by true t = tt
-    by false t = wider n ms ks t
+    by : (b : Bool) → T (b || one-of n ms) → (T (one-of n ms) → T (one-of n (ms ++ ks))) → T (b || one-of n (ms ++ ks))
+    by true t again = tt
+    by false t again = again t
+
+abbrev sheets : List ℕ
+sheets = 4 ∷ 5 ∷ 6 ∷ []
 
 module _ {A : Type 0} where
-  abbrev sheets : List ℕ
-  sheets = 4 ∷ 5 ∷ 6 ∷ []
-
   more : (ks : List ℕ) (o : Outcome A) → Only sheets o → Only (sheets ++ ks) o
   more ks (answer a) t = tt
   more ks (refusal number place) t = wider number sheets ks t
@@ -111,6 +112,13 @@ panes = train-claim .one .sheet
 whole : Sheet
 whole = record { src = encode panes; bytes = grammar-claim .fits panes (train-claim .one .formed) .1 }
 
+mapped-length : {A B : Type 0} (f : A → B) (xs : List A) → length (map-list f xs) ≡ length xs
+mapped-length f [] = refl
+mapped-length f (x ∷ xs) = ap suc (mapped-length f xs)
+
+sixteen : length (panes .surfaces) ≡ 16
+sixteen = sym (mapped-length (λ (y : Data.SheetSurface). y .payload) (panes .surfaces)) ∙ ap length (train-claim .one .payloads)
+
 four : gated (none .src) ≡ refusal 4 0
 unfolding none gated
 four = refl
@@ -153,6 +161,7 @@ abbrev still : State
 still = record { done = 16; s = zero-f; p = zero-f }
 
 of-step : Refuses (λ (x : Sheet × State). step (x .0 .src) (x .1)) (4 ∷ 5 ∷ 6 ∷ 7 ∷ [])
+unfolding step
 of-step = record {
   only = λ x. by (x .0) (x .1);
   each = (
@@ -161,41 +170,40 @@ of-step = record {
       ((blank, still), (0, train-claim .turned-back (blank .src) 5 0 five .steps still)),
       (
         ((unlit, still), (1, train-claim .turned-back (unlit .src) 6 1 six .steps still)),
-        (((whole, still), (0, train-claim .every-call (whole .src) (whole .bytes) panes admitted .seven still (lit≤ tt))), tt),
+        (((whole, still), (0, train-claim .every-call (whole .src) (whole .bytes) panes admitted .seven still (omega (arith, sixteen)))), tt),
       ),
     ),
   );
 }
   where
     by : (x : Sheet) (st : State) → Only (4 ∷ 5 ∷ 6 ∷ 7 ∷ []) (step (x .src) st)
-    unfolding step
     by x st = bound (4 ∷ 5 ∷ 6 ∷ 7 ∷ []) (stepped st) (gated (x .src)) (more (7 ∷ []) (gated (x .src)) (gated-only (x .src))) (λ y e. either (4 ∷ 5 ∷ 6 ∷ 7 ∷ []) (ltb (st .done) (length (y .surfaces))) (answer _) (refusal 7 0) tt tt)
 
 of-run : Refuses (λ (x : Sheet × List Float). run (x .0 .src) (x .1) .result) (4 ∷ 5 ∷ 6 ∷ 8 ∷ [])
+unfolding run
 of-run = record {
   only = λ x. by (x .0) (x .1);
   each = (
-    ((none, []), (0, ap (λ r. r .result) (train-claim .turned-back (none .src) 4 0 four .runs []))),
+    ((none, []), (0, ap (λ (r : Ran). r .result) (train-claim .turned-back (none .src) 4 0 four .runs []))),
     (
-      ((blank, []), (0, ap (λ r. r .result) (train-claim .turned-back (blank .src) 5 0 five .runs []))),
+      ((blank, []), (0, ap (λ (r : Ran). r .result) (train-claim .turned-back (blank .src) 5 0 five .runs []))),
       (
-        ((unlit, []), (1, ap (λ r. r .result) (train-claim .turned-back (unlit .src) 6 1 six .runs []))),
-        (((whole, []), (0, ap (λ r. r .result) (train-claim .every-call (whole .src) (whole .bytes) panes admitted .eight [] (lit< tt)))), tt),
+        ((unlit, []), (1, ap (λ (r : Ran). r .result) (train-claim .turned-back (unlit .src) 6 1 six .runs []))),
+        (((whole, []), (0, ap (λ (r : Ran). r .result) (train-claim .every-call (whole .src) (whole .bytes) panes admitted .eight [] (omega (arith, sixteen))))), tt),
       ),
     ),
   );
 }
   where
     ran-only : (list : List Float) (o : Outcome Data.Sheet) → Only (4 ∷ 5 ∷ 6 ∷ 8 ∷ []) o → Only (4 ∷ 5 ∷ 6 ∷ 8 ∷ []) (ran list o .result)
-    ran-only list (answer x) t = at (leb (2 * length (x .surfaces)) (length list))
+    ran-only list (answer x) t = at (leb (2 * length (x .surfaces)) (length list)) _ _ tt tt
       where
-        at : (b : Bool) → Only (4 ∷ 5 ∷ 6 ∷ 8 ∷ []) (cond b (record { result = answer (length (x .surfaces)); list = _ }) (record { result = refusal 8 0; list = list }) .result)
-        at true = tt
-        at false = tt
+        at : (b : Bool) (u v : Ran) → Only (4 ∷ 5 ∷ 6 ∷ 8 ∷ []) (u .result) → Only (4 ∷ 5 ∷ 6 ∷ 8 ∷ []) (v .result) → Only (4 ∷ 5 ∷ 6 ∷ 8 ∷ []) (cond b u v .result)
+        at true u v h k = h
+        at false u v h k = k
     ran-only list (refusal number place) t = t
 
     by : (x : Sheet) (list : List Float) → Only (4 ∷ 5 ∷ 6 ∷ 8 ∷ []) (run (x .src) list .result)
-    unfolding run
     by x list = ran-only list (gated (x .src)) (more (8 ∷ []) (gated (x .src)) (gated-only (x .src)))
 
 -- ---- coatings
@@ -207,12 +215,11 @@ unlawful = record { n-incident = zero-f; n-substrate = one; angle = zero-f; wave
 
 module _ (n : Numbers) where
   coating-only : (coating : Coating) (layers : List ThinFilmLayer) → Only (1 ∷ 3 ∷ []) (evaluate-coating coating layers (n .n-incident) (n .n-substrate) (n .angle) (n .wavelength))
-  unfolding evaluate-coating
+  unfolding evaluate-coating respond
   coating-only coating layers =
       either (1 ∷ 3 ∷ []) (valid (n .n-incident) (n .n-substrate) (n .angle) (n .wavelength)) (respond coating layers (n .n-incident) (n .n-substrate) (n .angle) (n .wavelength)) invalid-parameter (responds coating) tt
     where
       responds : (c : Coating) → Only (1 ∷ 3 ∷ []) (respond c layers (n .n-incident) (n .n-substrate) (n .angle) (n .wavelength))
-      unfolding respond
       responds C.IdealAr = tt
       responds C.IdealMirror = tt
       responds C.IdealBeamsplitter = tt
@@ -222,21 +229,21 @@ sixty-five : List ThinFilmLayer
 sixty-five = replicate 65 no-layer
 
 of-coating : Refuses (λ (x : Coating × (List ThinFilmLayer × Numbers)). let n = x .1 .1 in evaluate-coating (x .0) (x .1 .0) (n .n-incident) (n .n-substrate) (n .angle) (n .wavelength)) (1 ∷ 3 ∷ [])
-unfolding sixty-five evaluate-coating respond valid finite-positive Ieee.lt ofBits
+unfolding sixty-five evaluate-coating respond valid finite-positive Ieee.lt ofBits Ieee.le
 of-coating = record {
   only = λ x. coating-only (x .1 .1) (x .0) (x .1 .0);
   each = (((C.IdealAr, ([], unlawful)), (0, refl)), (((C.Multilayer, (sixty-five, lit)), (0, refl)), tt));
 }
 
 of-surface-coating : Refuses (λ (x : SurfaceCoating × (List ThinFilmLayer × Numbers)). let n = x .1 .1 in evaluate-surface (x .0) (x .1 .0) (n .n-incident) (n .n-substrate) (n .angle) (n .wavelength)) (1 ∷ 3 ∷ [])
-unfolding sixty-five evaluate-surface evaluate-coating respond valid layers-of ordered finite-positive Ieee.lt ofBits
+unfolding sixty-five evaluate-surface evaluate-coating respond valid layers-of ordered finite-positive Ieee.lt ofBits Ieee.le
 of-surface-coating = record {
   only = λ x. let n = x .1 .1 in coating-only n (coating-of (x .0)) (ordered (lt (n .n-substrate) (n .n-incident)) (layers-of (x .0) (x .1 .0)));
   each = (((S.IdealAr, ([], unlawful)), (0, refl)), (((S.Custom C.Multilayer, (sixty-five, lit)), (0, refl)), tt));
 }
 
 of-fresnel : Refuses (λ (x : Numbers). surface-fresnel-jones (x .n-incident) (x .n-substrate) (x .angle)) (1 ∷ [])
-unfolding surface-fresnel-jones indices-valid finite-positive Ieee.lt ofBits
+unfolding surface-fresnel-jones indices-valid finite-positive Ieee.lt ofBits Ieee.le
 of-fresnel = record {
   only = λ x. either (1 ∷ []) (indices-valid (x .n-incident) (x .n-substrate) (x .angle)) (answer _) invalid-parameter tt tt;
   each = ((unlawful, (0, refl)), tt);
@@ -256,7 +263,7 @@ built-only false x e = tt
 
 of-bragg-mirror : Refuses (λ (x : Numbers × ℕ). let n = x .0 in Built.outcome (Built.bragg-mirror (n .n-incident) (n .n-substrate) (x .1) (n .wavelength))) (3 ∷ [])
 of-bragg-mirror = record {
-  only = λ x. built-only (leb (x .1) 31) (Built.built C.Multilayer _) refl;
+  only = λ x. built-only (leb (x .1) 31) (Built.built C.Multilayer (bragg-layers (x .0 .n-incident) (x .0 .n-substrate) (x .1) (x .0 .wavelength))) refl;
   each = (((lit, 32), (0, refl)), tt);
 }
 
@@ -294,7 +301,7 @@ said : {A : Type 0} (f : Data.Sheet → Data.SheetSurface → Outcome A) (i : �
 said f i o number place e = ap (of-surface f i) e
 
 past : {A : Type 0} (f : Data.Sheet → Data.SheetSurface → Outcome A) → of-surface f 16 (gated (whole .src)) ≡ refusal 7 0
-past f = ap (of-surface f 16) admitted
+past f = ap (of-surface f 16) admitted ∙ rw (le-ltb 16 (length (panes .surfaces)) (omega (arith, sixteen)))
 
 all-seven : (src : List ℕ) → Only seven (gated src)
 all-seven src = more (7 ∷ []) (gated src) (gated-only src)
@@ -316,7 +323,7 @@ of-nth-surface = record {
     ((none, 0), (0, ap (λ o. map numbered (surface-of 0 o)) four)),
     (
       ((blank, 0), (0, ap (λ o. map numbered (surface-of 0 o)) five)),
-      (((unlit, 0), (1, ap (λ o. map numbered (surface-of 0 o)) six)), (((whole, 16), (0, ap (λ o. map numbered (surface-of 16 o)) admitted)), tt)),
+      (((unlit, 0), (1, ap (λ o. map numbered (surface-of 0 o)) six)), (((whole, 16), (0, ap (map numbered) (past (λ x y. answer y)))), tt)),
     ),
   );
 }
@@ -329,7 +336,7 @@ of-nth-layer = record {
     ((none, (0, 0)), (0, ap (λ o. layer-of 0 (surface-of 0 o)) four)),
     (
       ((blank, (0, 0)), (0, ap (λ o. layer-of 0 (surface-of 0 o)) five)),
-      (((unlit, (0, 0)), (1, ap (λ o. layer-of 0 (surface-of 0 o)) six)), (((whole, (16, 0)), (0, ap (λ o. layer-of 0 (surface-of 16 o)) admitted)), tt)),
+      (((unlit, (0, 0)), (1, ap (λ o. layer-of 0 (surface-of 0 o)) six)), (((whole, (16, 0)), (0, ap (layer-of 0) (past (λ x y. answer y)))), tt)),
     ),
   );
 }
