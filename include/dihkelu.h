@@ -77,6 +77,11 @@ extern "C" {
 #define DIHKELU_MUST_USE
 #endif
 
+/* ---- the version: major × 2^16 + minor. A program can hold the header it was compiled with against the library */
+
+#define DIHKELU_VERSION 0x00000001u
+DIHKELU_MUST_USE uint32_t dihkelu_version(void);
+
 /* ---- what a call returned, taken apart */
 
 /* The refusal's number; 0 for an answer. */

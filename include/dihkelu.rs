@@ -4,6 +4,7 @@
 
 // A slice is a pointer and a count.
 extern "C" {
+    fn dihkelu_version() -> u32;
     fn dihkelu_gate(sheet: *const u8, sheet_count: usize) -> u64;
     fn dihkelu_start(
         sheet: *const u8,
@@ -40,6 +41,14 @@ extern "C" {
         list: *mut f64,
         list_count: usize,
     ) -> u64;
+}
+
+/// The version that these declarations are of: major × 2^16 + minor.
+pub const VERSION: u32 = 0x0000_0001;
+
+/// The library's version.
+pub fn version() -> u32 {
+    unsafe { dihkelu_version() }
 }
 
 /// How many numbers `evaluate` writes, and `answers` for a bare and for a coated surface.

@@ -48,6 +48,7 @@ static int environment(void) {
     static const int modes[] = {FE_UPWARD, FE_DOWNWARD, FE_TOWARDZERO};
     const unsigned flush_results = 0x8000, operands_are_zeros = 0x0040, usual = _mm_getcsr();
     const uint64_t least = 1, least_below_zero = 0x8000000000000001u;
+    EXPECT(dihkelu_version() == DIHKELU_VERSION);
     EXPECT(dihkelu_environment_ok());
     EXPECT(gate_of(0, 0) == 1);
     EXPECT(gate_of(least_below_zero, 0) == (6ull << 32) + 1);

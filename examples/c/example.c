@@ -30,6 +30,10 @@ static uint32_t answered(const char *call, uint64_t returned) {
 }
 
 int main(void) {
+    if (dihkelu_version() != DIHKELU_VERSION) {
+        puts("the library is of another version than its header");
+        return 1;
+    }
     if (!dihkelu_environment_ok()) {
         printf("subnormals are flushed, or rounding is not to nearest: no answer would be the proved one\n");
         return 1;

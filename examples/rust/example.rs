@@ -3,13 +3,14 @@
 #[path = "../../include/dihkelu.rs"]
 mod dihkelu;
 
-use dihkelu::{answers, environment_ok, evaluate, gate, run, start, step, Refusal, COATED, RESPONSE};
+use dihkelu::{answers, environment_ok, evaluate, gate, run, start, step, version, Refusal, COATED, RESPONSE, VERSION};
 
 fn main() -> Result<(), Refusal> {
     let words: [u32; 16] = [
         0x10000001, 0x20000000, 0x407F4000, 0x00000000, 0x3FE00000, 0x00000000, 0x3FE00000, 0x00000000,
         0x30000000, 0x3FF00000, 0x00000000, 0x40080000, 0x00000000, 0x00000000, 0x00000000, 0x50000001,
     ];
+    assert_eq!(version(), VERSION, "the library is of another version than its declarations");
     assert!(environment_ok(), "subnormals are flushed, or rounding is not to nearest");
     let mut sheet: Vec<u8> = words.iter().flat_map(|w| w.to_be_bytes()).collect();
 

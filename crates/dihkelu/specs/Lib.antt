@@ -1,3 +1,4 @@
 -- The C interface: what each call of the train answers.
 pub mod Train
 pub mod Numbers
+pub mod Version

@@ -10,10 +10,21 @@ ghost use Rattle.c_call.specs.Layout.{evaluated, surface-answered};
 ghost use Rattle.train_steps.specs.Train.{step, run};
 ghost use Rattle.sheet_surfaces.specs.Surfaces.{surface-answers};
 ghost use Rattle.dihkelu.specs.Train.{start-layout, step-layout, run-done};
+ghost use Rattle.dihkelu.specs.Version.{version};
 use gate::Gated;
 use thin_film_layers::Evaluation;
 use train_steps::State;
 use train_steps::TrainReply;
+
+// ---- the library
+
+// Its version: major times 2^16 plus minor.
+#[no_mangle]
+pub extern "C" fn dihkelu_version() -> u32
+    ensures { λ r. ⌜ r ≡ version ⌝ }
+{
+    0x0000_0001
+}
 
 // ---- a coated surface
 

@@ -8,7 +8,6 @@ use lib.Dec.{T}
 use lib.ListN.{length, replicate}
 use lib.Ieee as Ieee
 use lib.Ieee.{ofBits}
-use lib.Ieee.Scale.{finite}
 use Rattle.ieee.specs.Functions.{abs, clamp}
 use Rattle.ieee.proofs.Signs.{of-true}
 use Rattle.math_trig.specs.Trig.{wrap, fold, second-fold, series, sin-at, sin, cos-at, cos-of, cos}
@@ -51,7 +50,7 @@ custom : (p n : ℕ) → p ≤ 15 → p / 2 ≡ 5 → n ≤ 16 → length (repli
 custom p n le e few l = record { payload = le; n-incident = omega arith; n-substrate = omega arith; angle = omega arith; layers = coats n; few = omega arith; custom = inr e }
 
 inside : WithinLimits sheet
-unfolding dielectric mgf2-layers mirror-layers layers-of bragg-layers broadband-layers within beam-passes layer-within layers-within angle-passes surface-passes passes coded interface films wrap fold second-fold series sin-at sin cos-at cos-of cos abs clamp finite Ieee.rem Ieee.lt Ieee.le Ieee.eq Ieee.add Ieee.sub Ieee.mul Ieee.div Ieee.neg Ieee.ofInt Ieee.isNan ofBits
+unfolding dielectric mgf2-layers mirror-layers layers-of bragg-layers broadband-layers within beam-passes layer-within layers-within angle-passes surface-passes passes coded interface films wrap fold second-fold series sin-at sin cos-at cos-of cos abs clamp Ieee.rem Ieee.lt Ieee.le Ieee.eq Ieee.add Ieee.sub Ieee.mul Ieee.div Ieee.neg Ieee.ofInt Ieee.isNan ofBits
 inside = record {
   beam = of-true _ refl;
   surfaces = (of-true _ refl, (of-true _ refl, (of-true _ refl, (of-true _ refl, (of-true _ refl, (of-true _ refl, (of-true _ refl, (of-true _ refl, (of-true _ refl, (of-true _ refl, (of-true _ refl, (of-true _ refl, (of-true _ refl, (of-true _ refl, (of-true _ refl, (of-true _ refl, tt))))))))))))))));

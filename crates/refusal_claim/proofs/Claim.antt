@@ -1,0 +1,363 @@
+-- Demand 1. Assumes nothing.
+use mathlib.Core.Path.{_≡_, refl, sym, ap, _∙_, subst}
+use mathlib.Core.Bool.{Bool, true, false, _||_, cond}
+use mathlib.Core.Logic.{_⊎_, ⊎-elim}
+use mathlib.Core.List.{List, [], _∷_, _++_, map as map-list}
+use Prim.Native.Nat.{ℕ, zero, suc, _*_, _≤_, _<_}
+use native.Mathlib.Omega.{arith}
+use lib.Dec.{T, eqb, leb, ltb, lit≤, lit<}
+use lib.ListN.{length, getD, replicate}
+use lib.Ieee as Ieee
+use lib.Ieee.{Float, lt, ofBits}
+use borrow.Author.Tests.{ltb-true, le-ltb}
+use Rattle.ieee.specs.Functions.{zero-f, one, finite-positive}
+use Rattle.refusal.specs.Outcome.{Outcome, answer, refusal, map, bind, invalid-parameter, too-many-layers}
+use Rattle.thin_film_solver.specs.declared.ThinFilmLayer.{ThinFilmLayer}
+use Rattle.thin_film_solver.specs.declared.CoatingResponse.{CoatingResponse}
+use Rattle.thin_film_solver.specs.Solve as Solve
+use Rattle.thin_film_layers.specs.Evaluation.{ordered, no-layer}
+use Rattle.thin_film_valid.specs.Valid.{valid}
+use Rattle.thin_film_presets.specs.Layers.{bragg-layers}
+use Rattle.thin_film_coating.specs.declared.Coating.{Coating}
+use Rattle.thin_film_coating.specs.declared.Coating.the-variants as C
+use Rattle.thin_film_coating.specs.declared.Layers.{Layers}
+use Rattle.thin_film_coating.specs.declared.Built as Declared
+use Rattle.thin_film_coating.specs.Coating as Built
+use Rattle.thin_film_coating.specs.Evaluate.{respond, evaluate-coating}
+use Rattle.thin_film.specs.declared.SurfaceCoating.{SurfaceCoating}
+use Rattle.thin_film.specs.declared.SurfaceCoating.the-variants as S
+use Rattle.thin_film.specs.Coating.{coating-of, layers-of, to-coating}
+use Rattle.thin_film.specs.Evaluate.{evaluate-surface}
+use Rattle.polarization.specs.Surface.{indices-valid, surface-fresnel-jones}
+use Rattle.name_bytes.specs.Ascii.{first-over}
+use Rattle.name_coating.specs.Name.{from-format-name}
+use Rattle.gate_limits.specs.Limits.{within, beam-passes}
+use Rattle.sheet.specs.Words.{words-of}
+use Rattle.sheet.specs.Blocks.{All, blocks-from, starts}
+use Rattle.sheet.specs.Sheet as Data
+use Rattle.sheet.specs.Sheet.{nth, WellFormed, raw-words, surfaces-blocks, blocks, encode}
+use Rattle.sheet.specs.Read.{floats-after, raws, numbers, may, decode}
+use Rattle.sheet.specs.Claim.{Bytes}
+use Rattle.sheet.proofs.Claim.{grammar-claim}
+use Rattle.sheet_values.specs.Values.{value}
+use Rattle.gate.specs.Gate.{verdict, carried, walked, gated, gate}
+use Rattle.gate.proofs.Claim.{gate-claim}
+use Rattle.sheet_surfaces.specs.Surfaces.{of-surface, surface-of, numbered, layer-of, nth-surface, nth-layer, surface-answers}
+use Rattle.sheet_surfaces.proofs.Answers.{all-nth}
+use Rattle.train_steps.specs.declared.State.{State}
+use Rattle.train_steps.specs.Train.{fresh, start, stepped, step, Ran, ran, run}
+use Rattle.train_claim.proofs.Claim.{train-claim}
+use Rattle.refusal_claim.specs.Claim.{one-of, Only, Refuses, Sheet, Numbers, RefusalClaim}
+
+-- ---- numbers of refusals
+wider : (n : ℕ) (ms ks : List ℕ) → T (one-of n ms) → T (one-of n (ms ++ ks))
+wider n [] ks t = absurd t
+wider n (m ∷ ms) ks t = by (eqb n m) t (wider n ms ks)
+  where
+    by : (b : Bool) → T (b || one-of n ms) → (T (one-of n ms) → T (one-of n (ms ++ ks))) → T (b || one-of n (ms ++ ks))
+    by true t again = tt
+    by false t again = again t
+
+abbrev sheets : List ℕ
+sheets = 4 ∷ 5 ∷ 6 ∷ []
+
+module _ {A : Type 0} where
+  more : (ks : List ℕ) (o : Outcome A) → Only sheets o → Only (sheets ++ ks) o
+  more ks (answer a) t = tt
+  more ks (refusal number place) t = wider number sheets ks t
+
+  either : (ns : List ℕ) (b : Bool) (x y : Outcome A) → Only ns x → Only ns y → Only ns (cond b x y)
+  either ns true x y h k = h
+  either ns false x y h k = k
+
+  mapped : {B : Type 0} (ns : List ℕ) (f : A → B) (o : Outcome A) → Only ns o → Only ns (map f o)
+  mapped ns f (answer a) t = tt
+  mapped ns f (refusal number place) t = t
+
+  bound : {B : Type 0} (ns : List ℕ) (f : A → Outcome B) (o : Outcome A) → Only ns o → ((a : A) → o ≡ answer a → Only ns (f a)) → Only ns (bind o f)
+  bound ns f (answer a) t h = h a refl
+  bound ns f (refusal number place) t h = t
+
+-- ---- the gate
+gated-only : (src : List ℕ) → Only (4 ∷ 5 ∷ 6 ∷ []) (gated src)
+gated-only src = go (gated src) refl
+  where
+    go : (o : Outcome Data.Sheet) → gated src ≡ o → Only (4 ∷ 5 ∷ 6 ∷ []) o
+    go (answer x) e = tt
+    go (refusal number place) e = ⊎-elim (λ k. rw k tt) (λ k. ⊎-elim (λ l. rw l tt) (λ l. rw l tt) k) (gate-claim .no-other src number place e)
+
+-- ---- bytes that are refused with 4, 5 and 6, and a sheet that is admitted
+zeros : (n : ℕ) → Bytes (replicate n 0)
+zeros zero = tt
+zeros (suc n) = (omega arith, zeros n)
+
+none : Sheet
+none = record { src = []; bytes = tt }
+
+blank : Sheet
+blank = record { src = replicate 36 0; bytes = zeros 36 }
+
+abbrev dark : Data.Sheet
+dark = record { wavelength = 0; s = 0; p = 0; surfaces = [] }
+
+dark-formed : WellFormed dark
+dark-formed = record { wavelength = omega arith; s = omega arith; p = omega arith; surfaces = tt; few = omega arith }
+
+unlit : Sheet
+unlit = record { src = encode dark; bytes = grammar-claim .fits dark dark-formed .1 }
+
+abbrev panes : Data.Sheet
+panes = train-claim .one .sheet
+
+whole : Sheet
+whole = record { src = encode panes; bytes = grammar-claim .fits panes (train-claim .one .formed) .1 }
+
+mapped-length : {A B : Type 0} (f : A → B) (xs : List A) → length (map-list f xs) ≡ length xs
+mapped-length f [] = refl
+mapped-length f (x ∷ xs) = ap suc (mapped-length f xs)
+
+sixteen : length (panes .surfaces) ≡ 16
+sixteen = sym (mapped-length (λ (y : Data.SheetSurface). y .payload) (panes .surfaces)) ∙ ap length (train-claim .one .payloads)
+
+four : gated (none .src) ≡ refusal 4 0
+unfolding none gated
+four = refl
+
+five : gated (blank .src) ≡ refusal 5 0
+unfolding blank gated decode words-of blocks-from may
+five = refl
+
+six : gated (unlit .src) ≡ refusal 6 1
+unfolding unlit blocks surfaces-blocks raw-words starts numbers walked verdict carried beam-passes within Ieee.le ofBits
+six = gate-claim .six (encode dark) (unlit .bytes) 1 .1 (dark, ((dark-formed, refl), record { block = 1; inside = lit< tt; outside = refl; first = first; stands = refl }))
+  where
+    first : (i : ℕ) → i < 1 → getD (walked zero-f (blocks dark)) i true ≡ true
+    first zero lt = refl
+    first (suc i) lt = absurd (omega arith)
+
+admitted : gated (whole .src) ≡ answer panes
+unfolding whole
+admitted = gate-claim .admits (encode panes) (whole .bytes) panes .1 ((train-claim .one .formed, train-claim .one .within), refl)
+
+-- ---- calls on sheets
+abbrev Refused : {X A : Type 0} → (X → Outcome A) → ℕ → Type 0
+Refused {X} call number = (x : X) × ((place : ℕ) × (call x ≡ refusal number place))
+
+of-gate : Refuses (λ (x : Sheet). gate (x .src)) (4 ∷ 5 ∷ 6 ∷ [])
+unfolding gate
+of-gate = record {
+  only = λ x. mapped (4 ∷ 5 ∷ 6 ∷ []) _ (gated (x .src)) (gated-only (x .src));
+  each = ((none, (0, ap (map _) four)), ((blank, (0, ap (map _) five)), ((unlit, (1, ap (map _) six)), tt)));
+}
+
+of-start : Refuses (λ (x : Sheet). start (x .src)) (4 ∷ 5 ∷ 6 ∷ [])
+unfolding start
+of-start = record {
+  only = λ x. mapped (4 ∷ 5 ∷ 6 ∷ []) fresh (gated (x .src)) (gated-only (x .src));
+  each = ((none, (0, ap (map fresh) four)), ((blank, (0, ap (map fresh) five)), ((unlit, (1, ap (map fresh) six)), tt)));
+}
+
+abbrev still : State
+still = record { done = 16; s = zero-f; p = zero-f }
+
+of-step : Refuses (λ (x : Sheet × State). step (x .0 .src) (x .1)) (4 ∷ 5 ∷ 6 ∷ 7 ∷ [])
+unfolding step
+of-step = record {
+  only = λ x. by (x .0) (x .1);
+  each = (
+    ((none, still), (0, train-claim .turned-back (none .src) 4 0 four .steps still)),
+    (
+      ((blank, still), (0, train-claim .turned-back (blank .src) 5 0 five .steps still)),
+      (
+        ((unlit, still), (1, train-claim .turned-back (unlit .src) 6 1 six .steps still)),
+        (((whole, still), (0, train-claim .every-call (whole .src) (whole .bytes) panes admitted .seven still (omega (arith, sixteen)))), tt),
+      ),
+    ),
+  );
+}
+  where
+    by : (x : Sheet) (st : State) → Only (4 ∷ 5 ∷ 6 ∷ 7 ∷ []) (step (x .src) st)
+    by x st = bound (4 ∷ 5 ∷ 6 ∷ 7 ∷ []) (stepped st) (gated (x .src)) (more (7 ∷ []) (gated (x .src)) (gated-only (x .src))) (λ y e. either (4 ∷ 5 ∷ 6 ∷ 7 ∷ []) (ltb (st .done) (length (y .surfaces))) (answer _) (refusal 7 0) tt tt)
+
+of-run : Refuses (λ (x : Sheet × List Float). run (x .0 .src) (x .1) .result) (4 ∷ 5 ∷ 6 ∷ 8 ∷ [])
+unfolding run
+of-run = record {
+  only = λ x. by (x .0) (x .1);
+  each = (
+    ((none, []), (0, ap (λ (r : Ran). r .result) (train-claim .turned-back (none .src) 4 0 four .runs []))),
+    (
+      ((blank, []), (0, ap (λ (r : Ran). r .result) (train-claim .turned-back (blank .src) 5 0 five .runs []))),
+      (
+        ((unlit, []), (1, ap (λ (r : Ran). r .result) (train-claim .turned-back (unlit .src) 6 1 six .runs []))),
+        (((whole, []), (0, ap (λ (r : Ran). r .result) (train-claim .every-call (whole .src) (whole .bytes) panes admitted .eight [] (omega (arith, sixteen))))), tt),
+      ),
+    ),
+  );
+}
+  where
+    ran-only : (list : List Float) (o : Outcome Data.Sheet) → Only (4 ∷ 5 ∷ 6 ∷ 8 ∷ []) o → Only (4 ∷ 5 ∷ 6 ∷ 8 ∷ []) (ran list o .result)
+    ran-only list (answer x) t = at (leb (2 * length (x .surfaces)) (length list)) _ _ tt tt
+      where
+        at : (b : Bool) (u v : Ran) → Only (4 ∷ 5 ∷ 6 ∷ 8 ∷ []) (u .result) → Only (4 ∷ 5 ∷ 6 ∷ 8 ∷ []) (v .result) → Only (4 ∷ 5 ∷ 6 ∷ 8 ∷ []) (cond b u v .result)
+        at true u v h k = h
+        at false u v h k = k
+    ran-only list (refusal number place) t = t
+
+    by : (x : Sheet) (list : List Float) → Only (4 ∷ 5 ∷ 6 ∷ 8 ∷ []) (run (x .src) list .result)
+    by x list = ran-only list (gated (x .src)) (more (8 ∷ []) (gated (x .src)) (gated-only (x .src)))
+
+-- ---- coatings
+abbrev lit : Numbers
+lit = record { n-incident = one; n-substrate = one; angle = zero-f; wavelength = one }
+
+abbrev unlawful : Numbers
+unlawful = record { n-incident = zero-f; n-substrate = one; angle = zero-f; wavelength = one }
+
+module _ (n : Numbers) where
+  coating-only : (coating : Coating) (layers : List ThinFilmLayer) → Only (1 ∷ 3 ∷ []) (evaluate-coating coating layers (n .n-incident) (n .n-substrate) (n .angle) (n .wavelength))
+  unfolding evaluate-coating respond
+  coating-only coating layers =
+      either (1 ∷ 3 ∷ []) (valid (n .n-incident) (n .n-substrate) (n .angle) (n .wavelength)) (respond coating layers (n .n-incident) (n .n-substrate) (n .angle) (n .wavelength)) invalid-parameter (responds coating) tt
+    where
+      responds : (c : Coating) → Only (1 ∷ 3 ∷ []) (respond c layers (n .n-incident) (n .n-substrate) (n .angle) (n .wavelength))
+      responds C.IdealAr = tt
+      responds C.IdealMirror = tt
+      responds C.IdealBeamsplitter = tt
+      responds C.Multilayer = either (1 ∷ 3 ∷ []) (leb (length layers) 64) (answer (Solve.evaluate (n .n-incident) (n .n-substrate) (n .angle) (n .wavelength) layers)) too-many-layers tt tt
+
+sixty-five : List ThinFilmLayer
+sixty-five = replicate 65 no-layer
+
+of-coating : Refuses (λ (x : Coating × (List ThinFilmLayer × Numbers)). let n = x .1 .1 in evaluate-coating (x .0) (x .1 .0) (n .n-incident) (n .n-substrate) (n .angle) (n .wavelength)) (1 ∷ 3 ∷ [])
+unfolding sixty-five evaluate-coating respond valid finite-positive Ieee.lt ofBits Ieee.le
+of-coating = record {
+  only = λ x. coating-only (x .1 .1) (x .0) (x .1 .0);
+  each = (((C.IdealAr, ([], unlawful)), (0, refl)), (((C.Multilayer, (sixty-five, lit)), (0, refl)), tt));
+}
+
+of-surface-coating : Refuses (λ (x : SurfaceCoating × (List ThinFilmLayer × Numbers)). let n = x .1 .1 in evaluate-surface (x .0) (x .1 .0) (n .n-incident) (n .n-substrate) (n .angle) (n .wavelength)) (1 ∷ 3 ∷ [])
+unfolding sixty-five evaluate-surface evaluate-coating respond valid layers-of ordered finite-positive Ieee.lt ofBits Ieee.le
+of-surface-coating = record {
+  only = λ x. let n = x .1 .1 in coating-only n (coating-of (x .0)) (ordered (lt (n .n-substrate) (n .n-incident)) (layers-of (x .0) (x .1 .0)));
+  each = (((S.IdealAr, ([], unlawful)), (0, refl)), (((S.Custom C.Multilayer, (sixty-five, lit)), (0, refl)), tt));
+}
+
+of-fresnel : Refuses (λ (x : Numbers). surface-fresnel-jones (x .n-incident) (x .n-substrate) (x .angle)) (1 ∷ [])
+unfolding surface-fresnel-jones indices-valid finite-positive Ieee.lt ofBits Ieee.le
+of-fresnel = record {
+  only = λ x. either (1 ∷ []) (indices-valid (x .n-incident) (x .n-substrate) (x .angle)) (answer _) invalid-parameter tt tt;
+  each = ((unlawful, (0, refl)), tt);
+}
+
+of-name : Refuses from-format-name (2 ∷ [])
+unfolding from-format-name
+of-name = record {
+  only = λ name. either (2 ∷ []) (ltb 32 (length name)) (refusal 2 32) _ tt (either (2 ∷ []) (ltb (first-over name) (length name)) (refusal 2 (first-over name)) (answer _) tt tt);
+  each = ((replicate 33 65, (32, refl)), tt);
+}
+
+-- ---- built coatings
+built-only : (b : Bool) (x : Declared.Built) → x .refusal ≡ 0 → Only (3 ∷ []) (Built.outcome (cond b x Built.too-many))
+built-only true x e = rw e tt
+built-only false x e = tt
+
+of-bragg-mirror : Refuses (λ (x : Numbers × ℕ). let n = x .0 in Built.outcome (Built.bragg-mirror (n .n-incident) (n .n-substrate) (x .1) (n .wavelength))) (3 ∷ [])
+of-bragg-mirror = record {
+  only = λ x. built-only (leb (x .1) 31) (Built.built C.Multilayer (bragg-layers (x .0 .n-incident) (x .0 .n-substrate) (x .1) (x .0 .wavelength))) refl;
+  each = (((lit, 32), (0, refl)), tt);
+}
+
+many : Layers
+many = record { items = []; count = 65 }
+
+of-to-coating : Refuses (λ (x : SurfaceCoating × Layers). Built.outcome (to-coating (x .0) (x .1))) (3 ∷ [])
+unfolding many
+of-to-coating = record { only = λ x. by (x .0) (x .1); each = (((S.Custom C.Multilayer, many), (0, refl)), tt) }
+  where
+    by : (s : SurfaceCoating) (custom : Layers) → Only (3 ∷ []) (Built.outcome (to-coating s custom))
+    by (S.Custom C.Multilayer) custom = built-only (leb (custom .count) 64) (record { refusal = 0; coating = C.Multilayer; layers = custom }) refl
+    by (S.Custom C.IdealAr) custom = tt
+    by (S.Custom C.IdealMirror) custom = tt
+    by (S.Custom C.IdealBeamsplitter) custom = tt
+    by S.IdealAr custom = tt
+    by (S.MgF2 design) custom = tt
+    by S.BroadbandAr custom = tt
+    by S.HighReflectanceMirror custom = tt
+
+-- ---- the surfaces of a sheet by their numbers
+abbrev seven : List ℕ
+seven = 4 ∷ 5 ∷ 6 ∷ 7 ∷ []
+
+of-surface-only : {A : Type 0} (f : Data.Sheet → Data.SheetSurface → Outcome A) (i : ℕ) (o : Outcome Data.Sheet) → Only seven o → ((x : Data.Sheet) → o ≡ answer x → i < length (x .surfaces) → Only seven (f x (nth (x .surfaces) i)))
+    → Only seven (of-surface f i o)
+of-surface-only f i (answer x) t h = by (ltb i (length (x .surfaces))) refl (h x refl)
+  where
+    by : (b : Bool) → ltb i (length (x .surfaces)) ≡ b → (i < length (x .surfaces) → Only seven (f x (nth (x .surfaces) i))) → Only seven (cond b (f x (nth (x .surfaces) i)) (refusal 7 0))
+    by true e h = h (ltb-true i (length (x .surfaces)) e)
+    by false e h = tt
+of-surface-only f i (refusal number place) t h = t
+
+said : {A : Type 0} (f : Data.Sheet → Data.SheetSurface → Outcome A) (i : ℕ) (o : Outcome Data.Sheet) (number place : ℕ) → o ≡ refusal number place → of-surface f i o ≡ refusal number place
+said f i o number place e = ap (of-surface f i) e
+
+past : {A : Type 0} (f : Data.Sheet → Data.SheetSurface → Outcome A) → of-surface f 16 (gated (whole .src)) ≡ refusal 7 0
+past f = ap (of-surface f 16) admitted ∙ rw (le-ltb 16 (length (panes .surfaces)) (omega (arith, sixteen)))
+
+all-seven : (src : List ℕ) → Only seven (gated src)
+all-seven src = more (7 ∷ []) (gated src) (gated-only src)
+
+of-answers : Refuses (λ (x : Sheet × ℕ). surface-answers (x .0 .src) (x .1)) (4 ∷ 5 ∷ 6 ∷ 7 ∷ [])
+unfolding surface-answers
+of-answers = record {
+  only = λ x.
+      of-surface-only _ (x .1) (gated (x .0 .src)) (all-seven (x .0 .src))
+      (λ y e lt. rw (all-nth _ (y .surfaces) (x .1) (train-claim .admitted (x .0 .src) (x .0 .bytes) y e .answers) lt .is) tt);
+  each = (((none, 0), (0, said _ 0 _ 4 0 four)), (((blank, 0), (0, said _ 0 _ 5 0 five)), (((unlit, 0), (1, said _ 0 _ 6 1 six)), (((whole, 16), (0, past _)), tt))));
+}
+
+of-nth-surface : Refuses (λ (x : Sheet × ℕ). nth-surface (x .0 .src) (x .1)) (4 ∷ 5 ∷ 6 ∷ 7 ∷ [])
+unfolding nth-surface
+of-nth-surface = record {
+  only = λ x. mapped seven numbered (surface-of (x .1) (gated (x .0 .src))) (of-surface-only _ (x .1) (gated (x .0 .src)) (all-seven (x .0 .src)) (λ y e lt. tt));
+  each = (
+    ((none, 0), (0, ap (λ o. map numbered (surface-of 0 o)) four)),
+    (
+      ((blank, 0), (0, ap (λ o. map numbered (surface-of 0 o)) five)),
+      (((unlit, 0), (1, ap (λ o. map numbered (surface-of 0 o)) six)), (((whole, 16), (0, ap (map numbered) (past (λ x y. answer y)))), tt)),
+    ),
+  );
+}
+
+of-nth-layer : Refuses (λ (x : Sheet × (ℕ × ℕ)). nth-layer (x .0 .src) (x .1 .0) (x .1 .1)) (4 ∷ 5 ∷ 6 ∷ 7 ∷ [])
+unfolding nth-layer
+of-nth-layer = record {
+  only = λ x. layers (x .1 .1) (surface-of (x .1 .0) (gated (x .0 .src))) (of-surface-only _ (x .1 .0) (gated (x .0 .src)) (all-seven (x .0 .src)) (λ y e lt. tt));
+  each = (
+    ((none, (0, 0)), (0, ap (λ o. layer-of 0 (surface-of 0 o)) four)),
+    (
+      ((blank, (0, 0)), (0, ap (λ o. layer-of 0 (surface-of 0 o)) five)),
+      (((unlit, (0, 0)), (1, ap (λ o. layer-of 0 (surface-of 0 o)) six)), (((whole, (16, 0)), (0, ap (layer-of 0) (past (λ x y. answer y)))), tt)),
+    ),
+  );
+}
+  where
+    layers : (j : ℕ) (o : Outcome Data.SheetSurface) → Only seven o → Only seven (layer-of j o)
+    layers j (answer y) t = either seven (ltb j (length (y .layers))) (answer _) (refusal 7 0) tt tt
+    layers j (refusal number place) t = t
+
+pub refusal-claim : RefusalClaim
+refusal-claim = record {
+  of-gate = of-gate;
+  of-start = of-start;
+  of-step = of-step;
+  of-run = of-run;
+  of-answers = of-answers;
+  of-nth-surface = of-nth-surface;
+  of-nth-layer = of-nth-layer;
+  of-coating = of-coating;
+  of-surface = of-surface-coating;
+  of-fresnel = of-fresnel;
+  of-name = of-name;
+  of-bragg-mirror = of-bragg-mirror;
+  of-to-coating = of-to-coating;
+}

@@ -1,0 +1,2 @@
+-- Demand 1.
+pub mod Claim

@@ -1,0 +1,66 @@
+-- Demand 1: 'The answer to any call, on any bytes and any floats, is a result or one of document 01's numbered refusals.' For each call the numbers of the table
+-- 'Turned back' that it can refuse with: no other, and each of them for some arguments. Types only; `proofs/Claim.antt` inhabits `RefusalClaim`.
+use mathlib.Core.Path.{_≡_}
+use mathlib.Core.Bool.{Bool, false, _||_}
+use mathlib.Core.List.{List, [], _∷_}
+use Prim.Native.Nat.{ℕ}
+use lib.Dec.{T, eqb}
+use lib.Ieee.{Float}
+use Rattle.refusal.specs.Outcome.{Outcome, answer, refusal}
+use Rattle.thin_film_solver.specs.declared.ThinFilmLayer.{ThinFilmLayer}
+use Rattle.thin_film_coating.specs.declared.Coating.{Coating}
+use Rattle.thin_film_coating.specs.declared.Layers.{Layers}
+use Rattle.thin_film_coating.specs.Evaluate.{evaluate-coating}
+use Rattle.thin_film_coating.specs.Coating as Built
+use Rattle.thin_film.specs.declared.SurfaceCoating.{SurfaceCoating}
+use Rattle.thin_film.specs.Coating.{to-coating}
+use Rattle.thin_film.specs.Evaluate.{evaluate-surface}
+use Rattle.polarization.specs.Surface.{surface-fresnel-jones}
+use Rattle.name_coating.specs.Name.{from-format-name}
+use Rattle.sheet.specs.Blocks.{All}
+use Rattle.sheet.specs.Claim.{Bytes}
+use Rattle.gate.specs.Gate.{gate}
+use Rattle.sheet_surfaces.specs.Surfaces.{nth-surface, nth-layer, surface-answers}
+use Rattle.train_steps.specs.declared.State.{State}
+use Rattle.train_steps.specs.Train.{start, step, run}
+
+abbrev pub one-of : ℕ → List ℕ → Bool
+one-of n [] = false
+one-of n (m ∷ ms) = eqb n m || one-of n ms
+
+-- an answer, or a refusal with one of these numbers
+abbrev pub Only : {A : Type 0} → List ℕ → Outcome A → Type 0
+Only numbers (answer a) = Unit {0}
+Only numbers (refusal number place) = T (one-of number numbers)
+
+-- a call, from its arguments to its outcome, refuses with these numbers and with each of them
+pub record Refuses {X A : Type 0} (call : X → Outcome A) (numbers : List ℕ) : Type 0 where
+  pub only : (x : X) → Only numbers (call x)
+  pub each : All (λ (number : ℕ). (x : X) × ((place : ℕ) × (call x ≡ refusal number place))) numbers
+
+-- any bytes
+pub record Sheet : Type 0 where
+  pub src : List ℕ
+  pub bytes : Bytes src
+
+-- n_incident, n_substrate, angle, wavelength
+pub record Numbers : Type 0 where
+  pub n-incident : Float
+  pub n-substrate : Float
+  pub angle : Float
+  pub wavelength : Float
+
+pub record RefusalClaim : Type 0 where
+  pub of-gate : Refuses (λ (x : Sheet). gate (x .src)) (4 ∷ 5 ∷ 6 ∷ [])
+  pub of-start : Refuses (λ (x : Sheet). start (x .src)) (4 ∷ 5 ∷ 6 ∷ [])
+  pub of-step : Refuses (λ (x : Sheet × State). step (x .0 .src) (x .1)) (4 ∷ 5 ∷ 6 ∷ 7 ∷ [])
+  pub of-run : Refuses (λ (x : Sheet × List Float). run (x .0 .src) (x .1) .result) (4 ∷ 5 ∷ 6 ∷ 8 ∷ [])
+  pub of-answers : Refuses (λ (x : Sheet × ℕ). surface-answers (x .0 .src) (x .1)) (4 ∷ 5 ∷ 6 ∷ 7 ∷ [])
+  pub of-nth-surface : Refuses (λ (x : Sheet × ℕ). nth-surface (x .0 .src) (x .1)) (4 ∷ 5 ∷ 6 ∷ 7 ∷ [])
+  pub of-nth-layer : Refuses (λ (x : Sheet × (ℕ × ℕ)). nth-layer (x .0 .src) (x .1 .0) (x .1 .1)) (4 ∷ 5 ∷ 6 ∷ 7 ∷ [])
+  pub of-coating : Refuses (λ (x : Coating × (List ThinFilmLayer × Numbers)). let n = x .1 .1 in evaluate-coating (x .0) (x .1 .0) (n .n-incident) (n .n-substrate) (n .angle) (n .wavelength)) (1 ∷ 3 ∷ [])
+  pub of-surface : Refuses (λ (x : SurfaceCoating × (List ThinFilmLayer × Numbers)). let n = x .1 .1 in evaluate-surface (x .0) (x .1 .0) (n .n-incident) (n .n-substrate) (n .angle) (n .wavelength)) (1 ∷ 3 ∷ [])
+  pub of-fresnel : Refuses (λ (x : Numbers). surface-fresnel-jones (x .n-incident) (x .n-substrate) (x .angle)) (1 ∷ [])
+  pub of-name : Refuses from-format-name (2 ∷ [])
+  pub of-bragg-mirror : Refuses (λ (x : Numbers × ℕ). let n = x .0 in Built.outcome (Built.bragg-mirror (n .n-incident) (n .n-substrate) (x .1) (n .wavelength))) (3 ∷ [])
+  pub of-to-coating : Refuses (λ (x : SurfaceCoating × Layers). Built.outcome (to-coating (x .0) (x .1))) (3 ∷ [])

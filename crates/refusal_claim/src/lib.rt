@@ -1,0 +1,1 @@
+// Demand 1, as one claim over the calls that can refuse; no code.
