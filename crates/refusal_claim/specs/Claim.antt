@@ -1,5 +1,6 @@
--- Demand 1: 'The answer to any call, on any bytes and any floats, is a result or one of document 01's numbered refusals.' For each call the numbers of the table
--- 'Turned back' that it can refuse with: no other, and each of them for some arguments. Types only; `proofs/Claim.antt` inhabits `RefusalClaim`.
+-- Demand 1: 'The answer to any call, on any bytes and any floats, is a result or one of document 01's numbered refusals.' For each call the
+-- numbers of the table 'Turned back' that it can refuse with: no other, and each of them for some arguments.
+-- Types only; `proofs/Claim.antt` inhabits `RefusalClaim`.
 use mathlib.Core.Path.{_≡_}
 use mathlib.Core.Bool.{Bool, false, _||_}
 use mathlib.Core.List.{List, [], _∷_}
@@ -50,6 +51,10 @@ pub record Numbers : Type 0 where
   pub angle : Float
   pub wavelength : Float
 
+-- a call of four numbers
+abbrev pub at : {A : Type 0} → (Float → Float → Float → Float → A) → Numbers → A
+at call n = call (n .n-incident) (n .n-substrate) (n .angle) (n .wavelength)
+
 pub record RefusalClaim : Type 0 where
   pub of-gate : Refuses (λ (x : Sheet). gate (x .src)) (4 ∷ 5 ∷ 6 ∷ [])
   pub of-start : Refuses (λ (x : Sheet). start (x .src)) (4 ∷ 5 ∷ 6 ∷ [])
@@ -58,9 +63,9 @@ pub record RefusalClaim : Type 0 where
   pub of-answers : Refuses (λ (x : Sheet × ℕ). surface-answers (x .0 .src) (x .1)) (4 ∷ 5 ∷ 6 ∷ 7 ∷ [])
   pub of-nth-surface : Refuses (λ (x : Sheet × ℕ). nth-surface (x .0 .src) (x .1)) (4 ∷ 5 ∷ 6 ∷ 7 ∷ [])
   pub of-nth-layer : Refuses (λ (x : Sheet × (ℕ × ℕ)). nth-layer (x .0 .src) (x .1 .0) (x .1 .1)) (4 ∷ 5 ∷ 6 ∷ 7 ∷ [])
-  pub of-coating : Refuses (λ (x : Coating × (List ThinFilmLayer × Numbers)). let n = x .1 .1 in evaluate-coating (x .0) (x .1 .0) (n .n-incident) (n .n-substrate) (n .angle) (n .wavelength)) (1 ∷ 3 ∷ [])
-  pub of-surface : Refuses (λ (x : SurfaceCoating × (List ThinFilmLayer × Numbers)). let n = x .1 .1 in evaluate-surface (x .0) (x .1 .0) (n .n-incident) (n .n-substrate) (n .angle) (n .wavelength)) (1 ∷ 3 ∷ [])
+  pub of-coating : Refuses (λ (x : Coating × (List ThinFilmLayer × Numbers)). at (evaluate-coating (x .0) (x .1 .0)) (x .1 .1)) (1 ∷ 3 ∷ [])
+  pub of-surface : Refuses (λ (x : SurfaceCoating × (List ThinFilmLayer × Numbers)). at (evaluate-surface (x .0) (x .1 .0)) (x .1 .1)) (1 ∷ 3 ∷ [])
   pub of-fresnel : Refuses (λ (x : Numbers). surface-fresnel-jones (x .n-incident) (x .n-substrate) (x .angle)) (1 ∷ [])
   pub of-name : Refuses from-format-name (2 ∷ [])
-  pub of-bragg-mirror : Refuses (λ (x : Numbers × ℕ). let n = x .0 in Built.outcome (Built.bragg-mirror (n .n-incident) (n .n-substrate) (x .1) (n .wavelength))) (3 ∷ [])
+  pub of-bragg-mirror : Refuses (λ (x : Numbers × ℕ). Built.outcome (at (λ n-high n-low angle design. Built.bragg-mirror n-high n-low (x .1) design) (x .0))) (3 ∷ [])
   pub of-to-coating : Refuses (λ (x : SurfaceCoating × Layers). Built.outcome (to-coating (x .0) (x .1))) (3 ∷ [])

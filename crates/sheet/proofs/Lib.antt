@@ -1,4 +1,4 @@
--- Facts on words, blocks and places, and the claim on the grammar.
+-- Facts on words, blocks and places, the claim on the grammar, and the calls on a reader.
 pub mod WordBytes
 pub mod Lists
 pub mod AnyGrammar
@@ -10,3 +10,4 @@ pub mod Claim
 pub mod Stands
 pub mod Standings
 pub mod Scan
+mod Calls

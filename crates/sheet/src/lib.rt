@@ -63,18 +63,11 @@ pub fn next_place(src: &[u8], at: usize) -> usize
     }
 }
 
-// A reader at the first word.
-pub fn new<'a>(src: &'a [u8]) -> Reader<'a>
-    ensures { λ r. ⌜ (r .src ≡ src .entry) × (r .at ≡ 0) ⌝ }
+// A reader at a word.
+pub fn new<'a>(src: &'a [u8], at: usize) -> Reader<'a>
+    ensures { λ r. ⌜ (r .src ≡ src .entry) × (r .at ≡ at) ⌝ }
 {
-    Reader { src, at: 0 }
-}
-
-// The same sheet at another word.
-pub fn moved<'a>(r: Reader<'a>, at: usize) -> Reader<'a>
-    ensures { λ q. ⌜ (q .src ≡ r .entry .src) × (q .at ≡ at) ⌝ }
-{
-    Reader { src: r.src, at }
+    Reader { src, at }
 }
 
 // The word that is reached.
@@ -84,18 +77,28 @@ pub fn word<'a>(r: Reader<'a>) -> u32
     word_at(r.src, r.at)
 }
 
+// The reader after the block whose kind word is reached.
+pub fn next<'a>(r: Reader<'a>) -> Reader<'a>
+    ensures { λ q. ⌜ (q .src ≡ r .entry .src) × (q .at ≡ next-place (now (r .entry .src)) (r .entry .at)) ⌝ }
+{
+    Reader {
+        src: r.src,
+        at: next_place(r.src, r.at),
+    }
+}
+
 // The word at a place, by a reader.
 pub fn word_from(src: &[u8], at: usize) -> u32
     ensures { λ r. ⌜ r ≡ wordOf (now (src .entry)) at ⌝ }
 {
-    word(moved(new(src), at))
+    word(new(src, at))
 }
 
-// The kind word after the block at a place.
-fn word_after(src: &[u8], at: usize) -> u32
+// The kind word after the block at a place, by a reader.
+pub fn word_after(src: &[u8], at: usize) -> u32
     ensures { λ r. ⌜ r ≡ wordOf (now (src .entry)) (next-place (now (src .entry)) at) ⌝ }
 {
-    word_from(src, next_place(src, at))
+    word(next(new(src, at)))
 }
 
 // The float in two raw words.

@@ -1,5 +1,6 @@
 // The functions 160 to 174: of sheets and trains. Each gives its count of words; 0 where it is not one
 // of these, or where a run changed what it must leave.
+ghost use Prim.Native.Nat.{_≤_};
 use super::answers::answers_out;
 use gate::Gated;
 use refusal::Refusal;
@@ -45,16 +46,33 @@ fn step_call(src: &[u8], state: State, out: &mut [u64; 256]) -> usize {
     }
 }
 
+// The state that a step returns, and 1 where it was refused.
+struct Moved {
+    state: State,
+    refused: u64,
+}
+
+fn one_step(src: &[u8], state: State) -> Moved
+    ensures { λ r. ⌜ r .refused ≤ 1 ⌝ }
+{
+    match train_steps::step(src, state) {
+        TrainReply::State(next) => Moved {
+            state: next,
+            refused: 0,
+        },
+        TrainReply::Refused(_) => Moved { state, refused: 1 },
+    }
+}
+
 // A list of n steps from Start: the last state, and how many were refused.
 fn steps_from(src: &[u8], first: State, n: u32, out: &mut [u64; 256]) -> usize {
     let mut state = first;
     let mut refused: u64 = 0;
     let mut i = 0;
     while i < n {
-        match train_steps::step(src, state) {
-            TrainReply::State(next) => state = next,
-            TrainReply::Refused(_) => refused += 1,
-        }
+        let moved = one_step(src, state);
+        state = moved.state;
+        refused += moved.refused;
         i += 1;
     }
     out[4] = refused;
