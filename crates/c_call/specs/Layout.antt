@@ -52,7 +52,8 @@ head a = cond (a .coated) one zero-f ∷ powers-numbers (a .powers)
 
 -- what every surface has: these, and the matrices of the reflected light and of the transmitted. 53 numbers
 abbrev pub common : Answers → List Float
-common a = head a ++ jones-numbers (a .reflection) ++ jones-numbers (a .transmission) ++ mueller-numbers (a .«reflection_mueller») ++ mueller-numbers (a .«transmission_mueller»)
+common a = head a ++ jones-numbers (a .reflection) ++ jones-numbers (a .transmission) ++ mueller-numbers (a .«reflection_mueller») ++
+    mueller-numbers (a .«transmission_mueller»)
 
 -- dihkelu_answers: and last, of a coated surface alone, the response: 67 numbers
 abbrev pub surface-answered : Answers → Reply

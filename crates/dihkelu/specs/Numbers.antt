@@ -1,4 +1,5 @@
--- What the number that a call returns tells (include/dihkelu.h): its high 32 bits are 0 where the call answers, else the refusal's number. Definitions only; proofs/Numbers.antt has the proof.
+-- What the number that a call returns tells (include/dihkelu.h): its high 32 bits are 0 where the call answers, else the refusal's number.
+-- Definitions only; proofs/Numbers.antt has the proof.
 use mathlib.Core.Path.{_≡_}
 use mathlib.Core.Bool.{cond}
 use mathlib.Core.List.{List}
@@ -17,7 +18,8 @@ use Rattle.c_call.specs.Call.{Reply, returned, answered}
 use Rattle.c_call.specs.Layout.{evaluated, surface-answered}
 use Rattle.dihkelu.specs.Train.{start-layout, step-layout, run-done}
 
--- For an answer the high 32 bits are 0 and the low 32 bits the call's own number; for a refusal they are its number, which is not 0, and its place.
+-- For an answer the high 32 bits are 0 and the low 32 bits the call's own number; for a refusal they are its number, which is not 0, and
+-- its place.
 -- All are whole numbers, and what is returned is a u64 that equals them, so that nothing is cut off.
 abbrev pub Tells : Outcome ℕ → ℕ → Type 0
 Tells (answer value) n = (n / 2 ^ 32 ≡ 0) × (n % 2 ^ 32 ≡ value)
@@ -31,9 +33,13 @@ said layout (refusal number place) list = refusal number place
 -- the claim, call by call, for all bytes, numbers and lists
 pub record Numbers : Type 0 where
   pub of-gate : (src : List ℕ) → Bytes src → Tells (gate src) (returned (gate src))
-  pub of-start : (src : List ℕ) → Bytes src → (list : List Float) → Tells (said start-layout (gated src) list) (answered start-layout (gated src) list .returned)
-  pub of-step : (src : List ℕ) → Bytes src → (st : State) (list : List Float) → Tells (said step-layout (step src st) list) (answered step-layout (step src st) list .returned)
+  pub of-start : (src : List ℕ) → Bytes src → (list : List Float) →
+      Tells (said start-layout (gated src) list) (answered start-layout (gated src) list .returned)
+  pub of-step : (src : List ℕ) → Bytes src → (st : State) (list : List Float) →
+      Tells (said step-layout (step src st) list) (answered step-layout (step src st) list .returned)
   pub of-run : (src : List ℕ) → Bytes src → (list : List Float) → Tells (run src list .result) (run-done (run src list) .returned)
-  pub of-answers : (src : List ℕ) → Bytes src → (i : ℕ) (list : List Float) → Tells (said surface-answered (surface-answers src i) list) (answered surface-answered (surface-answers src i) list .returned)
+  pub of-answers : (src : List ℕ) → Bytes src → (i : ℕ) (list : List Float) →
+      Tells (said surface-answered (surface-answers src i) list) (answered surface-answered (surface-answers src i) list .returned)
   pub of-evaluate : (code : ℕ) (design n-incident n-substrate angle wavelength : Float) (flat list : List Float)
-      → Tells (said evaluated (evaluate code design n-incident n-substrate angle wavelength flat) list) (answered evaluated (evaluate code design n-incident n-substrate angle wavelength flat) list .returned)
+      → Tells (said evaluated (evaluate code design n-incident n-substrate angle wavelength flat) list)
+      (answered evaluated (evaluate code design n-incident n-substrate angle wavelength flat) list .returned)

@@ -1,4 +1,5 @@
--- The gate's claim over all bytes: it admits exactly the sheets of 01's grammar and limits, and each refusal is the one that the table 'Turned back' gives.
+-- The gate's claim over all bytes: it admits exactly the sheets of 01's grammar and limits, and each refusal is the one that the table
+-- 'Turned back' gives.
 -- Types only; `proofs/Claim.antt` inhabits `GateClaim`.
 use mathlib.Core.Path.{_≡_}
 use mathlib.Core.Logic.{_⊎_}
@@ -29,14 +30,17 @@ pub record FirstOutside (x : Sheet) (place : ℕ) : Type 0 where
   pub stands : place ≡ getD (places x) block 0
 
 pub record GateClaim : Type 0 where
-  -- admitted exactly when the bytes are those of a well-formed sheet within the limits; that sheet is then the answer, so it is the only one
+  -- admitted exactly when the bytes are those of a well-formed sheet within the limits; that sheet is then the answer, so it is the only
+  -- one
   pub admits : (src : List ℕ) → Bytes src → (x : Sheet) → (gated src ≡ answer x) ⇔ ((WellFormed x × WithinLimits x) × (encode x ≡ src))
   -- 4 exactly when the length is no multiple of 4, under 36 or over 30,500; its place is 0
   pub four : (src : List ℕ) → Bytes src → (place : ℕ) → (gated src ≡ refusal 4 place) ⇔ ((length-fits src ≡ false) × (place ≡ 0))
   -- 5 exactly when the length fits and no well-formed sheet encodes to the bytes
-  pub five : (src : List ℕ) → Bytes src → (place : ℕ) → (gated src ≡ refusal 5 place) ⇔ (T (length-fits src) × (((x : Sheet) → WellFormed x → encode x ≡ src → ⊥) × Fault src place))
+  pub five : (src : List ℕ) → Bytes src → (place : ℕ) →
+      (gated src ≡ refusal 5 place) ⇔ (T (length-fits src) × (((x : Sheet) → WellFormed x → encode x ≡ src → ⊥) × Fault src place))
   -- 6 exactly when a well-formed sheet does and is outside the limits
-  pub six : (src : List ℕ) → Bytes src → (place : ℕ) → (gated src ≡ refusal 6 place) ⇔ ((x : Sheet) × ((WellFormed x × (encode x ≡ src)) × FirstOutside x place))
+  pub six : (src : List ℕ) → Bytes src → (place : ℕ) →
+      (gated src ≡ refusal 6 place) ⇔ ((x : Sheet) × ((WellFormed x × (encode x ≡ src)) × FirstOutside x place))
   -- a verdict for each block, and where a sheet's places are is `GrammarClaim`'s `placed`
   pub each : (x : Sheet) → length (verdicts x) ≡ length (blocks x)
   -- and there is no other refusal

@@ -18,7 +18,8 @@ use Rattle.gate.specs.declared.Gated.{Gated}
 use Rattle.gate.specs.declared.Gated.the-variants as G
 
 -- ---- the limits, block by block
--- what they say of a block by its own words, for an n_incident·abs(sin) of b of the SURFACE before it; a preset's layers count as the SURFACE
+-- what they say of a block by its own words, for an n_incident·abs(sin) of b of the SURFACE before it; a preset's layers count as the
+-- SURFACE
 unfoldable pub verdict : Float → Block → Bool
 verdict b k =
     cond (eqb (kind (k .word)) 2) (beam-passes (value (number k 0)) (value (number k 1)) (value (number k 2)))

@@ -39,7 +39,8 @@ seven-eighths = ofBits binary64 0x3FEC_0000_0000_0000
 abbrev pub half : Float
 half = ofBits binary64 0x3FE0_0000_0000_0000
 
--- 1e-28: a denominator below it makes a quotient of thin_film.rs zero, and normalize of polarization.rs leaves a vector of up to that intensity
+-- 1e-28: a denominator below it makes a quotient of thin_film.rs zero, and normalize of polarization.rs leaves a vector of up to that
+-- intensity
 abbrev pub tiny : Float
 tiny = ofBits binary64 0x3A1F_B0F6_BE50_6019
 

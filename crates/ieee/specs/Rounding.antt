@@ -1,5 +1,6 @@
 -- The laws of rounding, as one statement over either format. Definitions only; proofs/Rounding.antt has the proof.
--- `round f s a c` is the value that the format f has for the fraction a / c with the sign s. Both fractions' sizes are multiplied out, so that only whole numbers are compared.
+-- `round f s a c` is the value that the format f has for the fraction a / c with the sign s. Both fractions' sizes are multiplied out, so
+-- that only whole numbers are compared.
 use mathlib.Core.Path.{_≡_}
 use Prim.Native.Nat.{ℕ, _+_, _-_, _*_, _^_, _≤_, _<_}
 use mathlib.Core.Bool.{Bool, false}
@@ -25,5 +26,6 @@ HalfUnit f a c r = Within (c * den r) (2 * (num r * c * 2 ^ low f)) (2 * (a * de
 pub record Rounding (f : Format) : Type 0 where
   pub monotone : (a b c d : ℕ) → 0 < b → 0 < d → a * d ≤ c * b → T (le (round f false a b) (round f false c d))
   pub exact : (x : Float) → T (fits f x) → T (finite x) → round f (sgn x) (num x) (den x) ≡ x
-  pub normal : (s : Bool) (a c : ℕ) → 0 < c → 2 ^ (prec f - 1) * c ≤ a * 2 ^ low f → T (finite (round f s a c)) → OnePart f a c (round f s a c)
+  pub normal : (s : Bool) (a c : ℕ) → 0 < c → 2 ^ (prec f - 1) * c ≤ a * 2 ^ low f → T (finite (round f s a c)) →
+      OnePart f a c (round f s a c)
   pub below : (s : Bool) (a c : ℕ) → 0 < c → a * 2 ^ low f < 2 ^ (prec f - 1) * c → HalfUnit f a c (round f s a c)

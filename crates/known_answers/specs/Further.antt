@@ -1,4 +1,5 @@
--- Further answers that were worked out from document 01 and the Rust, beside those that 01 stars: at the ends of guards, of ranges of bytes and of searches. One proposition, computed.
+-- Further answers that were worked out from document 01 and the Rust, beside those that 01 stars: at the ends of guards, of ranges of bytes
+-- and of searches. One proposition, computed.
 -- Each constant stands here by its own bits, not by the name of the guard that it tries.
 use mathlib.Core.Path.{_≡_}
 use mathlib.Core.List.{List, [], _∷_}
@@ -39,9 +40,12 @@ along-x x = record { ex = real x; ey = zero }
 
 pub record FurtherAnswers : Type 0 where
   -- fresnel_dielectric: a denominator of 5e-30 counts, and so does 1e-30 itself; the f64 below it makes a power zero
-  pub faint : fresnel-dielectric one (ofBits binary64 0x39B4_484B_FEEB_C2A0) (ofBits binary64 0x39D4_484B_FEEB_C2A0) ≡ record { rs = ofBits binary64 0x3FD7_0A3D_70A3_D70A; rp = ofBits binary64 0x3FD7_0A3D_70A3_D70A }
-  pub faintest : fresnel-dielectric one (ofBits binary64 0x3994_484B_FEEB_C2A0) (ofBits binary64 0x39AE_6C71_FE61_A3F0) ≡ record { rs = quarter; rp = quarter }
-  pub too-faint : fresnel-dielectric one (ofBits binary64 0x3994_484B_FEEB_C29C) (ofBits binary64 0x39AE_6C71_FE61_A3F0) ≡ record { rs = zero-f; rp = zero-f }
+  pub faint : fresnel-dielectric one (ofBits binary64 0x39B4_484B_FEEB_C2A0) (ofBits binary64 0x39D4_484B_FEEB_C2A0) ≡
+      record { rs = ofBits binary64 0x3FD7_0A3D_70A3_D70A; rp = ofBits binary64 0x3FD7_0A3D_70A3_D70A }
+  pub faintest : fresnel-dielectric one (ofBits binary64 0x3994_484B_FEEB_C2A0) (ofBits binary64 0x39AE_6C71_FE61_A3F0) ≡
+      record { rs = quarter; rp = quarter }
+  pub too-faint : fresnel-dielectric one (ofBits binary64 0x3994_484B_FEEB_C29C) (ofBits binary64 0x39AE_6C71_FE61_A3F0) ≡
+      record { rs = zero-f; rp = zero-f }
   -- complex division: a denominator of 1e-28 itself counts (1e14), the next below makes the quotient zero
   pub quotient-at-edge : div (real one) (real edge) ≡ real (ofBits binary64 0x42D6_BCC4_1E90_0000)
   pub quotient-under-edge : div (real one) (real under-edge) ≡ zero
@@ -49,10 +53,12 @@ pub record FurtherAnswers : Type 0 where
   pub normalized-at-edge : normalize (along-x edge) ≡ along-x edge
   pub normalized-over-edge : normalize (along-x over-edge) ≡ along-x one
   -- degrees: above 1e-15 there is one
-  pub degree-over-edge : degree-of-polarization (record { s0 = ofBits binary64 0x3CD2_03AF_9EE7_5617; s1 = ofBits binary64 0x3CD2_03AF_9EE7_5617; s2 = zero-f; s3 = zero-f }) ≡ one
+  pub degree-over-edge : degree-of-polarization
+      (record { s0 = ofBits binary64 0x3CD2_03AF_9EE7_5617; s1 = ofBits binary64 0x3CD2_03AF_9EE7_5617; s2 = zero-f; s3 = zero-f }) ≡ one
   -- what stands beside a refusal of surface_fresnel_jones, as for an index of zero: zeros
   pub no-index : surface-fresnel-jones zero-f one zero-f ≡ refusal 1 0
-  pub beside-a-refusal : Surface.returned (refusal 1 0) ≡ record { refusal = 1; matrices = record { reflection = jones zero zero zero zero; transmission = jones zero zero zero zero } }
+  pub beside-a-refusal : Surface.returned (refusal 1 0) ≡
+      record { refusal = 1; matrices = record { reflection = jones zero zero zero zero; transmission = jones zero zero zero zero } }
   -- upper case: a to z alone, so neither the byte before nor the one behind
   pub before-a : upper-byte 96 ≡ 96
   pub upper-a : upper-byte 97 ≡ 65
@@ -61,7 +67,8 @@ pub record FurtherAnswers : Type 0 where
   -- trim: 0x09 to 0x0D and 0x20, and no other byte
   pub blanks : trimmed (9 ∷ 10 ∷ 11 ∷ 12 ∷ 13 ∷ 32 ∷ 65 ∷ 32 ∷ 13 ∷ 12 ∷ 11 ∷ 10 ∷ 9 ∷ []) ≡ 65 ∷ []
   pub no-blanks : trimmed (8 ∷ 14 ∷ 31 ∷ 33 ∷ 160 ∷ 31 ∷ 14 ∷ 8 ∷ []) ≡ 8 ∷ 14 ∷ 31 ∷ 33 ∷ 160 ∷ 31 ∷ 14 ∷ 8 ∷ []
-  -- names: byte 127 is ASCII, 128 is not; the length comes first; "MGF2" is sought before "BBAR", that before a mirror's names, those before "AR"
+  -- names: byte 127 is ASCII, 128 is not; the length comes first; "MGF2" is sought before "BBAR", that before a mirror's names, those
+  -- before "AR"
   pub last-ascii : from-format-name (127 ∷ []) ≡ answer (some S.IdealAr)
   pub over-ascii : from-format-name (65 ∷ 128 ∷ []) ≡ refusal 2 1
   pub longest : from-format-name (replicate 32 65) ≡ answer (some S.IdealAr)

@@ -40,25 +40,27 @@ pub record KnownAnswers : Type 0 where
   -- 1 / 2^-47 = 0
   pub guarded-quotient : div (real one) (real (ofBits binary64 0x3D00_0000_0000_0000)) ≡ zero
   -- Custom, no layers, 1 to 3, angle 0, at every wavelength that is admitted: rs = rp = -0.5, ts = tp = 0.5, R = 0.25, T = 0.75, phases π
-  pub no-layers : (wavelength : Float) → finite-positive wavelength ≡ true → evaluate-surface (S.Custom C.Multilayer) [] one three zero-f wavelength ≡ answer (record {
-    rs = real minus-half;
-    rp = real minus-half;
-    ts = real half;
-    tp = real half;
-    «reflectance_s» = quarter;
-    «reflectance_p» = quarter;
-    «transmittance_s» = three-quarters;
-    «transmittance_p» = three-quarters;
-    «phase_rs_rad» = pi;
-    «phase_rp_rad» = pi;
-  })
+  pub no-layers : (wavelength : Float) → finite-positive wavelength ≡ true →
+      evaluate-surface (S.Custom C.Multilayer) [] one three zero-f wavelength ≡ answer (record {
+        rs = real minus-half;
+        rp = real minus-half;
+        ts = real half;
+        tp = real half;
+        «reflectance_s» = quarter;
+        «reflectance_p» = quarter;
+        «transmittance_s» = three-quarters;
+        «transmittance_p» = three-quarters;
+        «phase_rs_rad» = pi;
+        «phase_rp_rad» = pi;
+      })
   -- fresnel_dielectric(1,1,3) = (0.25,0.25); (0,1,1) = (1,1)
   pub straight : fresnel-dielectric one one three ≡ record { rs = quarter; rp = quarter }
   pub grazing : fresnel-dielectric zero-f one one ≡ record { rs = one; rp = one }
   -- schlick_approx(0,1,3) = 1
   pub schlick : schlick-approx zero-f one three ≡ one
   -- Jones (1, i): Stokes (2,0,0,2)
-  pub stokes : to-stokes (record { ex = real one; ey = record { re = zero-f; im = one } }) ≡ record { s0 = two; s1 = zero-f; s2 = zero-f; s3 = two }
+  pub stokes : to-stokes (record { ex = real one; ey = record { re = zero-f; im = one } }) ≡
+      record { s0 = two; s1 = zero-f; s2 = zero-f; s3 = two }
   -- s0 = 1e-15: degree 0, each of the three
   pub degree : (s1 s2 s3 : Float) → degree-of-polarization (record { s0 = dark; s1 = s1; s2 = s2; s3 = s3 }) ≡ zero-f
   pub linear-degree : (s1 s2 s3 : Float) → degree-of-linear-polarization (record { s0 = dark; s1 = s1; s2 = s2; s3 = s3 }) ≡ zero-f

@@ -1,4 +1,5 @@
--- 01 section 2: atan has the 'sign of x', atan2 the 'sign of y throughout', for all f64 but NaN. Definitions only; proofs/Signs.antt has the proof.
+-- 01 section 2: atan has the 'sign of x', atan2 the 'sign of y throughout', for all f64 but NaN. Definitions only; proofs/Signs.antt has
+-- the proof.
 use mathlib.Core.Path.{_≡_}
 use mathlib.Core.Bool.{Bool, not}
 use lib.Dec.{T}

@@ -1,6 +1,9 @@
--- What IEEE 754's squareRoot is, for all f64 (01 section 2, sqrt): the value nearest to the exact root. Definitions only; proofs/Nearest.antt and proofs/SquareRoot.antt show it of `sqrt`.
--- In units of 2 ^ -1074 let x be X, r be R and any other value v be V: whole numbers, their counts. The exact root of x is √(X * 2 ^ 1074) of these units.
--- It is nearer to r than to v where it lies on r's side of the midpoint (R + V) / 2. By squares that is an order of 4 * X * 2 ^ 1074 and (R + V) ^ 2.
+-- What IEEE 754's squareRoot is, for all f64 (01 section 2, sqrt): the value nearest to the exact root. Definitions only;
+-- proofs/Nearest.antt and proofs/SquareRoot.antt show it of `sqrt`.
+-- In units of 2 ^ -1074 let x be X, r be R and any other value v be V: whole numbers, their counts. The exact root of x is √(X * 2 ^ 1074)
+-- of these units.
+-- It is nearer to r than to v where it lies on r's side of the midpoint (R + V) / 2. By squares that is an order of 4 * X * 2 ^ 1074 and (R
+-- + V) ^ 2.
 use mathlib.Core.Path.{_≡_}
 use Prim.Native.Nat.{ℕ, _+_, _*_, _^_, _<_}
 use mathlib.Core.Bool.{false}

@@ -1,4 +1,5 @@
--- What proofs of ranges ask of a square root: it keeps ranges, and the root of a rounded square is the number. Definitions only; proofs/Range.antt has both for `sqrt`.
+-- What proofs of ranges ask of a square root: it keeps ranges, and the root of a rounded square is the number. Definitions only;
+-- proofs/Range.antt has both for `sqrt`.
 use mathlib.Core.Path.{_≡_}
 use Prim.Native.Nat.{ℕ, _*_, _^_}
 use mathlib.Core.Bool.{Bool, _&&_}

@@ -3,7 +3,8 @@ use mathlib.Core.Path.{_≡_}
 use Prim.Native.Nat.{ℕ, _+_, _-_, _*_, _/_, _%_, _^_, _≤_}
 use Rattle.math_root.specs.Root.{closestRoot}
 
--- The pattern b of a normal number has 52 digits below a leading 1, and above them a field for the exponent. Where the field is odd the digits, times 2 ^ 52, are the number times a power of 4,
+-- The pattern b of a normal number has 52 digits below a leading 1, and above them a field for the exponent. Where the field is odd the
+-- digits, times 2 ^ 52, are the number times a power of 4,
 -- and where it is even, twice that.
 abbrev pub radicand : ℕ → ℕ
 radicand b = (b % 2 ^ 52 + 2 ^ 52) * (2 - b / 2 ^ 52 % 2) * 2 ^ 52

@@ -1,4 +1,5 @@
--- 01, The rest: byte strings compared and searched, as the Rust compares or searches each. Definitions only; proofs/Meaning.antt shows what the tests mean.
+-- 01, The rest: byte strings compared and searched, as the Rust compares or searches each. Definitions only; proofs/Meaning.antt shows what
+-- the tests mean.
 use mathlib.Core.Path.{_≡_}
 use Prim.Native.Nat.{ℕ}
 use mathlib.Core.Bool.{Bool, true, false, _&&_, _||_}

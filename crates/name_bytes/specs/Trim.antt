@@ -38,7 +38,8 @@ unfoldable pub all-blank : List ℕ → Bool
 all-blank [] = true
 all-blank (b ∷ bs) = blank b && all-blank bs
 
--- What is trimmed: the name is what is cut, the part, and what is cut. What is cut is blank, the part neither begins nor ends blank, and stands at its place.
+-- What is trimmed: the name is what is cut, the part, and what is cut. What is cut is blank, the part neither begins nor ends blank, and
+-- stands at its place.
 pub record Trimmed (s part : List ℕ) (place : ℕ) : Type 0 where
   pub before : List ℕ
   pub after : List ℕ
@@ -54,7 +55,8 @@ pub record Trimmed (s part : List ℕ) (place : ℕ) : Type 0 where
 abbrev pub Trimming : Type 0
 Trimming = (s : List ℕ) → Trimmed s (trimmed s) (span s .place)
 
--- the trimmed part of a name that is lent at an address, a block and an offset: its address, which is further by the part's place, and its bytes
+-- the trimmed part of a name that is lent at an address, a block and an offset: its address, which is further by the part's place, and its
+-- bytes
 abbrev pub part : ℕ × ℕ → List ℕ → (ℕ × ℕ) × List ℕ
 part at s = ((at .0, span s .place + at .1), trimmed s)
 

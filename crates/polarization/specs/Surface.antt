@@ -52,8 +52,10 @@ cos-t sin-t = sqrt (max (one ⊖ sin-t ⊗ sin-t) zero-f)
 
 unfoldable pub refracted : Float → Float → Float → Float → SurfaceJones
 refracted n1 n2 cos-i cos-t = record {
-  reflection = diattenuator (real ((n1 ⊗ cos-i ⊖ n2 ⊗ cos-t) ⊘ (n1 ⊗ cos-i ⊕ n2 ⊗ cos-t))) (real ((n2 ⊗ cos-i ⊖ n1 ⊗ cos-t) ⊘ (n2 ⊗ cos-i ⊕ n1 ⊗ cos-t)));
-  transmission = diattenuator (real ((two ⊗ n1 ⊗ cos-i) ⊘ (n1 ⊗ cos-i ⊕ n2 ⊗ cos-t))) (real ((two ⊗ n1 ⊗ cos-i) ⊘ (n2 ⊗ cos-i ⊕ n1 ⊗ cos-t)));
+  reflection = diattenuator (real ((n1 ⊗ cos-i ⊖ n2 ⊗ cos-t) ⊘ (n1 ⊗ cos-i ⊕ n2 ⊗ cos-t)))
+      (real ((n2 ⊗ cos-i ⊖ n1 ⊗ cos-t) ⊘ (n2 ⊗ cos-i ⊕ n1 ⊗ cos-t)));
+  transmission = diattenuator (real ((two ⊗ n1 ⊗ cos-i) ⊘ (n1 ⊗ cos-i ⊕ n2 ⊗ cos-t)))
+      (real ((two ⊗ n1 ⊗ cos-i) ⊘ (n2 ⊗ cos-i ⊕ n1 ⊗ cos-t)));
 }
 
 -- sin_t = (n1 * sin_i) / n2: total internal reflection where its size is above 1, not at 1
@@ -68,7 +70,8 @@ surface-fresnel-jones n1 n2 angle = cond (indices-valid n1 n2 angle) (answer (ba
 -- ---- its answer, a struct: the matrices beside a refusal's number, which is 0 where there is none; zero matrices where refused
 unfoldable pub returned : Outcome SurfaceJones → FresnelJones
 returned (answer j) = record { refusal = 0; matrices = j }
-returned (refusal n place) = record { refusal = n; matrices = record { reflection = diattenuator zero zero; transmission = diattenuator zero zero } }
+returned (refusal n place) =
+    record { refusal = n; matrices = record { reflection = diattenuator zero zero; transmission = diattenuator zero zero } }
 
 -- document 01's number and values for it
 abbrev pub outcome : FresnelJones → Outcome SurfaceJones

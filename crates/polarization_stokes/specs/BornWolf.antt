@@ -1,5 +1,6 @@
 -- The Stokes parameters after Born and Wolf (01 section 6), and their expansion in parts, each in any arithmetic. Definitions only.
--- Whole numbers are an arithmetic, where nothing is rounded; f64 is another, where every operation is. specs/Claim.antt says that in both the second is the first written out.
+-- Whole numbers are an arithmetic, where nothing is rounded; f64 is another, where every operation is. specs/Claim.antt says that in both
+-- the second is the first written out.
 use mathlib.Core.Path.{_≡_}
 use lib.IntN.{ℤ, pos, negℤ, _+ℤ_, _-ℤ_, _*ℤ_}
 use lib.Ieee.{Float, neg}

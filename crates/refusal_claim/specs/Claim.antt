@@ -64,8 +64,10 @@ pub record RefusalClaim : Type 0 where
   pub of-nth-surface : Refuses (λ (x : Sheet × ℕ). nth-surface (x .0 .src) (x .1)) (4 ∷ 5 ∷ 6 ∷ 7 ∷ [])
   pub of-nth-layer : Refuses (λ (x : Sheet × (ℕ × ℕ)). nth-layer (x .0 .src) (x .1 .0) (x .1 .1)) (4 ∷ 5 ∷ 6 ∷ 7 ∷ [])
   pub of-coating : Refuses (λ (x : Coating × (List ThinFilmLayer × Numbers)). at (evaluate-coating (x .0) (x .1 .0)) (x .1 .1)) (1 ∷ 3 ∷ [])
-  pub of-surface : Refuses (λ (x : SurfaceCoating × (List ThinFilmLayer × Numbers)). at (evaluate-surface (x .0) (x .1 .0)) (x .1 .1)) (1 ∷ 3 ∷ [])
+  pub of-surface : Refuses (λ (x : SurfaceCoating × (List ThinFilmLayer × Numbers)). at (evaluate-surface (x .0) (x .1 .0)) (x .1 .1))
+      (1 ∷ 3 ∷ [])
   pub of-fresnel : Refuses (λ (x : Numbers). surface-fresnel-jones (x .n-incident) (x .n-substrate) (x .angle)) (1 ∷ [])
   pub of-name : Refuses from-format-name (2 ∷ [])
-  pub of-bragg-mirror : Refuses (λ (x : Numbers × ℕ). Built.outcome (at (λ n-high n-low angle design. Built.bragg-mirror n-high n-low (x .1) design) (x .0))) (3 ∷ [])
+  pub of-bragg-mirror : Refuses
+      (λ (x : Numbers × ℕ). Built.outcome (at (λ n-high n-low angle design. Built.bragg-mirror n-high n-low (x .1) design) (x .0))) (3 ∷ [])
   pub of-to-coating : Refuses (λ (x : SurfaceCoating × Layers). Built.outcome (to-coating (x .0) (x .1))) (3 ∷ [])

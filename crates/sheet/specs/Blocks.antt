@@ -1,4 +1,5 @@
--- Blocks: a kind word and the raw words that follow it. What a list of them says in words and where their kind words stand; a grammar of kind words; and
+-- Blocks: a kind word and the raw words that follow it. What a list of them says in words and where their kind words stand; a grammar of
+-- kind words; and
 -- the reader of any such grammar. Nothing here knows a kind or a length. Definitions only.
 use mathlib.Core.Path.{_≡_}
 use mathlib.Core.Bool.{Bool, _&&_, cond}
@@ -25,7 +26,8 @@ unfoldable pub starts : ℕ → List Block → List ℕ
 starts at [] = []
 starts at (b ∷ bs) = at ∷ starts (at + suc (length (b .raw))) bs
 
--- ---- a grammar: where one stands between two blocks, which kind words may come there, where one stands after it; whether the list may end there; and how
+-- ---- a grammar: where one stands between two blocks, which kind words may come there, where one stands after it; whether the list may end
+-- there; and how
 -- many raw words follow a kind word. THE ONE PLACE of every block length
 pub record Grammar : Type 1 where
   pub Standing : Type 0
@@ -57,7 +59,8 @@ abbrev pub mapped : {A B : Type 0} → (A → B) → Result A → Result B
 mapped f (read a) = read (f a)
 mapped f (fault place) = fault place
 
--- the blocks of some words, the first of which has the place `at`. A kind word that may not come there, or with raw words past the end: its own place; an end
+-- the blocks of some words, the first of which has the place `at`. A kind word that may not come there, or with raw words past the end: its
+-- own place; an end
 -- where the list may not end: the place after the last word. `fuel` is more than the words
 unfoldable pub blocks-from : (g : Grammar) → ℕ → g .Standing → ℕ → List ℕ → Result (List Block)
 blocks-from g zero s at ws = fault at

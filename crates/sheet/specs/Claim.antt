@@ -1,4 +1,5 @@
--- What reading has to do with encoding, over all bytes: what is read is the one well-formed sheet that encodes to the bytes, and a fault is where the
+-- What reading has to do with encoding, over all bytes: what is read is the one well-formed sheet that encodes to the bytes, and a fault is
+-- where the
 -- table 'Turned back' puts it. Types only; `proofs/` inhabits `GrammarClaim`.
 use mathlib.Core.Path.{_≡_}
 use mathlib.Core.Logic.{_⊎_}
@@ -38,7 +39,8 @@ pub record OutOfGrammar (src : List ℕ) (place : ℕ) : Type 0 where
   pub before : (x : Sheet) × Agrees x src place
   pub never : (x : Sheet) → Agrees x src (suc place) → ⊥
 
--- a well-formed sheet agrees with all the words and goes on. The place is that of its last kind word that is not past the end: the word count where the
+-- a well-formed sheet agrees with all the words and goes on. The place is that of its last kind word that is not past the end: the word
+-- count where the
 -- end stands just before a kind word (END missing), and else the kind word whose raw words run past the end
 pub record CutOff (src : List ℕ) (place : ℕ) : Type 0 where
   pub sheet : Sheet
@@ -59,6 +61,9 @@ pub record GrammarClaim : Type 0 where
   pub only : (x y : Sheet) → WellFormed x → WellFormed y → encode x ≡ encode y → x ≡ y
   pub fits : (x : Sheet) → WellFormed x → T (length-fits (encode x)) × Bytes (encode x)
   -- at fault exactly when no well-formed sheet encodes to the bytes, and where
-  pub faults : (src : List ℕ) → Bytes src → T (length-fits src) → (place : ℕ) → (decode src ≡ fault place) ⇔ (((x : Sheet) → WellFormed x → encode x ≡ src → ⊥) × Fault src place)
+  pub faults : (src : List ℕ) → Bytes src → T (length-fits src) → (place : ℕ) →
+      (decode src ≡ fault place) ⇔ (((x : Sheet) → WellFormed x → encode x ≡ src → ⊥) × Fault src place)
   -- the places are those of the kind words: as many as blocks, and at each stands its block's kind word
-  pub placed : (x : Sheet) → (length (places x) ≡ length (blocks x)) × ((i : ℕ) → i < length (blocks x) → getD (words x) (getD (places x) i 0) 0 ≡ getD (blocks x) i no-block .word)
+  pub placed : (x : Sheet) →
+      (length (places x) ≡ length (blocks x)) ×
+      ((i : ℕ) → i < length (blocks x) → getD (words x) (getD (places x) i 0) 0 ≡ getD (blocks x) i no-block .word)

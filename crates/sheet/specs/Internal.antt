@@ -1,4 +1,5 @@
--- Scaffolding, not to be believed: what the code's enum stands for, and what stands at a place of some bytes. The contracts of helpers name these; the claims
+-- Scaffolding, not to be believed: what the code's enum stands for, and what stands at a place of some bytes. The contracts of helpers name
+-- these; the claims
 -- name `decode` alone.
 use mathlib.Core.Bool.{Bool, true, false, _&&_, cond}
 use mathlib.Core.List.{List, [], _∷_}
@@ -47,7 +48,14 @@ abbrev pub layer-at : List ℕ → ℕ → SheetLayer
 layer-at src at = layer (float src (at + 1)) (float src (at + 3)) (float src (at + 5))
 
 abbrev pub surface-at : List ℕ → ℕ → List SheetLayer → SheetSurface
-surface-at src at layers = record { payload = payload (word src at); n-incident = float src (at + 1); n-substrate = float src (at + 3); angle = float src (at + 5); layers = layers }
+surface-at src at layers =
+    record {
+      payload = payload (word src at);
+      n-incident = float src (at + 1);
+      n-substrate = float src (at + 3);
+      angle = float src (at + 5);
+      layers = layers;
+    }
 
 -- n LAYERs, one after the other from a place on
 unfoldable pub layers-at : List ℕ → ℕ → ℕ → List SheetLayer

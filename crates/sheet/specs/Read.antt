@@ -1,4 +1,5 @@
--- 01 section 1 as a reader: the kind words that may follow each other, and the sheet that some bytes hold, or the first word that is out of grammar.
+-- 01 section 1 as a reader: the kind words that may follow each other, and the sheet that some bytes hold, or the first word that is out of
+-- grammar.
 -- Definitions only. `Claim` says what it has to do with `WellFormed` and `encode`.
 use mathlib.Core.Bool.{Bool, true, false, _&&_, _||_, cond}
 use mathlib.Core.List.{List, [], _∷_}
@@ -56,7 +57,8 @@ may ended w = false
 unfoldable pub after : Standing → ℕ → Standing
 after at-open w = at-beam
 after at-beam w = among 0 0
-after (among done most) w = cond (eqb (kind w) 3) (among (suc done) (layers-after (payload w))) (cond (eqb (kind w) 5) ended (among done (most - 1)))
+after (among done most) w =
+    cond (eqb (kind w) 3) (among (suc done) (layers-after (payload w))) (cond (eqb (kind w) 5) ended (among done (most - 1)))
 after ended w = ended
 
 unfoldable pub may-end : Standing → Bool
@@ -87,7 +89,8 @@ abbrev pub layer-of : Block → SheetLayer
 layer-of b = layer (number b 0) (number b 1) (number b 2)
 
 abbrev pub surface-of : Block → List SheetLayer → SheetSurface
-surface-of b layers = record { payload = payload (b .word); n-incident = number b 0; n-substrate = number b 1; angle = number b 2; layers = layers }
+surface-of b layers =
+    record { payload = payload (b .word); n-incident = number b 0; n-substrate = number b 1; angle = number b 2; layers = layers }
 
 unfoldable pub put : Block → Rest → Rest
 put b r =

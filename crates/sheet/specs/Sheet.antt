@@ -96,7 +96,8 @@ end-block n = block 5 n []
 
 -- OPEN of edition 1, BEAM, the SURFACEs, END, nothing after
 unfoldable pub blocks : Sheet → List Block
-blocks x = block 1 1 [] ∷ block 2 0 (x .wavelength ∷ x .s ∷ x .p ∷ []) ∷ surfaces-blocks (x .surfaces) (end-block (length (x .surfaces)) ∷ [])
+blocks x = block 1 1 [] ∷ block 2 0 (x .wavelength ∷ x .s ∷ x .p ∷ []) ∷
+    surfaces-blocks (x .surfaces) (end-block (length (x .surfaces)) ∷ [])
 
 -- ---- all three from the blocks: the words, the bytes, the places of the kind words counted in words from 0
 abbrev pub words : Sheet → List ℕ

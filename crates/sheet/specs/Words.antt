@@ -16,7 +16,8 @@ big-endian a b c d = a * 2 ^ 24 + b * 2 ^ 16 + c * 2 ^ 8 + d
 
 -- the i-th word, counted from 0; 0 past the last
 unfoldable pub word : List ℕ → ℕ → ℕ
-word src i = cond (ltb i (count src)) (big-endian (getD src (4 * i) 0) (getD src (4 * i + 1) 0) (getD src (4 * i + 2) 0) (getD src (4 * i + 3) 0)) 0
+word src i = cond (ltb i (count src))
+    (big-endian (getD src (4 * i) 0) (getD src (4 * i + 1) 0) (getD src (4 * i + 2) 0) (getD src (4 * i + 3) 0)) 0
 
 -- all of them
 unfoldable pub words-of : List ℕ → List ℕ

@@ -24,7 +24,8 @@ unfoldable pub films : List SheetLayer → List ThinFilmLayer
 films [] = []
 films (l ∷ ls) = film l ∷ films ls
 
--- SURFACE: the lowest payload bit is 0 to follow the transmitted light, 1 the reflected; payload / 2 is the coating; n_incident, n_substrate, angle rad
+-- SURFACE: the lowest payload bit is 0 to follow the transmitted light, 1 the reflected; payload / 2 is the coating; n_incident,
+-- n_substrate, angle rad
 abbrev pub surface-value : SheetSurface → Coated.Surface
 surface-value y = record {
   reflected = eqb (y .payload % 2) 1;

@@ -21,7 +21,10 @@ four src i = record { a = float src i; b = float src (i + 1); c = float src (i +
 
 -- row by row, as re, im
 abbrev pub matrix : Four → Four → JonesMatrix
-matrix x y = record { m = record { re = x .a; im = x .b } ∷ record { re = x .c; im = x .d } ∷ record { re = y .a; im = y .b } ∷ record { re = y .c; im = y .d } ∷ [] }
+matrix x y = record {
+  m = record { re = x .a; im = x .b } ∷ record { re = x .c; im = x .d } ∷ record { re = y .a; im = y .b } ∷
+      record { re = y .c; im = y .d } ∷ [];
+}
 
 abbrev pub jones : List ℕ → ℕ → JonesMatrix
 jones src i = matrix (four src i) (four src (i + 4))
@@ -53,4 +56,5 @@ of-response r =
     parts (r .rs)
     (parts (r .rp)
     (parts (r .ts)
-    (parts (r .tp) (r .«reflectance_s» ∷ r .«reflectance_p» ∷ r .«transmittance_s» ∷ r .«transmittance_p» ∷ r .«phase_rs_rad» ∷ r .«phase_rp_rad» ∷ []))))
+    (parts (r .tp) (r .«reflectance_s» ∷ r .«reflectance_p» ∷ r .«transmittance_s» ∷ r .«transmittance_p» ∷ r .«phase_rs_rad» ∷
+    r .«phase_rp_rad» ∷ []))))

@@ -21,7 +21,8 @@ use Rattle.gate.specs.Claim.{WithinLimits, GateClaim}
 use Rattle.train_steps.specs.declared.State.{State}
 use Rattle.train_steps.specs.Train.{chosen-powers, fresh, start, after-one, step, state-after, run, sum}
 
--- ---- section 7's values, from a sheet's data alone: the BEAM's powers, multiplied in sheet order by the chosen powers of so many surfaces from the first on
+-- ---- section 7's values, from a sheet's data alone: the BEAM's powers, multiplied in sheet order by the chosen powers of so many surfaces
+-- from the first on
 unfoldable pub product : Float → List Float → Float
 product x [] = x
 product x (y ∷ ys) = product (x ⊗ y) ys
@@ -76,7 +77,8 @@ AllFall src (a ∷ more) st = Falls st (act src a st) × AllFall src more (act s
 pub record AdmittedSheet (src : List ℕ) (x : Sheet) : Type 0 where
   -- 'For every admitted sheet, take every list of steps from its fresh train'
   pub starts : start src ≡ answer (fresh x)
-  -- 'refused steps included; each is handed that sheet and the train that the last one returned. After the list the train holds the surfaces done, s and p that
+  -- 'refused steps included; each is handed that sheet and the train that the last one returned. After the list the train holds the
+  -- surfaces done, s and p that
   -- 01's section 7 works out from the sheet.'
   pub lists : (actions : List Action) → acts src actions (fresh x) ≡ worked-out x (count-steps actions)
   -- 'Each step leaves s and p at least zero and no larger than they were, and their sum no larger than it was.'
@@ -87,7 +89,8 @@ pub record AdmittedSheet (src : List ℕ) (x : Sheet) : Type 0 where
       → getD (run src list .list) (2 * i) d ≡ worked-out x (suc i) .s
   pub writes-p : (list : List Float) → 2 * length (x .surfaces) ≤ length list → (d : Float) (i : ℕ) → i < length (x .surfaces)
       → getD (run src list .list) (2 * i + 1) d ≡ worked-out x (suc i) .p
-  -- 'Every power, amplitude, phase, Jones and Mueller entry of that sheet's surfaces' answers under demand 2, as section 7 names them, is finite.'
+  -- 'Every power, amplitude, phase, Jones and Mueller entry of that sheet's surfaces' answers under demand 2, as section 7 names them, is
+  -- finite.'
   pub answers : All (λ (y : SheetSurface). Answered (value (x .wavelength)) (surface-value y) (films (y .layers))) (x .surfaces)
   -- and so are s, p and their sum after any number of steps
   pub finite : (n : ℕ) → (Finite (worked-out x n .s) × Finite (worked-out x n .p)) × Finite (sum (worked-out x n .s) (worked-out x n .p))
@@ -95,13 +98,16 @@ pub record AdmittedSheet (src : List ℕ) (x : Sheet) : Type 0 where
 -- ---- what else each call does with an admitted sheet, of any state and any list
 pub record EveryCall (src : List ℕ) (x : Sheet) : Type 0 where
   -- a step of any state is taken where surfaces done is under the sheet's count, and refused with 7 otherwise
-  pub taken : (st : State) → st .done < length (x .surfaces) → step src st ≡ answer (after-one (value (x .wavelength)) st (nth (x .surfaces) (st .done)))
+  pub taken : (st : State) → st .done < length (x .surfaces) →
+      step src st ≡ answer (after-one (value (x .wavelength)) st (nth (x .surfaces) (st .done)))
   pub seven : (st : State) → length (x .surfaces) ≤ st .done → step src st ≡ refusal 7 0
   -- a whole run leaves the rest of its list; it is refused with 8 where the list is shorter than 2 × surfaces, and the list is as before
-  pub leaves : (list : List Float) → 2 * length (x .surfaces) ≤ length list → (d : Float) (i : ℕ) → 2 * length (x .surfaces) ≤ i → getD (run src list .list) i d ≡ getD list i d
+  pub leaves : (list : List Float) → 2 * length (x .surfaces) ≤ length list → (d : Float) (i : ℕ) → 2 * length (x .surfaces) ≤ i →
+      getD (run src list .list) i d ≡ getD list i d
   pub eight : (list : List Float) → length list < 2 * length (x .surfaces) → run src list ≡ record { result = refusal 8 0; list = list }
   -- the answers of a surface that the sheet has are that surface's; 7 where it has none
-  pub answered : (i : ℕ) → i < length (x .surfaces) → let y = nth (x .surfaces) i in surface-answers src i ≡ answers (value (x .wavelength)) (surface-value y) (films (y .layers))
+  pub answered : (i : ℕ) → i < length (x .surfaces) → let y = nth (x .surfaces) i in
+      surface-answers src i ≡ answers (value (x .wavelength)) (surface-value y) (films (y .layers))
   pub no-surface : (i : ℕ) → length (x .surfaces) ≤ i → surface-answers src i ≡ refusal 7 0
 
 -- ---- the claim for bytes that the gate refuses: every call has the same refusal and leaves what it was lent
@@ -116,8 +122,10 @@ pub record EveryPayload : Type 0 where
   pub sheet : Sheet
   pub formed : WellFormed sheet
   pub within : WithinLimits sheet
-  pub payloads : map (λ (y : SheetSurface). y .payload) (sheet .surfaces) ≡ 0 ∷ 1 ∷ 2 ∷ 3 ∷ 4 ∷ 5 ∷ 6 ∷ 7 ∷ 8 ∷ 9 ∷ 10 ∷ 11 ∷ 12 ∷ 13 ∷ 14 ∷ 15 ∷ []
-  pub layers : map (λ (y : SheetSurface). length (y .layers)) (sheet .surfaces) ≡ 0 ∷ 0 ∷ 0 ∷ 0 ∷ 0 ∷ 0 ∷ 0 ∷ 0 ∷ 0 ∷ 0 ∷ 1 ∷ 16 ∷ 0 ∷ 0 ∷ 0 ∷ 0 ∷ []
+  pub payloads : map (λ (y : SheetSurface). y .payload) (sheet .surfaces) ≡
+      0 ∷ 1 ∷ 2 ∷ 3 ∷ 4 ∷ 5 ∷ 6 ∷ 7 ∷ 8 ∷ 9 ∷ 10 ∷ 11 ∷ 12 ∷ 13 ∷ 14 ∷ 15 ∷ []
+  pub layers : map (λ (y : SheetSurface). length (y .layers)) (sheet .surfaces) ≡
+      0 ∷ 0 ∷ 0 ∷ 0 ∷ 0 ∷ 0 ∷ 0 ∷ 0 ∷ 0 ∷ 0 ∷ 1 ∷ 16 ∷ 0 ∷ 0 ∷ 0 ∷ 0 ∷ []
 
 -- ---- demand 3
 pub record TrainClaim : Type 0 where

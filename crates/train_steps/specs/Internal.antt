@@ -1,4 +1,5 @@
--- Scaffolding, not to be believed: the powers of a surface by the shorter way that the code goes, and of the SURFACE at a place of some bytes.
+-- Scaffolding, not to be believed: the powers of a surface by the shorter way that the code goes, and of the SURFACE at a place of some
+-- bytes.
 use mathlib.Core.List.{List, []}
 use Prim.Native.Nat.{ℕ, _+_}
 use lib.Ieee.{Float}
@@ -21,4 +22,5 @@ unfoldable pub chosen-at : List ℕ → ℕ → ℕ → Float → Chosen
 chosen-at src at n wavelength = chosen-alone wavelength (surface-value (surface-at src at [])) (films (layers-at src (next-place src at) n))
 
 unfoldable pub moved-at : List ℕ → ℕ → Float → State → State
-moved-at src at wavelength st = let c = chosen-at src at (layer-run 16 src at) wavelength in record { done = st .done + 1; s = st .s ⊗ c .s; p = st .p ⊗ c .p }
+moved-at src at wavelength st = let c = chosen-at src at (layer-run 16 src at) wavelength in
+    record { done = st .done + 1; s = st .s ⊗ c .s; p = st .p ⊗ c .p }

@@ -21,7 +21,11 @@ use Rattle.train_steps.specs.declared.TrainReply.the-variants as S
 -- ---- a surface
 -- the R_s or T_s and the R_p or T_p of its answers, as chosen by the lowest payload bit
 abbrev pub chosen : Bool → Powers → Chosen
-chosen reflected r = record { s = cond reflected (r .«reflectance_s») (r .«transmittance_s»); p = cond reflected (r .«reflectance_p») (r .«transmittance_p») }
+chosen reflected r =
+    record {
+      s = cond reflected (r .«reflectance_s») (r .«transmittance_s»);
+      p = cond reflected (r .«reflectance_p») (r .«transmittance_p»);
+    }
 
 -- NaN where a surface has no answers, which no surface within the limits is without (crate `train_claim`)
 abbrev pub chosen-of : Bool → Outcome Powers → Chosen
@@ -29,7 +33,8 @@ chosen-of reflected (answer r) = chosen reflected r
 chosen-of reflected (refusal number place) = record { s = nan; p = nan }
 
 unfoldable pub chosen-powers : Float → SheetSurface → Chosen
-chosen-powers wavelength y = chosen-of (surface-value y .reflected) (map (λ (a : Answers). a .powers) (answers wavelength (surface-value y) (films (y .layers))))
+chosen-powers wavelength y =
+    chosen-of (surface-value y .reflected) (map (λ (a : Answers). a .powers) (answers wavelength (surface-value y) (films (y .layers))))
 
 -- ---- Start: 0 and the BEAM's powers; a train in that state is fresh
 abbrev pub fresh : Sheet → State
@@ -53,7 +58,8 @@ after-one wavelength st y = let c = chosen-powers wavelength y in record { done 
 
 -- 7 when surfaces done is the sheet's count or more
 abbrev pub stepped : State → Sheet → Outcome State
-stepped st x = cond (ltb (st .done) (length (x .surfaces))) (answer (after-one (value (x .wavelength)) st (nth (x .surfaces) (st .done)))) (refusal 7 0)
+stepped st x = cond (ltb (st .done) (length (x .surfaces))) (answer (after-one (value (x .wavelength)) st (nth (x .surfaces) (st .done))))
+    (refusal 7 0)
 
 -- it gates the sheet anew
 unfoldable pub step : List ℕ → State → Outcome State

@@ -1,5 +1,6 @@
 -- 01, 'Known answers': what the program `train` prints of a sheet, as bytes. Definitions only.
--- "Surface number, T or R, bits of s, bits of p; last the sum's. A refusal prints only `refused N place`." Surfaces are counted from 1, and each line ends in a newline.
+-- "Surface number, T or R, bits of s, bits of p; last the sum's. A refusal prints only `refused N place`." Surfaces are counted from 1, and
+-- each line ends in a newline.
 use Prim.Native.Nat.{ℕ, zero, suc, _+_, _*_, _/_, _%_}
 use mathlib.Core.Bool.{Bool, cond}
 use mathlib.Core.List.{List, [], _∷_, _++_}
@@ -70,7 +71,8 @@ unfoldable pub text : Outcome Sheet → List ℕ
 text (answer x) = lines (value (x .wavelength)) (fresh x) (x .surfaces)
 text (refusal number place) = refused-line number place
 
--- a run of the sheet has a list of 128 places. That is enough for the 64 surfaces that a sheet has at the most (specs/Claim.antt), so that no 8 is printed
+-- a run of the sheet has a list of 128 places. That is enough for the 64 surfaces that a sheet has at the most (specs/Claim.antt), so that
+-- no 8 is printed
 abbrev pub with-room : Outcome Sheet → Outcome Sheet
 with-room (answer x) = cond (leb (2 * length (x .surfaces)) 128) (answer x) (refusal 8 0)
 with-room (refusal number place) = refusal number place
