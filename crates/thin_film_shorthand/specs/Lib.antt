@@ -1,0 +1,3 @@
+-- The stack shorthand.
+pub mod Stack
+pub mod Claim
