@@ -17,7 +17,7 @@ pub struct Films {
     pub opened: [usize; 4],
 }
 
-pub fn no_films() -> Films
+pub(crate) fn no_films() -> Films
     ensures { λ r. ⌜ r ≡ no-films ⌝ }
 {
     let items = [Film {
@@ -215,7 +215,7 @@ fn letter(f: Films, m: Machine, letter: u8) -> Films
 }
 
 // After a byte that does not stop the machine.
-pub fn take(f: Films, m: Machine, b: u8) -> Films
+pub(crate) fn take(f: Films, m: Machine, b: u8) -> Films
     requires { ⌜ Safe f × Goes m (kind b) ⌝ }
     ensures { λ r. ⌜ r ≡ taken f (phase-of (m .phase) (m .number)) (m .depth) (kind b) ⌝ }
 {

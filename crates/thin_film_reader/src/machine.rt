@@ -28,7 +28,7 @@ pub struct Machine {
     pub depth: usize,
 }
 
-pub fn begin() -> Machine
+pub(crate) fn begin() -> Machine
     ensures { λ r. ⌜ r ≡ begin ⌝ }
 {
     Machine {
@@ -290,7 +290,7 @@ fn digit(m: Machine, a: u8) -> Machine
 }
 
 // After a byte.
-pub fn step(m: Machine, b: u8) -> Machine
+pub(crate) fn step(m: Machine, b: u8) -> Machine
     requires { ⌜ Low m ⌝ }
     ensures { λ r. ⌜ Stepped m (kind b) r ⌝ }
 {
@@ -325,7 +325,7 @@ pub fn step(m: Machine, b: u8) -> Machine
 }
 
 // No text of the grammar goes on so.
-pub fn halted(m: Machine) -> bool
+pub(crate) fn halted(m: Machine) -> bool
     ensures { λ r. ⌜ r ≡ halted-in (m .phase) ⌝ }
 {
     let p = m.phase;
@@ -343,7 +343,7 @@ pub fn halted(m: Machine) -> bool
 }
 
 // A text of the grammar may end so.
-pub fn whole(m: Machine) -> bool
+pub(crate) fn whole(m: Machine) -> bool
     ensures { λ r. ⌜ r ≡ whole-in m ⌝ }
 {
     let p = m.phase;

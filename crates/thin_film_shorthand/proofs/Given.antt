@@ -20,7 +20,7 @@ use Rattle.thin_film_reader.specs.declared.Reading.{Reading}
 use Rattle.thin_film_reader.specs.Read as Reader
 use Rattle.thin_film_reader.specs.InternalFilms.{no-film}
 use Rattle.thin_film_solver.specs.declared.ThinFilmLayer.{ThinFilmLayer}
-use Rattle.thin_film_layers.specs.Walk.{no-layer}
+use Rattle.thin_film_layers.specs.Evaluation.{no-layer}
 use Rattle.thin_film_coating.specs.Coating.{layers-in}
 use Rattle.thin_film_shorthand.specs.declared.Stacked.{Stacked}
 use Rattle.thin_film_shorthand.specs.Stack.{valid, layer, stack, handed, outcome}

@@ -17,7 +17,7 @@ use Rattle.refusal.specs.Outcome.{Outcome, answer, refusal}
 use Rattle.thin_film_grammar.specs.declared.Film.{Film}
 use Rattle.thin_film_solver.specs.declared.ThinFilmLayer.{ThinFilmLayer}
 use Rattle.thin_film_solver.specs.Solve.{dielectric}
-use Rattle.thin_film_layers.specs.Walk.{no-layer}
+use Rattle.thin_film_layers.specs.Evaluation.{no-layer}
 use Rattle.thin_film_presets.specs.Layers.{quarter-wave}
 use Rattle.thin_film_coating.specs.declared.Layers.{Layers}
 use Rattle.thin_film_coating.specs.Coating.{layers-in}
