@@ -1,6 +1,6 @@
 // Arguments of the recorded functions: what each may be, and random choices.
 
-use crate::functions::{exports, names, train};
+use crate::functions::{exports, names, shorthand, train};
 use crate::section2::{PI, T};
 use crate::values::{any, multiple, neighbour, optical, short, square, subnormal, Rng, CORE};
 
@@ -43,6 +43,8 @@ pub enum Arg {
     Layers64,
     /// A name of ASCII bytes, seldom others.
     Name,
+    /// A text of the stack shorthand, or one near it.
+    Stack,
     /// Bytes of any kind.
     Bytes,
     /// A sheet.
@@ -184,6 +186,7 @@ impl Arg {
             Arg::Layers64 => layers(rng, style, 64, words),
             Arg::Name => names::push(&names::name(rng), words),
             Arg::Bytes => names::push(&names::bytes(rng), words),
+            Arg::Stack => names::push(&shorthand::text(rng), words),
             Arg::Sheet | Arg::Start => train::push_sheet(rng, words),
             Arg::Step => train::push_step(rng, words),
             Arg::Run => train::push_run(rng, words),

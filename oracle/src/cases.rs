@@ -1,7 +1,7 @@
 // The fixed cases of the recorded functions: special values in every argument, and usual ones together.
 
 use crate::arguments::{Arg, Style};
-use crate::functions::{exports, names, train};
+use crate::functions::{exports, names, shorthand, train};
 use crate::section2::PI;
 use crate::values::{neighbour, specials, Rng, CORE};
 
@@ -42,6 +42,7 @@ impl Arg {
             Arg::Layers64 => layer_cases(&[0, 1, 2, 15, 16, 63, 64]),
             Arg::Name => names::cases(&names::names()),
             Arg::Bytes => names::cases(&names::byte_strings()),
+            Arg::Stack => names::cases(&shorthand::texts()),
             Arg::Sheet => train::sheet_cases(),
             Arg::Start => train::start_cases(),
             Arg::Step => train::step_cases(),

@@ -10,11 +10,12 @@ pub mod exports;
 pub mod names;
 pub mod polarization;
 pub mod scalar;
+pub mod shorthand;
 pub mod thin_film;
 pub mod train;
 
 /// The groups, in the order of their numbers.
-pub const GROUPS: [&str; 10] = [
+pub const GROUPS: [&str; 11] = [
     "ieee",
     "elementary",
     "complex",
@@ -22,6 +23,7 @@ pub const GROUPS: [&str; 10] = [
     "fresnel",
     "polarization",
     "names",
+    "shorthand",
     "sheet",
     "train",
     "exports",
@@ -31,6 +33,9 @@ pub const GROUPS: [&str; 10] = [
 pub const SAMPLE_RECORDS: usize = 20_000;
 pub const SAMPLE_RANDOM: usize = 10_000;
 pub const SAMPLE_BYTES: usize = 4 << 20;
+
+/// The most bytes of a sample of all groups together.
+pub const WHOLE_SAMPLE_BYTES: usize = 5 << 20;
 
 pub struct Function {
     pub number: u16,
@@ -70,6 +75,7 @@ pub fn table() -> Vec<Function> {
     all.extend(thin_film::table());
     all.extend(polarization::table());
     all.extend(names::table());
+    all.extend(shorthand::table());
     all.extend(train::table());
     all.extend(exports::table());
     all
@@ -128,11 +134,16 @@ pub fn sample(groups: &[String], seed: u64) -> Vec<u8> {
             fixed += 1;
         }
     }
+    let most = if groups.is_empty() {
+        WHOLE_SAMPLE_BYTES
+    } else {
+        SAMPLE_BYTES
+    };
     let mut stream = Stream::new(functions, seed);
     for _ in 0..SAMPLE_RANDOM.max(SAMPLE_RECORDS.saturating_sub(fixed)) {
         let before = out.len();
         stream.next_record().write(&mut out);
-        if out.len() > SAMPLE_BYTES {
+        if out.len() > most {
             out.truncate(before);
             break;
         }

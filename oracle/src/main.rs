@@ -9,6 +9,7 @@ use std::process::ExitCode;
 const USAGE: &str = "\
 oracle record [--only GROUP].. [--count N] [--seed S] > FILE
 oracle feed --seed S --count N [--only GROUP].. [--spoil I] -- PROGRAM ARGS..
+oracle short > FILE
 oracle check < FILE
 oracle table
 oracle train < SHEET
@@ -18,7 +19,7 @@ oracle findings
 oracle bench [--runs N]
 oracle compare [--seed S] [--count N] [--spoil I]
 oracle measure [--seed S] [--count N]
-groups: ieee elementary complex thin_film fresnel polarization names sheet train";
+groups: ieee elementary complex thin_film fresnel polarization names sheet train exports shorthand";
 
 /// The options of all commands.
 #[derive(Default)]
@@ -96,6 +97,18 @@ fn execute(command: &str, options: &Options) -> Result<bool, String> {
                 return Err("feed needs a program".to_string());
             }
             feed::feed(&options.rest, &order(options, seed, count)).map_err(said)
+        }
+        "short" => {
+            let function = &functions::shorthand::table()[0];
+            let numbers = [2.3f64, 1.46, 1.8, 550.0].map(f64::to_bits);
+            let mut out = Vec::new();
+            for text in functions::shorthand::short_texts(5) {
+                let mut words = numbers.to_vec();
+                functions::names::push(&text, &mut words);
+                function.record(words).write(&mut out);
+            }
+            io::stdout().write_all(&out).map_err(said)?;
+            Ok(true)
         }
         "check" => {
             let mut input = BufReader::new(io::stdin().lock());

@@ -1,7 +1,9 @@
 // Records: the format, the table, the sample, README's list of functions.
 
 use crate::feed::{check, send, Order};
-use crate::functions::{of_groups, sample, table, GROUPS, SAMPLE_BYTES, SAMPLE_RECORDS};
+use crate::functions::{
+    of_groups, sample, table, GROUPS, SAMPLE_BYTES, SAMPLE_RECORDS, WHOLE_SAMPLE_BYTES,
+};
 use crate::record::{Arguments, Record, Words};
 
 const README: &str = include_str!("../../README.md");
@@ -57,7 +59,7 @@ fn readme_lists_every_function() {
 #[test]
 fn the_sample_is_large_and_small_enough() {
     let bytes = sample(&[], 1);
-    assert!(bytes.len() < SAMPLE_BYTES);
+    assert!(bytes.len() < WHOLE_SAMPLE_BYTES);
     let list = records(&bytes);
     assert!(list.len() >= SAMPLE_RECORDS);
     for f in table() {
