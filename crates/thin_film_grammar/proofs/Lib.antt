@@ -3,3 +3,4 @@ pub mod Complete
 pub mod Sound
 pub mod Films
 pub mod Claim
+pub mod Known

@@ -4,3 +4,4 @@ pub mod Films
 pub mod Claim
 pub mod Reading
 pub mod InternalMachine
+pub mod Known
