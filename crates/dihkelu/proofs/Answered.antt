@@ -24,8 +24,8 @@ use Rattle.gate.specs.Gate.{gated}
 use Rattle.sheet_surfaces.specs.declared.SurfaceReply.{SurfaceReply}
 use Rattle.sheet_surfaces.specs.Surfaces.{answers-to, surface-answers, given}
 use Rattle.c_layers.proofs.Plain.{Plain, either, mapped, of-surface}
-use Rattle.dihkelu.proofs.Returned.{Sound, plain-sound}
-use Rattle.dihkelu.proofs.Places.{gate-sound}
+use Rattle.c_call.proofs.Returned.{Sound}
+use Rattle.dihkelu.proofs.Places.{plain-sound, gate-sound}
 
 module _ (wavelength : Float) (s : Value.Surface) (layers : List ThinFilmLayer) where
   fresnel : Plain (surface-fresnel-jones (s .«n_incident») (s .«n_substrate») (s .«angle_rad»))

@@ -23,10 +23,15 @@ use Rattle.c_layers.specs.Evaluate.{evaluate}
 use Rattle.c_layers.proofs.Plain.{of-code}
 use Rattle.c_call.specs.Call.{done, packed, returned, Reply, answered}
 use Rattle.c_call.specs.Layout.{response-numbers, common, evaluated, surface-answered}
+use Rattle.thin_film_solver.specs.declared.ThinFilmLayer.{ThinFilmLayer}
+use Rattle.thin_film_shorthand.specs.Stack.{stack}
+use Rattle.c_stack.specs.Stack.{stacked}
+use Rattle.c_stack.proofs.Flat.{flat-length}
+use Rattle.c_stack.proofs.Stacked.{Few, few-layers, few-sound}
 use Rattle.dihkelu.specs.Train.{start-layout, step-layout, run-done}
 use Rattle.dihkelu.specs.Numbers.{Tells, said, Numbers}
-use Rattle.dihkelu.proofs.Returned.{Sound, plain-sound}
-use Rattle.dihkelu.proofs.Places.{gate-sound}
+use Rattle.c_call.proofs.Returned.{Sound}
+use Rattle.dihkelu.proofs.Places.{plain-sound, gate-sound}
 use Rattle.dihkelu.proofs.Answered.{answers-sound}
 
 -- ---- one number
@@ -132,6 +137,10 @@ answers-small a = go (a .coated)
     go true = lit< tt
     go false = lit< tt
 
+stack-small : (o : Outcome (List ThinFilmLayer)) → Few o → (layers : List ThinFilmLayer) → o ≡ answer layers → stacked layers .returned < 2 ^ 32
+stack-small (answer x) few layers e = let s : x ≡ layers = cc in rw (sym s) (rw (flat-length x) (omega arith))
+stack-small (refusal number place) few layers e = absurd (never number place layers e)
+
 pub numbers : Numbers
 numbers = record {
   of-gate = of-gate;
@@ -142,4 +151,8 @@ numbers = record {
   of-evaluate = λ code design n-incident n-substrate angle wavelength flat list.
       let o = evaluate code design n-incident n-substrate angle wavelength flat in
       tells evaluated o (plain-sound o (of-code n-incident n-substrate angle wavelength code design flat)) (λ r e. lit< tt) list;
+  of-stack = λ text n-h n-l n-m design list.
+      let o = stack text n-h n-l n-m design in
+      let few = few-layers text n-h n-l n-m design in
+      tells stacked o (few-sound o few) (stack-small o few) list;
 }

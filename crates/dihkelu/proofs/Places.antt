@@ -8,7 +8,7 @@ use lib.Dec.{T, eqb, leb, leb→le}
 use lib.ListN.{length, getD, take, drop, length-append, length-drop}
 use lib.Ieee.Fits.{and-l, and-r}
 use borrow.Author.Tests.{leb-true}
-use Rattle.refusal.specs.Outcome.{Outcome}
+use Rattle.refusal.specs.Outcome.{Outcome, answer, refusal}
 use Rattle.sheet.specs.Words.{words-of}
 use Rattle.sheet.specs.Blocks.{Block, Grammar, flat, starts, Result, read, fault, mapped, blocks-from}
 use Rattle.sheet.specs.Sheet.{Sheet, WellFormed, blocks, words, places}
@@ -19,8 +19,14 @@ use Rattle.sheet.proofs.Measure.{words-of-length, length-limits}
 use Rattle.gate.specs.Gate.{gated}
 use Rattle.gate.specs.Claim.{FirstOutside}
 use Rattle.gate.proofs.Claim.{Case, short, broken, outside, inside, cases}
+use Rattle.c_layers.proofs.Plain.{Plain}
 use Rattle.c_call.specs.Call.{Apart}
-use Rattle.dihkelu.proofs.Returned.{Sound, sound-apart}
+use Rattle.c_call.proofs.Returned.{Sound, sound-apart}
+
+-- a refusal without a place
+pub plain-sound : {A : Type 0} (o : Outcome A) → Plain o → Sound o
+plain-sound (answer a) h = tt
+plain-sound (refusal number place) h = (h .0, omega (arith, h .1))
 
 same : {A : Type 0} (p q : ℕ) → _≡_ {A = Result A} (fault p) (fault q) → p ≡ q
 same p q e = cc

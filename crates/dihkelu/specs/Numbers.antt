@@ -14,6 +14,8 @@ use Rattle.train_steps.specs.declared.State.{State}
 use Rattle.train_steps.specs.Train.{step, run}
 use Rattle.sheet_surfaces.specs.Surfaces.{surface-answers}
 use Rattle.c_layers.specs.Evaluate.{evaluate}
+use Rattle.thin_film_shorthand.specs.Stack.{stack}
+use Rattle.c_stack.specs.Stack.{stacked}
 use Rattle.c_call.specs.Call.{Reply, returned, answered}
 use Rattle.c_call.specs.Layout.{evaluated, surface-answered}
 use Rattle.dihkelu.specs.Train.{start-layout, step-layout, run-done}
@@ -43,3 +45,5 @@ pub record Numbers : Type 0 where
   pub of-evaluate : (code : ℕ) (design n-incident n-substrate angle wavelength : Float) (flat list : List Float)
       → Tells (said evaluated (evaluate code design n-incident n-substrate angle wavelength flat) list)
       (answered evaluated (evaluate code design n-incident n-substrate angle wavelength flat) list .returned)
+  pub of-stack : (text : List ℕ) (n-h n-l n-m design : Float) (list : List Float)
+      → Tells (said stacked (stack text n-h n-l n-m design) list) (answered stacked (stack text n-h n-l n-m design) list .returned)

@@ -1,12 +1,14 @@
 // The C interface (include/dihkelu.h). A list is lent as a pointer and a count of elements, two
 // arguments one after the other. No call that refuses changes a list: a refusal is its number times
-// 2^32 plus its place, which is 0 where document 01 gives none.
+// 2^32 plus its place, which is 0 where the documents give none.
 ghost use mathlib.Core.Path.{_≡_};
 ghost use Rattle.gate.specs.Gate as Gate;
 ghost use Rattle.gate.specs.Gate.{gated, gate};
 ghost use Rattle.c_layers.specs.Evaluate.{evaluate};
 ghost use Rattle.c_call.specs.Call.{done, Apart, returned, answered};
 ghost use Rattle.c_call.specs.Layout.{evaluated, surface-answered};
+ghost use Rattle.thin_film_shorthand.specs.Stack.{stack};
+ghost use Rattle.c_stack.specs.Stack.{stacked};
 ghost use Rattle.train_steps.specs.Train.{step, run};
 ghost use Rattle.sheet_surfaces.specs.Surfaces.{surface-answers};
 ghost use Rattle.dihkelu.specs.Train.{start-layout, step-layout, run-done};
@@ -57,6 +59,23 @@ pub extern "C" fn dihkelu_evaluate(
         Evaluation::Response(r) => c_call::put_response(r, list),
         Evaluation::Refused(r) => c_call::packed(r),
     }
+}
+
+// The layers that a text of the stack shorthand stands for, H, L and M being quarter waves of three
+// indices at the design wavelength: writes n, k, thickness of one after the other, as dihkelu_evaluate
+// takes them, and returns the count of these numbers; or a refusal: 1, 9, 10, then 8.
+#[no_mangle]
+pub extern "C" fn dihkelu_stack(
+    text: &[u8],
+    n_h: f64,
+    n_l: f64,
+    n_m: f64,
+    design_wavelength_nm: f64,
+    list: &mut [f64],
+) -> u64
+    ensures { λ r. ⌜ done r (now (list .exit)) ≡ answered stacked (stack (now (text .entry)) «n_h» «n_l» «n_m» «design_wavelength_nm») (now (list .entry)) ⌝ }
+{
+    c_stack::stack(text, n_h, n_l, n_m, design_wavelength_nm, list)
 }
 
 // ---- the gate and the train

@@ -28,6 +28,10 @@ use Rattle.thin_film.specs.declared.SurfaceCoating.{SurfaceCoating}
 use Rattle.thin_film.specs.declared.SurfaceCoating.the-variants as S
 use Rattle.thin_film.specs.Coating.{coating-of, layers-of, to-coating}
 use Rattle.thin_film.specs.Evaluate.{evaluate-surface}
+use Rattle.thin_film_grammar.specs.Claim as Gives
+use Rattle.thin_film_shorthand.specs.Stack.{stack}
+use Rattle.thin_film_shorthand.specs.Claim as Shorthand
+use Rattle.thin_film_shorthand.proofs.Claim.{shorthand}
 use Rattle.polarization.specs.Surface.{indices-valid, surface-fresnel-jones}
 use Rattle.name_bytes.specs.Ascii.{first-over}
 use Rattle.name_coating.specs.Name.{from-format-name}
@@ -47,7 +51,7 @@ use Rattle.sheet_surfaces.proofs.Answers.{all-nth}
 use Rattle.train_steps.specs.declared.State.{State}
 use Rattle.train_steps.specs.Train.{fresh, start, stepped, step, Ran, ran, run}
 use Rattle.train_claim.proofs.Claim.{train-claim}
-use Rattle.refusal_claim.specs.Claim.{one-of, Only, Refuses, Sheet, Numbers, RefusalClaim}
+use Rattle.refusal_claim.specs.Claim.{one-of, Only, Refuses, Sheet, Numbers, at, RefusalClaim}
 
 -- ---- numbers of refusals
 wider : (n : ℕ) (ms ks : List ℕ) → T (one-of n ms) → T (one-of n (ms ++ ks))
@@ -267,6 +271,29 @@ of-bragg-mirror = record {
   each = (((lit, 32), (0, refl)), tt);
 }
 
+-- ---- the stack shorthand
+module _ (text : List ℕ) (n-h n-l n-m design : Float) where
+  stack-only : (o : Outcome (List ThinFilmLayer)) → Shorthand.Right text n-h n-l n-m design o → Only (1 ∷ 9 ∷ 10 ∷ []) o
+  stack-only o (Shorthand.bad-number e) = tt
+  stack-only o (Shorthand.given e (Gives.too-long h)) = tt
+  stack-only o (Shorthand.given e (Gives.wrong h k v n)) = tt
+  stack-only o (Shorthand.given e (Gives.early h v n)) = tt
+  stack-only o (Shorthand.given e (Gives.many h k l)) = tt
+  stack-only o (Shorthand.given e (Gives.read h k l)) = tt
+
+with-place : (number : ℕ) (o : Outcome (List ThinFilmLayer)) → Shorthand.Refused number o → (place : ℕ) × (o ≡ refusal number place)
+with-place number o (Shorthand.refused {place = place}) = (place, refl)
+
+stack-each : (number : ℕ) → Shorthand.Some (Shorthand.Refused number) → (x : List ℕ × Numbers) × ((place : ℕ) × (at (stack (x .0)) (x .1) ≡ refusal number place))
+stack-each number s =
+    ((s .text, record { n-incident = s .n-h; n-substrate = s .n-l; angle = s .n-m; wavelength = s .design }), with-place number (stack (s .text) (s .n-h) (s .n-l) (s .n-m) (s .design)) (s .gives))
+
+of-stack : Refuses (λ (x : List ℕ × Numbers). at (stack (x .0)) (x .1)) (1 ∷ 9 ∷ 10 ∷ [])
+of-stack = record {
+  only = λ x. let n = x .1 in stack-only (x .0) (n .n-incident) (n .n-substrate) (n .angle) (n .wavelength) (at (stack (x .0)) n) (shorthand .right (x .0) (n .n-incident) (n .n-substrate) (n .angle) (n .wavelength));
+  each = (stack-each 1 (shorthand .a-1), (stack-each 9 (shorthand .a-9), (stack-each 10 (shorthand .a-10), tt)));
+}
+
 many : Layers
 many = record { items = []; count = 65 }
 
@@ -360,4 +387,5 @@ refusal-claim = record {
   of-name = of-name;
   of-bragg-mirror = of-bragg-mirror;
   of-to-coating = of-to-coating;
+  of-stack = of-stack;
 }

@@ -1,5 +1,5 @@
 -- Demand 1: 'The answer to any call, on any bytes and any floats, is a result or one of document 01's numbered refusals.' For each call the
--- numbers of the table 'Turned back' that it can refuse with: no other, and each of them for some arguments.
+-- numbers of the table 'Turned back', and of document 02's slips, that it can refuse with: no other, and each of them for some arguments.
 -- Types only; `proofs/Claim.antt` inhabits `RefusalClaim`.
 use mathlib.Core.Path.{_≡_}
 use mathlib.Core.Bool.{Bool, false, _||_}
@@ -16,6 +16,7 @@ use Rattle.thin_film_coating.specs.Coating as Built
 use Rattle.thin_film.specs.declared.SurfaceCoating.{SurfaceCoating}
 use Rattle.thin_film.specs.Coating.{to-coating}
 use Rattle.thin_film.specs.Evaluate.{evaluate-surface}
+use Rattle.thin_film_shorthand.specs.Stack.{stack}
 use Rattle.polarization.specs.Surface.{surface-fresnel-jones}
 use Rattle.name_coating.specs.Name.{from-format-name}
 use Rattle.sheet.specs.Blocks.{All}
@@ -44,7 +45,7 @@ pub record Sheet : Type 0 where
   pub src : List ℕ
   pub bytes : Bytes src
 
--- n_incident, n_substrate, angle, wavelength
+-- n_incident, n_substrate, angle, wavelength; or what a call has in their places
 pub record Numbers : Type 0 where
   pub n-incident : Float
   pub n-substrate : Float
@@ -71,3 +72,4 @@ pub record RefusalClaim : Type 0 where
   pub of-bragg-mirror : Refuses
       (λ (x : Numbers × ℕ). Built.outcome (at (λ n-high n-low angle design. Built.bragg-mirror n-high n-low (x .1) design) (x .0))) (3 ∷ [])
   pub of-to-coating : Refuses (λ (x : SurfaceCoating × Layers). Built.outcome (to-coating (x .0) (x .1))) (3 ∷ [])
+  pub of-stack : Refuses (λ (x : List ℕ × Numbers). at (stack (x .0)) (x .1)) (1 ∷ 9 ∷ 10 ∷ [])

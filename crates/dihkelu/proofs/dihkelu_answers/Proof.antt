@@ -9,7 +9,7 @@ use Rattle.sheet_surfaces.specs.declared.SurfaceReply.{SurfaceReply}
 use Rattle.sheet_surfaces.specs.Surfaces.{surface-answers, given}
 use Rattle.c_call.specs.Call.{Done, done, packed, written, answered}
 use Rattle.c_call.specs.Layout.{surface-answered}
-use Rattle.dihkelu.proofs.Returned.{sound-apart, refuses, answers}
+use Rattle.c_call.proofs.Returned.{sound-apart, refuses, answers}
 use Rattle.dihkelu.proofs.Answered as Answered
 use Rattle.dihkelu.proofs.Answered.{answers-sound, turned-back}
 use Rattle.dihkelu.proofs.dihkelu_answers.Statement.{statement}

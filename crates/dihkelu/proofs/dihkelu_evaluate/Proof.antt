@@ -11,7 +11,8 @@ use Rattle.c_layers.specs.Evaluate.{evaluate}
 use Rattle.c_layers.proofs.Plain.{of-code}
 use Rattle.c_call.specs.Call.{done, packed, answered}
 use Rattle.c_call.specs.Layout.{evaluated}
-use Rattle.dihkelu.proofs.Returned.{plain-sound, sound-apart, refuses, answers}
+use Rattle.c_call.proofs.Returned.{sound-apart, refuses, answers}
+use Rattle.dihkelu.proofs.Places.{plain-sound}
 use Rattle.dihkelu.proofs.dihkelu_evaluate.Statement.{statement}
 use Rattle.dihkelu.proofs.dihkelu_evaluate.Tie as tie
 

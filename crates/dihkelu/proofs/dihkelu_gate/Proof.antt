@@ -9,7 +9,7 @@ use Rattle.sheet.proofs.Stands.{Known, bytes-from}
 use Rattle.gate.specs.Gate.{gated, gate}
 use Rattle.c_call.specs.Call.{Apart, returned}
 use Rattle.dihkelu.proofs.Places.{gate-apart}
-use Rattle.dihkelu.proofs.Returned.{apart-map}
+use Rattle.c_call.proofs.Returned.{apart-map}
 use Rattle.dihkelu.proofs.dihkelu_gate.Statement.{statement}
 use Rattle.dihkelu.proofs.dihkelu_gate.Tie as tie
 

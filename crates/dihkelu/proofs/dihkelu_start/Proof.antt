@@ -19,7 +19,7 @@ use Rattle.gate.proofs.Admitted.{admitted, turned-back}
 use Rattle.c_call.specs.Call.{Apart, reply, written, answered}
 use Rattle.dihkelu.specs.Train.{start-layout}
 use Rattle.dihkelu.proofs.Places.{gate-apart}
-use Rattle.dihkelu.proofs.Returned.{refuses}
+use Rattle.c_call.proofs.Returned.{refuses}
 use Rattle.dihkelu.proofs.dihkelu_start.Statement.{statement}
 use Rattle.dihkelu.proofs.dihkelu_start.Tie as tie
 

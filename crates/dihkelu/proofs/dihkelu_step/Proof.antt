@@ -10,7 +10,7 @@ use Rattle.train_steps.specs.Train.{outcome, step}
 use Rattle.c_call.specs.Call.{Apart}
 use Rattle.dihkelu.specs.Train.{step-layout}
 use Rattle.dihkelu.proofs.Numbers.{step-sound}
-use Rattle.dihkelu.proofs.Returned.{sound-apart, refuses, answers}
+use Rattle.c_call.proofs.Returned.{sound-apart, refuses, answers}
 use Rattle.dihkelu.proofs.dihkelu_step.Statement.{statement}
 use Rattle.dihkelu.proofs.dihkelu_step.Tie as tie
 

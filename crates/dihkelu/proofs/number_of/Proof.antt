@@ -7,7 +7,7 @@ use Rattle.gate.specs.declared.Gated.{Gated}
 use Rattle.gate.specs.declared.Gated.the-variants as G
 use Rattle.gate.specs.Gate as Gate
 use Rattle.c_call.specs.Call.{packed, Apart, returned}
-use Rattle.dihkelu.proofs.Returned.{whole-place}
+use Rattle.c_call.proofs.Returned.{whole-place}
 use Rattle.dihkelu.proofs.number_of.Statement.{statement}
 use Rattle.dihkelu.proofs.number_of.Tie as tie
 

@@ -6,8 +6,7 @@ use native.Mathlib.Omega.{arith}
 use lib.Ieee.{Float}
 use Rattle.refusal.specs.declared.Refusal.{Refusal}
 use Rattle.refusal.specs.Outcome.{Outcome, answer, refusal, refused, map}
-use Rattle.c_layers.proofs.Plain.{Plain}
 use Rattle.c_call.specs.Call.{Done, done, packed, Apart, Reply, written, answered}
 
 packs : (number place : ℕ) → place < 2 ^ 32 → packed number (place % 2 ^ 32) ≡ packed number place
 packs number place h = omega arith
@@ -18,10 +17,6 @@ Sound (answer a) = Unit {0}
 Sound (refusal number place) = (0 < number) × (place < 2 ^ 32)
 
 module _ {A : Type 0} where
-  pub plain-sound : (o : Outcome A) → Plain o → Sound o
-  plain-sound (answer a) h = tt
-  plain-sound (refusal number place) h = (h .0, omega (arith, h .1))
-
   pub sound-apart : (o : Outcome A) → Sound o → Apart o
   sound-apart (answer a) h = tt
   sound-apart (refusal number place) h = h .1

@@ -1,0 +1,3 @@
+-- Facts on the numbers of layers.
+pub mod Flat
+pub mod Stacked

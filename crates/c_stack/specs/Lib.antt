@@ -1,0 +1,2 @@
+-- The layers of a stack by their numbers.
+pub mod Stack
