@@ -63,6 +63,8 @@ pub enum Arg {
     Pair,
     /// The length of a list that holds a response or a surface's answers.
     Room,
+    /// The length of a list for a stack.
+    StackRoom,
     /// Any code of a coating, also one that stands for none.
     AnyCode,
     /// Layers as a count of numbers, then n, k and thickness one after the other; the last layer may be cut off.
@@ -194,6 +196,8 @@ impl Arg {
             Arg::Steps => train::push_steps(rng, words),
             Arg::Pair => words.push(rng.pick(&[0, 1, 2, 2, 2, 3])),
             Arg::Room => words.push(rng.pick(&exports::ROOMS)),
+            Arg::StackRoom if rng.one_in(2) => words.push(200),
+            Arg::StackRoom => words.push(rng.pick(&exports::STACK_ROOMS)),
             Arg::AnyCode if rng.one_in(10) => words.push(rng.pick(&[0, 9, u64::from(u32::MAX)])),
             Arg::AnyCode => Arg::Code.push(rng, style, words),
             Arg::Flat => exports::push_flat(rng, style, words),

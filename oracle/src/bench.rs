@@ -118,6 +118,9 @@ macro_rules! side {
                 for sheet in super::step_sheets() {
                     works.push(Box::new(move || last_step(&sheet)));
                 }
+                for text in super::stack_texts() {
+                    works.push(Box::new(move || super::read_stack(text)));
+                }
                 works.into_iter().map(Some).collect()
             }
         }
@@ -128,7 +131,7 @@ side!(authors, f64::cos);
 side!(reference, crate::section2::cos);
 
 /// The workloads, with the number of calls in each.
-pub const WORKS: [(&str, usize); 17] = [
+pub const WORKS: [(&str, usize); 19] = [
     ("bare surface, the two powers alone", 64),
     ("MgF2", 64),
     ("15-layer mirror", 64),
@@ -146,6 +149,8 @@ pub const WORKS: [(&str, usize); 17] = [
     ("step, 1 surface of 16 layers", 1),
     ("step, the last surface of the longest sheet", 1),
     ("step, 1 bare surface", 1),
+    ("stack shorthand, (HL)^7 H", 1),
+    ("stack shorthand, 255 bytes of 64 layers", 1),
 ];
 
 /// Sheets of so many surfaces with so many layers each; without layers they are bare.
@@ -173,6 +178,28 @@ pub fn step_sheets() -> Vec<Vec<u8>> {
     [(1, 16), (64, 16), (1, 0)]
         .map(|(surfaces, layers)| even(surfaces, layers).bytes())
         .to_vec()
+}
+
+/// The indices of H, L and M.
+pub const STACK_INDICES: [f64; 3] = [2.3, 1.46, 1.8];
+
+/// A usual stack, and the longest text of the most layers.
+pub fn stack_texts() -> [&'static str; 2] {
+    ["(HL)^7 H", LONGEST]
+}
+
+const LONGEST: &str = concat!(
+    "99H 98L 97M 96H 95L 94M 93H 92L 91M 90H 89L 88M 87H 86L 85M 84H ",
+    "83L 82M 81H 80L 79M 78H 77L 76M 75H 74L 73M 72H 71L 70M 69H 68L ",
+    "67M 66H 65L 64M 63H 62L 61M 60H 59L 58M 57H 56L 55M 54H 53L 52M ",
+    "51H 50L 49M 48H 47L 46M 45H 44L 43M 42H 41L 40M 39H 38L 37M 36H",
+);
+
+/// A plain reader in Rust: tokens, a tree, the tree written out. It calls no function of section 2, so that it is the
+/// same for both sides.
+fn read_stack(text: &str) -> f64 {
+    let layers = crate::functions::shorthand::stack(text.as_bytes(), STACK_INDICES, 550.0);
+    layers.map_or(0.0, |layers| layers[layers.len() - 1].thickness_nm)
 }
 
 pub fn places() -> Vec<Place> {

@@ -51,6 +51,7 @@ impl Arg {
             Arg::Steps => train::steps_cases(),
             Arg::Pair => single(&[0, 1, 2, 3]),
             Arg::Room => single(&exports::ROOMS),
+            Arg::StackRoom => single(&exports::STACK_ROOMS),
             Arg::AnyCode => single(&[0, 1, 2, 3, 4, 5, 6, 7, 8, 9, u64::from(u32::MAX)]),
             Arg::Flat => exports::flat_cases(),
             _ => CORE.iter().map(|x| vec![x.to_bits()]).collect(),

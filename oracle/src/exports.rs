@@ -1,9 +1,11 @@
 // The train through the static library `dihkelu`: gate, start, step, whole run and answers, held against `sheet` and
 // `train`, with what a refusal leaves in the lent list.
 
+use crate::arguments::random;
 use crate::dihkelu;
+use crate::functions::exports::stack;
 use crate::progress::Progress;
-use crate::record::{bits, numbers};
+use crate::record::{bits, numbers, Arguments};
 use crate::sheet::{gate, Refusal};
 use crate::sheets::sheet;
 use crate::train::{answers, run, start, step, Light, State};
@@ -41,6 +43,11 @@ pub fn linked_evaluate(
     list: &mut [f64],
 ) -> u64 {
     returned(dihkelu::evaluate(code, design, at, flat, list))
+}
+
+/// `n` is the index of H, of L and of M.
+pub fn linked_stack(text: &[u8], n: [f64; 3], design: f64, list: &mut [f64]) -> u64 {
+    returned(dihkelu::stack(text, n, design, list))
 }
 
 fn returned(outcome: Result<u32, dihkelu::Refusal>) -> u64 {
@@ -219,4 +226,31 @@ pub fn compare_trains(seed: u64, count: u64, spoiled: Option<u64>) -> (u64, u64)
         }
     }
     (calls, different)
+}
+
+/// Holds `dihkelu_stack` against the second reading of the stack shorthand on `count` texts. Returns how many differ.
+pub fn compare_stacks(seed: u64, count: u64, spoiled: Option<u64>) -> u64 {
+    let function = &crate::functions::shorthand::table()[0];
+    let mut rng = Rng::new(seed);
+    let mut progress = Progress::new("stacks", count);
+    let mut different = 0;
+    for made in 0..count {
+        let words = random(function.args, &mut rng);
+        let mut a = Arguments::new(&words);
+        let [h, l, m, design] = a.floats();
+        let text = a.bytes();
+        let room = rng.pick(&[0, 3, 45, 191, 192, 200]);
+        let mut list = filled(room);
+        let returned = linked_stack(&text, [h, l, m], design, &mut list);
+        let (number, written) = expected(stack(&text, [h, l, m], design), room);
+        let number = number ^ u64::from(spoiled == Some(made));
+        if !left(returned, number, &list, &written) {
+            if different == 0 {
+                println!("stack: {text:02X?}, arguments {words:X?}, returned {returned:X}, not {number:X}");
+            }
+            different += 1;
+        }
+        progress.step();
+    }
+    different
 }

@@ -55,7 +55,7 @@ pub fn works() -> Option<Vec<Option<Work>>> {
 
 #[cfg(feature = "proved")]
 fn evaluations() -> Vec<Option<Work>> {
-    use crate::bench::{layers, places};
+    use crate::bench::{layers, places, STACK_INDICES};
     let over = |code: u32, count: usize| -> Option<Work> {
         let flat: Vec<f64> = layers().iter().take(count).flatten().copied().collect();
         let places = places();
@@ -97,6 +97,15 @@ fn evaluations() -> Vec<Option<Work>> {
         }))
     };
     works.extend(crate::bench::step_sheets().into_iter().map(step));
+    let stack = |text: &'static str| -> Option<Work> {
+        Some(Box::new(move || {
+            let mut list = [0.0; 192];
+            let count =
+                crate::exports::linked_stack(text.as_bytes(), STACK_INDICES, 550.0, &mut list);
+            list[count as usize - 1]
+        }))
+    };
+    works.extend(crate::bench::stack_texts().into_iter().map(stack));
     works
 }
 
@@ -145,7 +154,7 @@ fn agree(name: &str, count: u64, different: u64, what: &str) -> bool {
 }
 
 /// Holds the library against section 2 on `count` arguments for each function, against `SurfaceCoating::evaluate` on
-/// as many, and against the train on a tenth as many sheets. Returns whether all agree. What is expected of call
+/// as many, against the stack shorthand on as many, and against the train on a tenth as many sheets. Returns whether all agree. What is expected of call
 /// number `spoiled` of each is wrong, so that the comparison can be tried itself.
 pub fn compare(seed: u64, count: u64, spoiled: Option<u64>) -> Option<bool> {
     use crate::arguments::{random, Arg};
@@ -188,6 +197,8 @@ pub fn compare(seed: u64, count: u64, spoiled: Option<u64>) -> Option<bool> {
     {
         let different = compare_evaluate(seed, count, spoiled);
         all_agree &= agree("evaluate", count, different, "");
+        let different = crate::exports::compare_stacks(seed, count, spoiled);
+        all_agree &= agree("stack", count, different, "");
         let sheets = (count / 10).max(count.min(1));
         let (calls, different) = crate::exports::compare_trains(seed, sheets, spoiled);
         all_agree &= agree(

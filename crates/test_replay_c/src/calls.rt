@@ -2,10 +2,10 @@
 // lent, in so many words; none where it is not one of these or its list is too long to lend.
 
 // What a call returned, and the first n numbers of the list; the words behind them do not count.
-fn returned(out: &mut [u64; 256], number: u64, list: &[f64; 160], n: usize) -> usize {
+fn returned(out: &mut [u64; 256], number: u64, list: &[f64; 200], n: usize) -> usize {
     out[0] = number;
     test_records::write(out, 1, list);
-    if n > 160 { 0 } else { n + 1 }
+    if n > 200 { 0 } else { n + 1 }
 }
 
 fn gate_call(src: &[u8], out: &mut [u64; 256]) -> usize {
@@ -14,8 +14,8 @@ fn gate_call(src: &[u8], out: &mut [u64; 256]) -> usize {
 }
 
 fn start_call(n: usize, src: &[u8], out: &mut [u64; 256]) -> usize {
-    let mut list = [-7.25f64; 160];
-    if n > 160 {
+    let mut list = [-7.25f64; 200];
+    if n > 200 {
         return 0;
     }
     let number = dihkelu::dihkelu_start(src, &mut list[..n]);
@@ -23,8 +23,8 @@ fn start_call(n: usize, src: &[u8], out: &mut [u64; 256]) -> usize {
 }
 
 fn step_call(n: usize, done: u32, s: f64, p: f64, src: &[u8], out: &mut [u64; 256]) -> usize {
-    let mut list = [-7.25f64; 160];
-    if n > 160 {
+    let mut list = [-7.25f64; 200];
+    if n > 200 {
         return 0;
     }
     let number = dihkelu::dihkelu_step(src, done, s, p, &mut list[..n]);
@@ -32,8 +32,8 @@ fn step_call(n: usize, done: u32, s: f64, p: f64, src: &[u8], out: &mut [u64; 25
 }
 
 fn run_call(n: usize, src: &[u8], out: &mut [u64; 256]) -> usize {
-    let mut list = [-7.25f64; 160];
-    if n > 160 {
+    let mut list = [-7.25f64; 200];
+    if n > 200 {
         return 0;
     }
     let number = dihkelu::dihkelu_run(src, &mut list[..n]);
@@ -41,8 +41,8 @@ fn run_call(n: usize, src: &[u8], out: &mut [u64; 256]) -> usize {
 }
 
 fn answers_call(n: usize, surface: u32, src: &[u8], out: &mut [u64; 256]) -> usize {
-    let mut list = [-7.25f64; 160];
-    if n > 160 {
+    let mut list = [-7.25f64; 200];
+    if n > 200 {
         return 0;
     }
     let number = dihkelu::dihkelu_answers(src, surface, &mut list[..n]);
@@ -61,10 +61,10 @@ fn layers_at(a: &[u8]) -> [f64; 200] {
 }
 
 fn evaluate_call(n: usize, a: &[u8], out: &mut [u64; 256]) -> usize {
-    let mut list = [-7.25f64; 160];
+    let mut list = [-7.25f64; 200];
     let layers = layers_at(a);
     let count = test_records::small_at(a, 7) as usize;
-    if n > 160 {
+    if n > 200 {
         return 0;
     }
     if count > 200 {
@@ -78,6 +78,22 @@ fn evaluate_call(n: usize, a: &[u8], out: &mut [u64; 256]) -> usize {
         test_records::float_at(a, 5),
         test_records::float_at(a, 6),
         &layers[..count],
+        &mut list[..n],
+    );
+    returned(out, number, &list, n)
+}
+
+fn stack_call(n: usize, a: &[u8], out: &mut [u64; 256]) -> usize {
+    let mut list = [-7.25f64; 200];
+    if n > 200 {
+        return 0;
+    }
+    let number = dihkelu::dihkelu_stack(
+        test_records::bytes_at(a, 5),
+        test_records::float_at(a, 1),
+        test_records::float_at(a, 2),
+        test_records::float_at(a, 3),
+        test_records::float_at(a, 4),
         &mut list[..n],
     );
     returned(out, number, &list, n)
@@ -103,6 +119,7 @@ pub fn call(f: usize, a: &[u8], out: &mut [u64; 256]) -> usize {
         183 => run_call(n, test_records::bytes_at(a, 1), out),
         184 => answers_call(n, done, test_records::bytes_at(a, 2), out),
         185 => evaluate_call(n, a, out),
+        186 => stack_call(n, a, out),
         190 => float_out(out, c_scalars::dihkelu_sqrt(x)),
         191 => float_out(out, c_scalars::dihkelu_sin(x)),
         192 => float_out(out, c_scalars::dihkelu_cos(x)),

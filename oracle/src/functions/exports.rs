@@ -4,7 +4,7 @@
 use crate::arguments::Arg::{self, *};
 use crate::arguments::Style;
 use crate::functions::thin_film::surface_coating;
-use crate::functions::Function;
+use crate::functions::{shorthand, Function};
 use crate::record::{Arguments, Words};
 use crate::reference::thin_film::{CoatingResponse, ThinFilmLayer};
 use crate::section2;
@@ -17,6 +17,9 @@ const BEFORE: f64 = -7.25;
 
 /// Lengths of a list at the ends of what a response and the answers of a surface need.
 pub const ROOMS: [u64; 12] = [0, 13, 14, 15, 52, 53, 54, 66, 67, 67, 67, 70];
+
+/// Lengths of a list about what stacks need.
+pub const STACK_ROOMS: [u64; 10] = [0, 2, 3, 5, 6, 44, 45, 191, 192, 200];
 
 type Call = fn(&mut Arguments, &mut Words);
 
@@ -107,6 +110,17 @@ fn evaluate(
     Ok((list.len() as u64, list))
 }
 
+/// The layers of a text of the stack shorthand: n, k, thickness of one after the other.
+pub fn stack(text: &[u8], n: [f64; 3], design: f64) -> Result<(u64, Vec<f64>), Refusal> {
+    let layers =
+        shorthand::stack(text, n, design).map_err(|(number, place)| Refusal { number, place })?;
+    let list: Vec<f64> = layers
+        .iter()
+        .flat_map(|l| [l.n, l.k, l.thickness_nm])
+        .collect();
+    Ok((list.len() as u64, list))
+}
+
 pub fn table() -> Vec<Function> {
     let export = |number, name, args: &'static [Arg], weight, call: Call| Function {
         number,
@@ -157,6 +171,16 @@ pub fn table() -> Vec<Function> {
                 let at = a.floats();
                 let flat: Vec<f64> = (0..a.int()).map(|_| a.float()).collect();
                 leave(r, room, evaluate(code, design, at, &flat));
+            },
+        ),
+        export(
+            186,
+            "dihkelu_stack",
+            &[StackRoom, Index, Index, Index, Wavelength, Stack],
+            4,
+            |a, r| {
+                let (room, [h, l, m, design]) = (a.int(), a.floats());
+                leave(r, room, stack(&a.bytes(), [h, l, m], design));
             },
         ),
         export(190, "dihkelu_sqrt", &[Square], 4, |a, r| {
