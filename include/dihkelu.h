@@ -1,4 +1,4 @@
-/* Light through a train of coated windows: the calls of libdihkelu.a (document 01).
+/* Light through a train of coated windows: the calls of libdihkelu.a (document 01, and the built slips of document 02).
  *
  * ============================================================================================================
  * KEEP WHAT A CALL RETURNS IN 64 BITS. The refusal stands in the HIGH half: `int n = dihkelu_gate(..)` compiles,
@@ -12,16 +12,20 @@
  * ============================================================================================================
  *
  * A call returns one number. Its high 32 bits are 0 where the call answers; the low 32 bits are then what the call
- * says below. Where it refuses, the high 32 bits are document 01's number of the refusal and the low 32 bits its
- * place, a word of the sheet counted from 0; the place is 0 where document 01 gives none.
+ * says below. Where it refuses, the high 32 bits are the documents' number of the refusal and the low 32 bits its
+ * place, a word of the sheet or a byte of the text counted from 0; the place is 0 where the documents give none.
  *
- *   1  evaluate: the Rust's InvalidParameter, an unknown code, or a count of layers that is no multiple of 3
+ *   1  evaluate: the Rust's InvalidParameter, an unknown code, or a count of layers that is no multiple of 3;
+ *      stack: an index or the design wavelength is not positive and finite
  *   3  evaluate: more than 64 layers, where the code is that of explicit layers (any other ignores them)
  *   4  the sheet's bytes are no multiple of 4, under 36 or over 30,500
  *   5  the word at this place is out of grammar
  *   6  the BEAM, SURFACE or LAYER at this place is outside the limits
  *   7  there is no such surface: it is the sheet's count or more
  *   8  the list is too short; after all other refusals
+ *   9  stack: no text can have the byte at this place; the place is the count of bytes where the text stops early, and
+ *      255 for a text over 255 bytes
+ *  10  stack: more than 64 layers
  *
  * A call that refuses writes nothing. (That is proved of the numbers in the list, so up to the bits of a NaN that
  * stands there; the tests look at every bit.) A call that answers writes the front of the list and leaves the rest of
@@ -31,11 +35,11 @@
  * Link with libdihkelu.a and the C library's mathematics (-lm): its fmod is called. The library is for x86-64.
  *
  * WHAT THE CALLER OWES, since no callee can check it:
- *   - A sheet, a list of layers and a list that is written are each passed as a pointer and a count of elements (bytes
+ *   - A sheet, a text, a list of layers and a list that is written are each passed as a pointer and a count of elements (bytes
  *     or doubles), two arguments one after the other. So many elements are there, readable, and writable in the list;
  *     a pointer to doubles is aligned for them. Where the count is 0 the pointer may be anything, null too: nothing is
  *     read or written through it.
- *   - The list overlaps neither the sheet nor the layers, and no other thread writes any of them meanwhile.
+ *   - The list overlaps neither the sheet nor the text nor the layers, and no other thread writes any of them meanwhile.
  *   - The floating-point environment is the one that a C program starts with: rounding to nearest, subnormal numbers
  *     kept, no exception trapped. A program LINKED WITH -ffast-math or -Ofast starts with subnormals flushed to zero, and
  *     the gate then admits k = 2^-1074 and a power of -2^-1074; another rounding mode changes the last bits of every
@@ -165,6 +169,18 @@ DIHKELU_MUST_USE uint64_t dihkelu_evaluate(uint32_t code, double design_waveleng
                                            double n_substrate, double angle_incident_rad, double wavelength_nm,
                                            const double *layers, size_t layers_count, double *list,
                                            size_t list_count);
+
+/* The most doubles that dihkelu_stack writes: 64 layers of 3. */
+#define DIHKELU_STACK 192
+
+/* A stack in the coating makers' shorthand, such as "(HL)^7 H", of text_count bytes (no byte 0 ends it). H, L and M
+ * are quarter waves of n_h, n_l, n_m at the design wavelength: thickness design / (4 n), k 0. A whole number 1 to 99
+ * before a letter multiplies its thickness; a power ^1 to ^31 repeats the letter or bracket before it; brackets nest at
+ * most four deep; spaces are skipped, but not inside a number. Writes n, k, thickness in nm of one layer after the
+ * other, as dihkelu_evaluate takes them, and returns how many doubles these are; refuses with 1, 9, 10, 8. All three
+ * indices must be positive and finite, also those of letters that do not occur. */
+DIHKELU_MUST_USE uint64_t dihkelu_stack(const uint8_t *text, size_t text_count, double n_h, double n_l, double n_m,
+                                        double design_wavelength_nm, double *list, size_t list_count);
 
 #ifdef __cplusplus
 }

@@ -41,6 +41,16 @@ extern "C" {
         list: *mut f64,
         list_count: usize,
     ) -> u64;
+    fn dihkelu_stack(
+        text: *const u8,
+        text_count: usize,
+        n_h: f64,
+        n_l: f64,
+        n_m: f64,
+        design_wavelength_nm: f64,
+        list: *mut f64,
+        list_count: usize,
+    ) -> u64;
 }
 
 /// The version that these declarations are of: major × 2^16 + minor.
@@ -56,7 +66,10 @@ pub const RESPONSE: usize = 14;
 pub const BARE: usize = 53;
 pub const COATED: usize = 67;
 
-/// A refusal of document 01.
+/// The most numbers that `stack` writes: 64 layers of 3.
+pub const STACK: usize = 192;
+
+/// A refusal of the documents.
 #[derive(Clone, Copy, Debug, PartialEq)]
 pub struct Refusal {
     pub number: u32,
@@ -125,6 +138,29 @@ pub fn evaluate(
             layers.len(),
             list.as_mut_ptr(),
             list.len(),
+        )
+    })
+}
+
+/// A stack in the coating makers' shorthand, H, L and M being quarter waves of three indices at a design wavelength:
+/// writes n, k, thickness of one layer after the other, gives how many numbers these are.
+pub fn stack(
+    text: &[u8],
+    [n_h, n_l, n_m]: [f64; 3],
+    design_wavelength_nm: f64,
+    list: &mut [f64],
+) -> Result<u32, Refusal> {
+    let (at, count) = (list.as_mut_ptr(), list.len());
+    outcome(unsafe {
+        dihkelu_stack(
+            text.as_ptr(),
+            text.len(),
+            n_h,
+            n_l,
+            n_m,
+            design_wavelength_nm,
+            at,
+            count,
         )
     })
 }

@@ -7,7 +7,7 @@
 
 #include "dihkelu.h"
 
-static uint64_t seed, calls, refusals[9], answers_given;
+static uint64_t seed, calls, refusals[11], answers_given;
 
 static uint64_t draw(void) {
     uint64_t z = (seed += 0x9E3779B97F4A7C15u);
@@ -59,7 +59,7 @@ static void leave(const char *call, List l, uint64_t returned, unsigned may, siz
     calls++;
     uint32_t number = dihkelu_refusal(returned);
     if (number != 0) {
-        if (number > 8 || (may >> number & 1) == 0) wrong(call, "a refusal that it has not", returned);
+        if (number > 10 || (may >> number & 1) == 0) wrong(call, "a refusal that it has not", returned);
         if (memcmp(l.now, l.before, 8 * l.count) != 0) wrong(call, "a list changed by a refusal", returned);
         if (number == 8 && l.count >= written) wrong(call, "8 for a list that is long enough", returned);
         refusals[number]++;
@@ -183,6 +183,32 @@ static void evaluate_calls(void) {
     free(layers);
 }
 
+/* A text of the grammar; or bytes of its kinds, seldom of any. */
+static void stack_calls(void) {
+    static const char kinds[] = "HLM019()^ h", *const whole[] = {"(HL)^7 H", "(H^31)^2 HH", "(H^31)^2 HHH", "((((H^31)^31)^31)^31)^31", "2H^3"};
+    const char *some = below(4) ? NULL : whole[below(5)];
+    size_t n = some ? strlen(some) : below(8) ? below(12) : below(300);
+    uint8_t *text = block(n);
+    uint64_t near = below(4);
+    for (size_t i = 0; i < n; i++) text[i] = some ? (uint8_t)some[i] : near ? (uint8_t)kinds[below(11)] : (uint8_t)draw();
+    static const size_t around[] = {0, 2, 3, 5, 6, 45, 191, 192, 200};
+    List l = lend(around[below(9)]), full = lend(DIHKELU_STACK);
+    int fine = below(4) != 0;
+    double h = fine ? 2.3 : any(), m = fine ? 1.8 : any(), design = fine ? 550.0 : any();
+    uint64_t r = dihkelu_stack(text, n, h, 1.46, m, design, (double *)l.now, l.count);
+    uint64_t f = dihkelu_stack(text, n, h, 1.46, m, design, (double *)full.now, full.count);
+    uint32_t number = dihkelu_refusal(f);
+    size_t count = dihkelu_value(f);
+    if (fine && n > 255 && f != (9ull << 32 | 255)) wrong("stack", "no 9 with 255 for a text over 255 bytes", f);
+    if (number == 9 ? dihkelu_place(f) > n : dihkelu_place(f) != 0) wrong("stack", "another place", f);
+    if (number == 0 && (count == 0 || count % 3 != 0 || count > DIHKELU_STACK)) wrong("stack", "another number", f);
+    if (r != (count > l.count ? 8ull << 32 : f)) wrong("stack", "another number for another list", r);
+    if (count && l.count >= count && memcmp(l.now, full.now, 8 * count) != 0) wrong("stack", "other layers in a longer list", r);
+    leave("stack", l, r, BIT(1) | BIT(8) | BIT(9) | BIT(10), count);
+    leave("stack", full, f, BIT(1) | BIT(9) | BIT(10), count);
+    free(text);
+}
+
 static void expect(const char *call, uint64_t returned, uint64_t expected) {
     calls++;
     if (returned != expected) wrong(call, "another number for a null of count 0", returned);
@@ -208,6 +234,9 @@ static void null_calls(void) {
     expect("step", dihkelu_step(sheet, size, 0, 1.0, 1.0, NULL, 0), eight);
     expect("run", dihkelu_run(sheet, size, NULL, 0), eight);
     expect("answers", dihkelu_answers(sheet, size, 0, NULL, 0), eight);
+    expect("stack", dihkelu_stack(NULL, 0, 2.3, 1.46, 1.8, 550.0, NULL, 0), 9ull << 32);
+    expect("stack", dihkelu_stack(NULL, 0, 0.0, 1.46, 1.8, 550.0, NULL, 0), 1ull << 32);
+    expect("stack", dihkelu_stack((const uint8_t *)"H", 1, 2.3, 1.46, 1.8, 550.0, NULL, 0), eight);
     for (uint32_t code = 1; code <= 8; code++) {
         expect("evaluate", dihkelu_evaluate(code, 550.0, 1.0, 1.5, 0.3, 550.0, NULL, 0, list, DIHKELU_RESPONSE), DIHKELU_RESPONSE);
         expect("evaluate", dihkelu_evaluate(code, 550.0, 1.0, 1.5, 0.3, 550.0, NULL, 0, NULL, 0), eight);
@@ -257,12 +286,13 @@ int main(int count, char **words) {
         for (size_t j = 0; j < size; j++) bytes[j] = (uint8_t)draw();
         sheet_calls(bytes, size);
         for (int i = 0; i < 16; i++) evaluate_calls();
+        for (int i = 0; i < 16; i++) stack_calls();
     }
     /* one sheet cut off at every byte */
     size_t size = build(bytes, 2, 3);
     for (size_t n = 0; n <= size; n++) sheet_calls(bytes, n);
 
-    printf("hostile: seed %s, %" PRIu64 " calls, %" PRIu64 " answered; refused 1: %" PRIu64 ", 3: %" PRIu64 ", 4: %" PRIu64 ", 5: %" PRIu64 ", 6: %" PRIu64 ", 7: %" PRIu64 ", 8: %" PRIu64 "; none wrong\n",
-           count > 1 ? words[1] : "1", calls, answers_given, refusals[1], refusals[3], refusals[4], refusals[5], refusals[6], refusals[7], refusals[8]);
+    printf("hostile: seed %s, %" PRIu64 " calls, %" PRIu64 " answered; refused 1: %" PRIu64 ", 3: %" PRIu64 ", 4: %" PRIu64 ", 5: %" PRIu64 ", 6: %" PRIu64 ", 7: %" PRIu64 ", 8: %" PRIu64 ", 9: %" PRIu64 ", 10: %" PRIu64 "; none wrong\n",
+           count > 1 ? words[1] : "1", calls, answers_given, refusals[1], refusals[3], refusals[4], refusals[5], refusals[6], refusals[7], refusals[8], refusals[9], refusals[10]);
     return 0;
 }

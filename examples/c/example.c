@@ -1,4 +1,4 @@
-/* Document 01's sheet from C: gate, start, steps, the answers of its surface, a whole run. */
+/* Document 01's sheet from C: gate, start, steps, the answers of its surface, a whole run; and a stack in shorthand. */
 #include <inttypes.h>
 #include <stdio.h>
 #include <stdlib.h>
@@ -69,6 +69,14 @@ int main(void) {
     double response[DIHKELU_RESPONSE];
     answered("evaluate", dihkelu_evaluate(2, 550.0, 1.0, 1.5, 0.0, 550.0, NULL, 0, response, DIHKELU_RESPONSE));
     printf("MgF2 R_s %g T_s %g\n", response[8], response[10]);
+
+    static const char text[] = "(HL)^7 H";
+    double layers[DIHKELU_STACK];
+    uint32_t numbers = answered("stack", dihkelu_stack((const uint8_t *)text, strlen(text), 2.3, 1.46, 1.8, 1064.0, layers, DIHKELU_STACK));
+    printf("%s: %" PRIu32 " layers, the first %g nm of %g, the second %g nm of %g\n", text, numbers / 3, layers[2], layers[0], layers[5], layers[3]);
+    answered("evaluate", dihkelu_evaluate(5, 0.0, 1.0, 1.52, 0.0, 1064.0, layers, numbers, response, DIHKELU_RESPONSE));
+    printf("as a mirror R_s %g\n", response[8]);
+    print_refusal("stack", dihkelu_stack((const uint8_t *)"H^32H", 5, 2.3, 1.46, 1.8, 1064.0, layers, DIHKELU_STACK));
 
     sheet[0] = 0;
     print_refusal("gate", dihkelu_gate(sheet, sizeof sheet));

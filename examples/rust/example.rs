@@ -1,9 +1,11 @@
-//! Document 01's sheet from Rust: gate, start, steps, the answers of its surface, a whole run.
+//! Document 01's sheet from Rust: gate, start, steps, the answers of its surface, a whole run; and a stack in shorthand.
 
 #[path = "../../include/dihkelu.rs"]
 mod dihkelu;
 
-use dihkelu::{answers, environment_ok, evaluate, gate, run, start, step, version, Refusal, COATED, RESPONSE, VERSION};
+use dihkelu::{
+    answers, environment_ok, evaluate, gate, run, stack, start, step, version, Refusal, COATED, RESPONSE, STACK, VERSION,
+};
 
 fn main() -> Result<(), Refusal> {
     let words: [u32; 16] = [
@@ -39,6 +41,15 @@ fn main() -> Result<(), Refusal> {
     let mut response = [0.0; RESPONSE];
     evaluate(2, 550.0, [1.0, 1.5, 0.0, 550.0], &[], &mut response)?;
     println!("MgF2 R_s {} T_s {}", response[8], response[10]);
+
+    let mut layers = [0.0; STACK];
+    let numbers = stack(b"(HL)^7 H", [2.3, 1.46, 1.8], 1064.0, &mut layers)? as usize;
+    println!("(HL)^7 H: {} layers, the first {} nm of {}", numbers / 3, layers[2], layers[0]);
+    evaluate(5, 0.0, [1.0, 1.52, 0.0, 1064.0], &layers[..numbers], &mut response)?;
+    println!("as a mirror R_s {}", response[8]);
+    if let Err(refusal) = stack(b"H^32H", [2.3, 1.46, 1.8], 1064.0, &mut layers) {
+        println!("stack: refused {} {}", refusal.number, refusal.place);
+    }
 
     sheet[0] = 0;
     if let Err(refusal) = gate(&sheet) {
