@@ -60,6 +60,14 @@ libraries() { # NAME..
     done
 }
 
+# The static library dihkelu, and the same as a shared library: target/staticlib/libdihkelu.so.
+shared_library() {
+    libraries dihkelu
+    local lib=target/staticlib/libdihkelu
+    [ ! "$lib.so" -nt "$lib.a" ] || return 0
+    cc -shared -Wl,--whole-archive "$lib.a" -Wl,--no-whole-archive -lm -o "$lib.so"
+}
+
 # The oracle with both static libraries linked: oracle/target/release/oracle.
 oracle_with_libraries() {
     need cargo cc

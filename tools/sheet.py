@@ -2,6 +2,7 @@
 """Sheets for people: write one from a text, show one as text, show the losses surface by surface. See docs/SHEETS.md."""
 
 import argparse
+import ctypes
 import math
 import os
 import re
@@ -12,7 +13,7 @@ import sys
 from pathlib import Path
 
 ROOT = Path(__file__).resolve().parent.parent
-VERSION = "1.1 (sheets of edition 1)"
+VERSION = "1.2 (sheets of edition 1)"
 MOST_BYTES = 10_000_000  # of a file; a sheet has 30,500 at most
 
 # payload / 2, document 01 section 1
@@ -26,6 +27,8 @@ MOST_SURFACES, MOST_LAYERS = 64, 16
 BEAM_FORM = "beam NUMBER nm s NUMBER p NUMBER"
 SURFACE_FORM = "surface COATING transmitted|reflected from NUMBER to NUMBER at NUMBER deg|rad"
 LAYER_FORM = "layer NUMBER thickness NUMBER nm [k NUMBER]"
+STACK_FORM = "stack TEXT with H NUMBER L NUMBER [M NUMBER] at NUMBER nm"
+MOST_STACK_NUMBERS = 192
 
 
 class Wrong(Exception):
@@ -106,7 +109,73 @@ def match(tokens, form):
     return found
 
 
-def add_line(sheet, tokens, line):
+def library():
+    """The proved library."""
+    path = ROOT / "target" / "staticlib" / "libdihkelu.so"
+    try:
+        found = ctypes.CDLL(str(path))
+    except OSError:
+        raise Wrong("the library is not built yet; run: tools/library") from None
+    double, size, at = ctypes.c_double, ctypes.c_size_t, ctypes.POINTER(ctypes.c_double)
+    found.dihkelu_stack.argtypes = [ctypes.c_char_p, size, double, double, double, double, at, size]
+    found.dihkelu_stack.restype = ctypes.c_uint64
+    return found
+
+
+def stack_refused(text, refusal, place):
+    if refusal == 1:
+        return "an index or the design wavelength is not positive and finite"
+    if refusal == 10:
+        return f"'{text}' has more than 64 layers"
+    data = text.encode()
+    if len(data) > 255:
+        return f"the stack has {len(data)} bytes; a stack has 255 at most"
+    if place == len(data):
+        return f"'{text}' stops early"
+    stands = data[place:].decode("utf-8", "replace")[0]
+    return f"'{text}' is no stack: '{stands}' cannot stand at its byte {place}, counted from 0"
+
+
+def stack(text, n_h, n_l, n_m, design):
+    """The layers of a stack in shorthand: n, k, thickness of each, by the proved library."""
+    numbers = (ctypes.c_double * MOST_STACK_NUMBERS)()
+    data = text.encode()
+    returned = library().dihkelu_stack(data, len(data), n_h, n_l, n_m, design, numbers, MOST_STACK_NUMBERS)
+    refusal, low = returned >> 32, returned & 0xFFFFFFFF
+    if refusal:
+        raise Wrong(f"refused {refusal} {low}: {stack_refused(text, refusal, low)}")
+    return [list(numbers[i:i + 3]) for i in range(0, low, 3)]
+
+
+def stack_line(content):
+    """The layers of a line `stack TEXT with ..`. A letter that is not given takes H's index, and must not occur."""
+    parts = re.fullmatch(r"\s*stack\s+(.*\S)\s+with\s+(.*?)\s*", content, re.IGNORECASE)
+    if not parts:
+        raise Wrong(f"a stack has its text, the word with, and what the letters are: {STACK_FORM}")
+    text, tokens = parts[1], parts[2].split()
+    with_m = len(tokens) > 4 and tokens[4].lower() == "m"
+    if "M" in text and not with_m:
+        raise Wrong(f"M stands in '{text}' and has no index: {STACK_FORM}")
+    form = STACK_FORM.split(" with ")[1].replace("[M NUMBER]", "M NUMBER" if with_m else "").lower().replace("number", "NUMBER")
+    try:
+        given = match(tokens, " ".join(form.split()))
+    except Wrong as wrong:
+        raise Wrong(str(wrong).split(": ")[0] + f": {STACK_FORM}") from None
+    return stack(text, given[0], given[1], given[2] if with_m else given[0], given[-1])
+
+
+def add_layers(sheet, layers, line):
+    """Puts layers, n, k and thickness of each, under the last surface."""
+    if not sheet.surfaces or sheet.surfaces[-1]["coating"] != CUSTOM:
+        raise Wrong("a layer stands only under a surface whose coating is custom")
+    held = sheet.surfaces[-1]["layers"]
+    if len(held) + len(layers) > MOST_LAYERS:
+        raise Wrong(f"a surface has at most {MOST_LAYERS} layers" + (f"; with this stack it has {len(held) + len(layers)}" if len(layers) > 1 else ""))
+    held.extend({"floats": floats, "line": line} for floats in layers)
+
+
+def add_line(sheet, content, line):
+    tokens = content.split()
     head = tokens[0].lower()
     if head == "beam":
         if sheet.beam:
@@ -122,16 +191,12 @@ def add_line(sheet, tokens, line):
         floats = [n0, n1, angle]
         sheet.surfaces.append({"coating": coating, "reflected": reflected, "floats": floats, "layers": [], "line": line})
     elif head == "layer":
-        numbers = match(tokens, LAYER_FORM)
-        if not sheet.surfaces or sheet.surfaces[-1]["coating"] != CUSTOM:
-            raise Wrong("a layer stands only under a surface whose coating is custom")
-        layers = sheet.surfaces[-1]["layers"]
-        if len(layers) == MOST_LAYERS:
-            raise Wrong(f"a surface has at most {MOST_LAYERS} layers")
-        n, thickness, k = (numbers + [0.0])[:3]
-        layers.append({"floats": [n, k, thickness], "line": line})
+        n, thickness, k = (match(tokens, LAYER_FORM) + [0.0])[:3]
+        add_layers(sheet, [[n, k, thickness]], line)
+    elif head == "stack":
+        add_layers(sheet, stack_line(content), line)
     else:
-        raise Wrong(f"'{tokens[0]}' begins no line; a line begins with beam, surface, layer or #")
+        raise Wrong(f"'{tokens[0]}' begins no line; a line begins with beam, surface, layer, stack or #")
 
 
 UTF_16 = "the text is in UTF-16; save it as UTF-8"
@@ -165,10 +230,10 @@ def from_text(data):
     sheet = Sheet()
     line = 0
     for line, content in lines_of(data):
-        tokens = content.split("#")[0].split()
+        content = content.split("#")[0]
         try:
-            if tokens:
-                add_line(sheet, tokens, line)
+            if content.split():
+                add_line(sheet, content, line)
         except Wrong as wrong:
             raise Wrong(f"line {line}: {wrong}") from None
     if not sheet.beam:

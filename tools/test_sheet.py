@@ -52,7 +52,7 @@ LAYER = "layer 1.38 thickness 99 nm\n"
 BAD_TEXTS = [
     ("", "line 1: the text ends without a beam: beam NUMBER nm s NUMBER p NUMBER"),
     ("# nothing\n", "line 2: the text ends without a beam: beam NUMBER nm s NUMBER p NUMBER"),
-    (BEAM + "\nlens 3\n", "line 3: 'lens' begins no line; a line begins with beam, surface, layer or #"),
+    (BEAM + "\nlens 3\n", "line 3: 'lens' begins no line; a line begins with beam, surface, layer, stack or #"),
     ("beam 500 nm s half p 0.5\n", "line 1: 'half' is no number"),
     ("beam 500 s 0.5 p 0.5\n", "line 1: 's' stands where 'nm' should: beam NUMBER nm s NUMBER p NUMBER"),
     ("beam 500 nm s 0.5\n", "line 1: the line ends where p should stand: beam NUMBER nm s NUMBER p NUMBER"),
@@ -69,6 +69,23 @@ BAD_TEXTS = [
     (BEAM + CUSTOM + "layer 1.38 thickness 99 nm k\n", "line 3: the line ends where NUMBER should stand: layer NUMBER thickness NUMBER nm [k NUMBER]"),
 ]
 
+STACK = "stack (HL)^7 H with H 2.3 L 1.46 at 1064 nm\n"
+STACK_FORM = "stack TEXT with H NUMBER L NUMBER [M NUMBER] at NUMBER nm"
+
+# a stack, and what is said of it
+BAD_STACKS = [
+    ("stack H^32H with H 2.3 L 1.46 at 550 nm", "refused 9 3: 'H^32H' is no stack: '2' cannot stand at its byte 3, counted from 0"),
+    ("stack (HL with H 2.3 L 1.46 at 550 nm", "refused 9 3: '(HL' stops early"),
+    ("stack " + 256 * "H" + " with H 2.3 L 1.46 at 550 nm", "refused 9 255: the stack has 256 bytes; a stack has 255 at most"),
+    ("stack H\u00e9 with H 2.3 L 1.46 at 550 nm", "refused 9 1: 'H\u00e9' is no stack: '\u00e9' cannot stand at its byte 1, counted from 0"),
+    ("stack (H^31)^3 with H 2.3 L 1.46 at 550 nm", "refused 10 0: '(H^31)^3' has more than 64 layers"),
+    ("stack H with H 0 L 1.46 at 550 nm", "refused 1 0: an index or the design wavelength is not positive and finite"),
+    ("stack HM with H 2.3 L 1.46 at 550 nm", f"M stands in 'HM' and has no index: {STACK_FORM}"),
+    ("stack with H 2.3 L 1.46 at 550 nm", f"a stack has its text, the word with, and what the letters are: {STACK_FORM}"),
+    ("stack H with H 2.3 at 550 nm", f"'at' stands where 'l' should: {STACK_FORM}"),
+    ("stack (HL)^8 H with H 2.3 L 1.46 at 550 nm", "a surface has at most 16 layers; with this stack it has 17"),
+]
+
 # a text that the gate refuses, and what is said of it
 REFUSED = [
     ("beam 99 nm s 2 p 0\n", "refused 6 1: the beam (line 1) is outside the gate: the wavelength is 99, not from 100 to 10000; the s power is 2, not from 0 to 1"),
@@ -79,6 +96,40 @@ REFUSED = [
 ]
 
 
+
+
+class Stacks(unittest.TestCase):
+    """Stacks in shorthand, read by the proved library."""
+
+    def setUp(self):
+        if not (ROOT / "target" / "staticlib" / "libdihkelu.so").exists():
+            self.skipTest("the library is not built; run: tools/library")
+
+    def test_layers(self):
+        h, l = f"layer 2.3 thickness {1064 / (4 * 2.3)!r} nm\n", f"layer 1.46 thickness {1064 / (4 * 1.46)!r} nm\n"
+        typed = tool("write", "-", given=BEAM + CUSTOM + 7 * (h + l) + h)
+        self.assertEqual(tool("write", "-", given=BEAM + CUSTOM + STACK), typed)
+
+    def test_multiplier_power_and_m(self):
+        one, two = (f"layer {n} thickness {m * (550 / (4 * n))!r} nm\n" for n, m in [(2.3, 2), (1.8, 1)])
+        typed = tool("write", "-", given=BEAM + CUSTOM + 3 * one + two)
+        self.assertEqual(tool("write", "-", given=BEAM + CUSTOM + "  Stack 2H^3 M with H 2.3 L 1.46 M 1.8 at 550 nm # a comment\n"), typed)
+
+    def test_beside_layers(self):
+        self.assertEqual(tool("write", "-", given=BEAM + CUSTOM + LAYER + STACK)[0], 0)
+        self.assertEqual(tool("write", "-", given=BEAM + CUSTOM + 2 * LAYER + STACK)[2], "-: line 5: a surface has at most 16 layers; with this stack it has 17\n")
+
+    def test_bad_stacks(self):
+        for line, said in BAD_STACKS:
+            with self.subTest(line):
+                self.assertEqual(tool("write", "-", given=BEAM + CUSTOM + line + "\n"), (1, b"", f"-: line 3: {said}\n"))
+
+    def test_under_no_custom_surface(self):
+        self.assertEqual(tool("write", "-", given=BEAM + STACK)[2], "-: line 2: a layer stands only under a surface whose coating is custom\n")
+
+    def test_the_example(self):
+        given = EXAMPLES / "fold_mirror.txt"
+        self.assertEqual(tool("losses", str(given), "--program", PROGRAM), (0, (EXAMPLES / "fold_mirror.losses").read_bytes(), ""))
 
 
 class Examples(unittest.TestCase):

@@ -45,7 +45,7 @@ class Run(Folder):
         self.assertEqual(run(self.folder / "tools/test_train"), (1, "", "tools/test_train: train is not built yet; run: rt check train\n"))
 
     def test_no_toolchain(self):
-        for tool, words in [("run", ["train"]), ("hostile", []), ("examples", []), ("compare", []), ("bench", []), ("test", []), ("test_header", [])]:
+        for tool, words in [("run", ["train"]), ("hostile", []), ("examples", []), ("compare", []), ("bench", []), ("library", []), ("test", []), ("test_header", [])]:
             # commands that the tool may look for before rt, but no rt
             for name in ["cc", "valgrind", "cargo", "rustc", "python3"]:
                 self.write(f"bin/{name}", "#!/bin/sh\n")
@@ -71,7 +71,7 @@ class Compare(unittest.TestCase):
         return run(ORACLE, "feed", "--seed", "1", "--count", "300", "--only", groups, *more, "--", "tools/run", program)
 
     def test_records(self):
-        for program, groups in [("test_replay", "elementary"), ("test_replay_films", "thin_film,names"), ("test_replay_train", "sheet,train")]:
+        for program, groups in [("test_replay", "elementary"), ("test_replay_films", "thin_film,names"), ("test_replay_shorthand", "shorthand"), ("test_replay_train", "sheet,train")]:
             with self.subTest(program):
                 self.assertEqual(self.feed(program, groups)[0], 0)
                 for spoiled in ["0", "150", "299"]:
