@@ -10,9 +10,10 @@ use Rattle.math_trig.specs.Trig.{wrap, fold, second-fold, series, sin-at, sin, 
 use Rattle.math_atan.specs.Atan.{with-sign, atan2}
 use Rattle.thin_film_complex.specs.Complex.{real, scale, norm-sq, arg, add, sub, mul, quotient, div}
 use Rattle.thin_film_solver.specs.declared.CoatingResponse.{CoatingResponse}
-use Rattle.thin_film_solver.specs.Solve.{eta0-s, eta0-p, cos-theta-sub, eta-sub-s, eta-sub-p, product-s, product-p, b-of, c-of, reflection, transmission, reflectance, transmittance, solve, respond, evaluate}
+use Rattle.thin_film_solver.specs.Solve.{eta0-s, eta0-p, cos-theta-sub, eta-sub-s, eta-sub-p, product-s, product-p, b-of, c-of, reflection, transmission, reflectance, transmittance, solve, rust-respond, rust-evaluate, evaluate}
+use Rattle.thin_film_solver.specs.Absorptance.{absorptance, with-absorptance}
 
--- rs = rp = -0.5, ts = tp = 0.5, R = 0.25, T = 0.75, phases π
+-- rs = rp = -0.5, ts = tp = 0.5, R = 0.25, T = 0.75, phases π, and nothing stays in the glass
 abbrev pub bare : CoatingResponse
 bare = record {
   rs = real (ofBits binary64 0xBFE0_0000_0000_0000);
@@ -25,9 +26,11 @@ bare = record {
   «transmittance_p» = ofBits binary64 0x3FE8_0000_0000_0000;
   «phase_rs_rad» = pi;
   «phase_rp_rad» = pi;
+  «absorptance_s» = zero-f;
+  «absorptance_p» = zero-f;
 }
 
 -- no layers, 1 to 3, angle 0, at any wavelength
 pub no-layers : (wavelength : Float) → evaluate one three zero-f wavelength [] ≡ bare
-unfolding eta0-s eta0-p cos-theta-sub eta-sub-s eta-sub-p product-s product-p b-of c-of reflection transmission reflectance transmittance solve respond evaluate real scale norm-sq arg add sub mul quotient div abs max clamp squareRoot wrap fold second-fold series sin-at sin cos-at cos-of cos with-sign atan2 Ieee.rem Ieee.lt Ieee.le Ieee.eq Ieee.add Ieee.sub Ieee.mul Ieee.div Ieee.neg Ieee.ofInt Ieee.isNan ofBits
+unfolding eta0-s eta0-p cos-theta-sub eta-sub-s eta-sub-p product-s product-p b-of c-of reflection transmission reflectance transmittance solve rust-respond rust-evaluate evaluate absorptance with-absorptance real scale norm-sq arg add sub mul quotient div abs max clamp squareRoot wrap fold second-fold series sin-at sin cos-at cos-of cos with-sign atan2 Ieee.rem Ieee.lt Ieee.le Ieee.eq Ieee.add Ieee.sub Ieee.mul Ieee.div Ieee.neg Ieee.ofInt Ieee.isNan ofBits
 no-layers wavelength = refl

@@ -9,11 +9,11 @@ use Rattle.thin_film_solver.specs.declared.CoatingResponse.{CoatingRespo
 use Rattle.thin_film_solver.specs.declared.Incidence.{Incidence}
 use Rattle.thin_film_solver.specs.declared.Terms.{Terms}
 use Rattle.thin_film_solver.specs.Layer.{layer-s, layer-p}
-use Rattle.thin_film_solver.specs.Solve.{product-s, product-p, evaluate}
+use Rattle.thin_film_solver.specs.Solve.{product-s, product-p, respond, rust-evaluate, evaluate}
 use Rattle.thin_film_solver.specs.Internal.{incidence, terms-of, film, step-s, step-p, finish, onward, LayerByLayer}
 
 pub evaluates : LayerByLayer
-unfolding incidence onward finish evaluate
+unfolding incidence onward finish respond rust-evaluate evaluate
 evaluates n-incident n-substrate angle wavelength layers = refl
 
 -- a layer's matrices are those of its terms

@@ -1,4 +1,5 @@
--- evaluate_tmm_multilayer of thin_film.rs, in the Rust's order of operations. Definitions only.
+-- evaluate_tmm_multilayer of thin_film.rs, in the Rust's order of operations; what is called `rust-` has the Rust's fields and no more.
+-- Definitions only.
 use mathlib.Core.Bool.{cond}
 use mathlib.Core.List.{List, [], _∷_}
 use lib.Ieee.{Float, binary64, neg, le, ofBits}
@@ -13,6 +14,7 @@ use Rattle.thin_film_solver.specs.declared.CoatingResponse.{CoatingRespo
 use Rattle.thin_film_solver.specs.declared.Polarized.{Polarized}
 use Rattle.thin_film_matrix.specs.Matrix.{Matrix, at, mat-mul, identity}
 use Rattle.thin_film_solver.specs.Layer.{layer-s, layer-p}
+use Rattle.thin_film_solver.specs.Absorptance.{RustResponse, with-absorptance}
 
 -- ---- incident admittance
 unfoldable pub eta0-s : Float → Float → Complex
@@ -79,8 +81,8 @@ solve m eta0 eta =
     record { r = r; t = t; reflectance = reflectance r; transmittance = transmittance eta0 eta t; phase = arg r }
 
 -- the response, of the answers for s and for p
-unfoldable pub respond : Polarized → Polarized → CoatingResponse
-respond s p = record {
+unfoldable pub rust-respond : Polarized → Polarized → RustResponse
+rust-respond s p = record {
   rs = s .r;
   rp = p .r;
   ts = s .t;
@@ -93,19 +95,38 @@ respond s p = record {
   «phase_rp_rad» = p .phase;
 }
 
--- where there is no response
+-- with 02 slip 2's two numbers
+unfoldable pub respond : Polarized → Polarized → CoatingResponse
+respond s p = with-absorptance (rust-respond s p)
+
+-- where there is no response: zero throughout
 abbrev pub no-response : CoatingResponse
-no-response =
-    let dark : Polarized = record { r = zero; t = zero; reflectance = zero-f; transmittance = zero-f; phase = zero-f } in
-    respond dark dark
+no-response = record {
+  rs = zero;
+  rp = zero;
+  ts = zero;
+  tp = zero;
+  «reflectance_s» = zero-f;
+  «reflectance_p» = zero-f;
+  «transmittance_s» = zero-f;
+  «transmittance_p» = zero-f;
+  «phase_rs_rad» = zero-f;
+  «phase_rp_rad» = zero-f;
+  «absorptance_s» = zero-f;
+  «absorptance_p» = zero-f;
+}
 
 -- evaluate_tmm_multilayer: the layers in the order from the incident medium to the substrate
-unfoldable pub evaluate : Float → Float → Float → Float → List ThinFilmLayer → CoatingResponse
-evaluate n-incident n-substrate angle wavelength layers =
+unfoldable pub rust-evaluate : Float → Float → Float → Float → List ThinFilmLayer → RustResponse
+rust-evaluate n-incident n-substrate angle wavelength layers =
     let snell = n-incident ⊗ sin angle in
-    respond
+    rust-respond
     (solve (product-s snell wavelength identity layers) (eta0-s n-incident (cos angle)) (eta-sub-s snell n-substrate))
     (solve (product-p snell wavelength identity layers) (eta0-p n-incident (cos angle)) (eta-sub-p snell n-substrate))
+
+-- with 02 slip 2's two numbers
+unfoldable pub evaluate : Float → Float → Float → Float → List ThinFilmLayer → CoatingResponse
+evaluate n-incident n-substrate angle wavelength layers = with-absorptance (rust-evaluate n-incident n-substrate angle wavelength layers)
 
 -- ---- CoatingResponse
 -- (R_s + R_p) * 0.5

@@ -4,6 +4,7 @@
 // step_s and step_p for each layer, from the incident medium to the substrate, and calls finish.
 ghost use mathlib.Core.Path.{_≡_};
 ghost use Rattle.thin_film_solver.specs.Solve.{cos-theta-sub, solve, respond, no-response, unpolarized-reflectance, unpolarized-transmittance, dielectric};
+ghost use Rattle.thin_film_solver.specs.Absorptance.{absorptance};
 ghost use Rattle.thin_film_solver.specs.Internal.{incidence, terms-of, film, step-s, step-p, finish};
 use thin_film_complex::Complex;
 use thin_film_matrix::Phase;
@@ -37,7 +38,7 @@ impl ThinFilmLayer {
     }
 }
 
-// Amplitudes, powers and phases of a coating at one wavelength and angle.
+// Amplitudes, powers and phases of a coating at one wavelength and angle, and what stays in the glass.
 pub struct CoatingResponse {
     pub rs: Complex,
     pub rp: Complex,
@@ -49,6 +50,8 @@ pub struct CoatingResponse {
     pub transmittance_p: f64,
     pub phase_rs_rad: f64,
     pub phase_rp_rad: f64,
+    pub absorptance_s: f64,
+    pub absorptance_p: f64,
 }
 
 impl CoatingResponse {
@@ -199,6 +202,13 @@ fn cos_theta_sub(sin_theta_sub: f64) -> Complex
     }
 }
 
+// What is neither reflected nor transmitted.
+fn absorptance(reflectance: f64, transmittance: f64) -> f64
+    ensures { λ r. ⌜ r ≡ absorptance reflectance transmittance ⌝ }
+{
+    ieee::clamp((1.0 - reflectance) - transmittance, 0.0, 1.0)
+}
+
 // The one maker of a response, from the answers for s and for p.
 pub fn respond(s: Polarized, p: Polarized) -> CoatingResponse
     ensures { λ r. ⌜ r ≡ respond s p ⌝ }
@@ -218,6 +228,8 @@ pub fn respond(s: Polarized, p: Polarized) -> CoatingResponse
         transmittance_p: p.transmittance,
         phase_rs_rad: s.phase,
         phase_rp_rad: p.phase,
+        absorptance_s: absorptance(s.reflectance, s.transmittance),
+        absorptance_p: absorptance(p.reflectance, p.transmittance),
     }
 }
 
@@ -234,17 +246,23 @@ pub fn finish(light: Incidence, ms: [[Complex; 2]; 2], mp: [[Complex; 2]; 2]) ->
     respond(s, p)
 }
 
-// Where there is no response: none of its amplitudes, powers and phases.
+// Where there is no response: zero throughout.
 pub fn no_response() -> CoatingResponse
     ensures { λ r. ⌜ r ≡ no-response ⌝ }
 {
     let zero = Complex::zero();
-    let dark = Polarized {
-        r: zero,
-        t: zero,
-        reflectance: 0.0,
-        transmittance: 0.0,
-        phase: 0.0,
-    };
-    respond(dark, dark)
+    CoatingResponse {
+        rs: zero,
+        rp: zero,
+        ts: zero,
+        tp: zero,
+        reflectance_s: 0.0,
+        reflectance_p: 0.0,
+        transmittance_s: 0.0,
+        transmittance_p: 0.0,
+        phase_rs_rad: 0.0,
+        phase_rp_rad: 0.0,
+        absorptance_s: 0.0,
+        absorptance_p: 0.0,
+    }
 }
