@@ -2,4 +2,5 @@
 pub mod Complex
 pub mod Powers
 pub mod Layer
+pub mod InTheGlass
 pub mod Solve

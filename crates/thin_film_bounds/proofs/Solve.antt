@@ -28,11 +28,13 @@ use Rattle.thin_film_complex.specs.declared.Complex.{Complex}
 use Rattle.thin_film_complex.specs.Complex.{real, scale, norm-sq, arg, add, sub, mul}
 use Rattle.thin_film_solver.specs.declared.ThinFilmLayer.{ThinFilmLayer}
 use Rattle.thin_film_matrix.specs.Matrix.{Matrix, identity}
-use Rattle.thin_film_solver.specs.Solve.{eta0-s, eta0-p, least-cos, cos-theta-sub, eta-sub-s, eta-sub-p, product-s, product-p, b-of, c-of, reflection, transmission, reflectance, transmittance, solve, respond, evaluate}
+use Rattle.thin_film_solver.specs.Solve.{eta0-s, eta0-p, least-cos, cos-theta-sub, eta-sub-s, eta-sub-p, product-s, product-p, b-of, c-of, reflection, transmission, reflectance, transmittance, solve, rust-respond, respond, rust-evaluate, evaluate}
+use Rattle.thin_film_solver.specs.Absorptance.{with-absorptance}
 use Rattle.thin_film_bounds.specs.Range.{CPow, Real, MPow}
 use Rattle.thin_film_bounds.specs.Solver.{AdmittedArguments, Bounded, EveryResponseBounded}
 use Rattle.thin_film_bounds.proofs.Complex.{real-in, real-up, mul-real}
 use Rattle.thin_film_bounds.proofs.Powers.{cpow-up, real-pow, cadd-pow, csub-pow, cmul-pow, norm-pow, norm-plus, cdiv-pow, mpow-up, identity-pow}
+use Rattle.thin_film_bounds.proofs.InTheGlass.{absorptance-passes}
 use Rattle.thin_film_bounds.proofs.Layer.{eta-div, product-s-pow, product-p-pow}
 
 -- ---- the amplitudes, from a matrix with entries up to 2 ^ 144
@@ -83,7 +85,7 @@ arg-mag {z = z} h = atan2-mag (z .im) (z .re) (finite-number (z .im) (h .im .fin
 
 response-bounded : (ms mp : Matrix) (e0s es e0p ep : Complex) → MPow 144 ms → MPow 144 mp → Real 1 2 16 0 e0s → Real 7 4 22 0 es → Real 1 2 16 0 e0p → Real 7 4 22 0 ep
     → Bounded (respond (solve ms e0s es) (solve mp e0p ep))
-unfolding respond solve
+unfolding rust-respond with-absorptance respond solve
 response-bounded ms mp e0s es e0p ep MS MP A B C D =
     let rs = reflection-pow ms e0s es MS (real-pow 5 A tt) (real-pow 5 B tt) in
     let rp = reflection-pow mp e0p ep MP (real-pow 5 C tt) (real-pow 5 D tt) in
@@ -100,6 +102,8 @@ response-bounded ms mp e0s es e0p ep MS MP A B C D =
       transmittance-p = transmittance-in C D tp;
       phase-rs = arg-mag rs;
       phase-rp = arg-mag rp;
+      absorptance-s = absorptance-passes (reflectance-in rs) (transmittance-in A B ts);
+      absorptance-p = absorptance-passes (reflectance-in rp) (transmittance-in C D tp);
     }
 
 -- ---- the two ends
@@ -157,7 +161,7 @@ module _ (n0 ns angle w : Float) (layers : List ThinFilmLayer) (g : AdmittedArgu
   p-pow = let f = g .few in mpow-up (product-p-pow (n0 ⊗ sin angle) w snell (g .wavelength-in) 0 identity layers identity-pow (g .admitted) (omega arith)) (omega arith)
 
   bounded : Bounded (evaluate n0 ns angle w layers)
-  unfolding evaluate
+  unfolding respond rust-evaluate evaluate
   bounded =
       response-bounded (product-s (n0 ⊗ sin angle) w identity layers) (product-p (n0 ⊗ sin angle) w identity layers)
       (eta0-s n0 (cos angle)) (eta-sub-s (n0 ⊗ sin angle) ns) (eta0-p n0 (cos angle)) (eta-sub-p (n0 ⊗ sin angle) ns)

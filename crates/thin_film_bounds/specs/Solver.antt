@@ -1,13 +1,14 @@
 -- 01 section 3's limits as ranges of the solver's arguments, a thickness being of either sign; and what holds of its response.
 -- Definitions only; proofs/Solve.antt shows the second of the first.
 use Prim.Native.Nat.{_≤_}
+use mathlib.Core.Bool.{_&&_}
 use mathlib.Core.List.{List, [], _∷_}
 use lib.Dec.{T}
 use lib.ListN.{length}
 use lib.Ieee.{Float, le}
 use lib.Ieee.Scale.{finite}
 use Rattle.ieee.specs.Operators.{_⊗_}
-use Rattle.ieee.specs.Functions.{seven-eighths, abs}
+use Rattle.ieee.specs.Functions.{zero-f, one, seven-eighths, abs}
 use Rattle.ieee.specs.Range.{Mag, In}
 use Rattle.math_trig.specs.Trig.{sin, cos}
 use Rattle.thin_film_solver.specs.declared.ThinFilmLayer.{ThinFilmLayer}
@@ -40,7 +41,11 @@ pub record AdmittedArguments (n-incident n-substrate angle wavelength : Float) (
   pub admitted : AdmittedLayers (n-incident ⊗ sin angle) layers
   pub few : length layers ≤ 16
 
--- every number of the response is finite, and the powers are from 0 to 1
+-- from 0 to 1, a zero of either sign
+abbrev pub FromZeroToOne : Float → Type 0
+FromZeroToOne x = T (le zero-f x && le x one)
+
+-- every number of the response is finite, and the powers and what stays in the glass are from 0 to 1
 pub record Bounded (r : CoatingResponse) : Type 0 where
   pub rs : CPow 411 (r .rs)
   pub rp : CPow 411 (r .rp)
@@ -52,6 +57,8 @@ pub record Bounded (r : CoatingResponse) : Type 0 where
   pub transmittance-p : In 0 0 1 0 (r .«transmittance_p»)
   pub phase-rs : Mag 8 0 (r .«phase_rs_rad»)
   pub phase-rp : Mag 8 0 (r .«phase_rp_rad»)
+  pub absorptance-s : FromZeroToOne (r .«absorptance_s»)
+  pub absorptance-p : FromZeroToOne (r .«absorptance_p»)
 
 abbrev pub EveryResponseBounded : Type 0
 EveryResponseBounded =
