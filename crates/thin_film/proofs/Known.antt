@@ -14,7 +14,8 @@ use Rattle.thin_film.specs.declared.SurfaceCoating.the-variants as S
 use Rattle.thin_film_layers.specs.Evaluation.{ordered}
 use Rattle.thin_film.specs.Coating.{layers-of}
 use Rattle.thin_film_valid.specs.Valid.{valid}
-use Rattle.thin_film.specs.Evaluate.{evaluate-surface}
+use Rattle.thin_film.specs.Evaluate.{rust-evaluate-surface, evaluate-surface}
+use Rattle.thin_film_coating.specs.Evaluate.{evaluate-coating}
 use Rattle.thin_film_coating.proofs.Answers.{solved}
 
 one-passes : finite-positive one ≡ true
@@ -33,7 +34,7 @@ admitted : (wavelength : Float) → finite-positive wavelength ≡ true → vali
 unfolding valid
 admitted wavelength e = simp (one-passes, three-passes, zero-passes, e)
 
--- Custom, no layers, 1 to 3, angle 0, at any wavelength that is admitted: rs = rp = -0.5, ts = tp = 0.5, R = 0.25, T = 0.75, phases π
+-- Custom, no layers, 1 to 3, angle 0, at any wavelength that is admitted: rs = rp = -0.5, ts = tp = 0.5, R = 0.25, T = 0.75, phases π, and nothing stays in the glass
 pub no-layers : (wavelength : Float) → finite-positive wavelength ≡ true → evaluate-surface (S.Custom C.Multilayer) [] one three zero-f wavelength ≡ answer Solved.bare
-unfolding evaluate-surface layers-of ordered Ieee.lt ofBits
+unfolding evaluate-coating rust-evaluate-surface evaluate-surface layers-of ordered Ieee.lt ofBits
 no-layers wavelength e = solved one three zero-f wavelength [] C.Multilayer refl (admitted wavelength e) (lit≤ tt) ∙ ap answer (Solved.no-layers wavelength)

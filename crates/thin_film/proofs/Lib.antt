@@ -1,5 +1,6 @@
--- Known answers, and that both evaluations refuse alike.
+-- Known answers; that both evaluations refuse alike; and what stays in the glass.
 pub mod Known
 pub mod Alike
+pub mod InTheGlass
 pub mod Decimals
 mod Mirror

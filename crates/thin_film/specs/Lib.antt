@@ -1,4 +1,5 @@
 -- Coatings of thin_film.rs as they are ordered; Internal need not be believed.
 pub mod Coating
 pub mod Evaluate
+pub mod Absorptance
 pub mod Internal

@@ -13,13 +13,13 @@ use Rattle.thin_film_layers.specs.Internal.{read-from}
 use Rattle.thin_film_presets.specs.Layers.{broadband-layers, bragg-layers}
 use Rattle.thin_film_coating.specs.declared.Coating.{Coating}
 use Rattle.thin_film_coating.specs.declared.Coating.the-variants as C
-use Rattle.thin_film_coating.specs.Evaluate.{respond, evaluate-coating}
+use Rattle.thin_film_coating.specs.Evaluate.{rust-respond, rust-evaluate-coating, evaluate-coating}
 use Rattle.thin_film_coating.specs.Internal.{prepare}
 use Rattle.thin_film_coating.proofs.Answers.{prepared}
 use Rattle.thin_film.specs.declared.SurfaceCoating.{SurfaceCoating}
 use Rattle.thin_film.specs.declared.SurfaceCoating.the-variants as S
 use Rattle.thin_film.specs.Coating.{coating-of, layers-of, mgf2-layers, mirror-layers}
-use Rattle.thin_film.specs.Evaluate.{evaluate-surface}
+use Rattle.thin_film.specs.Evaluate.{rust-evaluate-surface, evaluate-surface}
 use Rattle.thin_film.specs.Internal.{own-layers, count-beside}
 use borrow.Author.Needs.{needs}
 use Rattle.thin_film.proofs.reading.prepare_surface.Statement.{statement}
@@ -37,14 +37,14 @@ alike (S.Custom c) layers count e = ap (λ (n : ℕ). leb n 64) e
 module _ (reversed : Bool) (n-incident n-substrate angle wavelength : Float) (layers : List ThinFilmLayer) where
   -- an ideal coating ignores the list
   ideal : (k : Coating) → evaluate-coating k (ordered reversed layers) n-incident n-substrate angle wavelength ≡ evaluate-coating k (ordered reversed (layers-of (S.Custom k) layers)) n-incident n-substrate angle wavelength
-  unfolding evaluate-coating respond layers-of
+  unfolding rust-respond rust-evaluate-coating evaluate-coating layers-of
   ideal C.IdealAr = refl
   ideal C.IdealMirror = refl
   ideal C.IdealBeamsplitter = refl
   ideal C.Multilayer = refl
 
   same : (s : SurfaceCoating) → evaluate-coating (coating-of s) (ordered reversed (own-layers s layers)) n-incident n-substrate angle wavelength ≡ evaluate-coating (coating-of s) (ordered reversed (layers-of s layers)) n-incident n-substrate angle wavelength
-  unfolding evaluate-coating respond layers-of own-layers
+  unfolding rust-respond rust-evaluate-coating evaluate-coating layers-of own-layers
   same (S.MgF2 design) = refl
   same S.BroadbandAr = refl
   same S.HighReflectanceMirror = refl
@@ -54,7 +54,7 @@ module _ (reversed : Bool) (n-incident n-substrate angle wavelength : Float) (la
 comes-to : (n-incident n-substrate angle wavelength : Float) (s : SurfaceCoating) (k : Coating) (count beside : ℕ) (p r : Prepared) → k ≡ coating-of s → beside ≡ count-beside s count
     → p ≡ prepare k (lt n-substrate n-incident) beside n-incident n-substrate angle wavelength → ((layers : List ThinFilmLayer) → read-from r layers ≡ read-from p (own-layers s layers))
     → (layers : List ThinFilmLayer) → length layers ≡ count → read-from r layers ≡ evaluate-surface s layers n-incident n-substrate angle wavelength
-unfolding evaluate-surface
+unfolding evaluate-coating rust-evaluate-surface evaluate-surface
 comes-to n-incident n-substrate angle wavelength s k count beside p r k-is b-is p-is r-is layers e =
     r-is layers
     ∙ prepared n-incident n-substrate angle wavelength (lt n-substrate n-incident) (own-layers s layers) (count-beside s count) (alike s layers count e) (coating-of s) p
