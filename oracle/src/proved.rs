@@ -60,7 +60,7 @@ fn evaluations() -> Vec<Option<Work>> {
         let flat: Vec<f64> = layers().iter().take(count).flatten().copied().collect();
         let places = places();
         Some(Box::new(move || {
-            let mut list = [0.0; 14];
+            let mut list = [0.0; 16];
             let transmitted = |at: &crate::bench::Place| {
                 let at = [at.n_incident, at.n_substrate, at.angle, at.wavelength];
                 linked_evaluate(code, 550.0, at, &flat, &mut list);
@@ -127,7 +127,7 @@ fn compare_evaluate(seed: u64, count: u64, spoiled: Option<u64>) -> u64 {
         let float = |i: usize| f64::from_bits(words[i]);
         let flat: Vec<f64> = (7..words.len()).map(float).collect();
         let at = [float(2), float(3), float(4), float(5)];
-        let mut list = [0.0; 14];
+        let mut list = [0.0; 16];
         let returned = linked_evaluate(words[0] as u32, float(1), at, &flat, &mut list);
         let mut ours = vec![returned >> 32];
         match returned >> 32 {
@@ -136,7 +136,7 @@ fn compare_evaluate(seed: u64, count: u64, spoiled: Option<u64>) -> u64 {
         }
         let mut theirs = function.record(words.clone()).results;
         theirs[0] ^= u64::from(spoiled == Some(made));
-        if ours != theirs || (ours[0] == 0 && returned != 14) {
+        if ours != theirs || (ours[0] == 0 && returned != 16) {
             if different == 0 {
                 println!("evaluate: arguments {words:X?}, Rust {theirs:X?}, proved {ours:X?}");
             }

@@ -2,6 +2,7 @@
 
 use crate::reference::polarization::{JonesMatrix, JonesVector, MuellerMatrix, StokesVector};
 use crate::reference::thin_film::{CoatingResponse, Complex, ThinFilmLayer};
+use crate::section2::clamp;
 use std::io::{self, Read};
 
 /// The one NaN of results.
@@ -16,11 +17,16 @@ pub fn bits(x: f64) -> u64 {
     }
 }
 
-/// A response's numbers in their order.
-pub fn numbers(r: &CoatingResponse) -> [f64; 14] {
+/// What stays in the glass (document 02, slip 2): (1 - R) - T, clamped to 0..1; a NaN stays NaN.
+pub fn absorptance(reflectance: f64, transmittance: f64) -> f64 {
+    clamp((1.0 - reflectance) - transmittance, 0.0, 1.0)
+}
+
+/// A response's numbers in their order: the Rust's, and at the end the two of slip 2.
+pub fn numbers(r: &CoatingResponse) -> [f64; 16] {
     let z = [r.rs, r.rp, r.ts, r.tp].map(|z| [z.re, z.im]);
     let z = z.as_flattened();
-    let mut list = [0.0; 14];
+    let mut list = [0.0; 16];
     list[..8].copy_from_slice(z);
     list[8..].copy_from_slice(&[
         r.reflectance_s,
@@ -29,6 +35,8 @@ pub fn numbers(r: &CoatingResponse) -> [f64; 14] {
         r.transmittance_p,
         r.phase_rs_rad,
         r.phase_rp_rad,
+        absorptance(r.reflectance_s, r.transmittance_s),
+        absorptance(r.reflectance_p, r.transmittance_p),
     ]);
     list
 }
@@ -152,8 +160,9 @@ impl<'a> Arguments<'a> {
         (0..self.int()).map(|_| layer(self.floats())).collect()
     }
 
+    /// The Rust's response; it has no place for the last two numbers.
     pub fn response(&mut self) -> CoatingResponse {
-        CoatingResponse {
+        let response = CoatingResponse {
             rs: self.complex(),
             rp: self.complex(),
             ts: self.complex(),
@@ -164,7 +173,9 @@ impl<'a> Arguments<'a> {
             transmittance_p: self.float(),
             phase_rs_rad: self.float(),
             phase_rp_rad: self.float(),
-        }
+        };
+        let _: [f64; 2] = self.floats();
+        response
     }
 
     pub fn jones_vector(&mut self) -> JonesVector {

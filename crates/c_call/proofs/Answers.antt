@@ -25,19 +25,19 @@ module _ (a : Answers) where
     with-response : surface-answered a .numbers ≡ common a ++ response-numbers (a .response)
     with-response = ap (λ (b : Bool). common a ++ cond b (response-numbers (a .response)) []) coated
 
-    coated-length : length (surface-answered a .numbers) ≡ 67
+    coated-length : length (surface-answered a .numbers) ≡ 69
     coated-length = ap length with-response
 
-    pub coated-short : (list : List Float) → length list < 67 → done 0x8_0000_0000 list ≡ written (surface-answered a) list
-    coated-short list h = too-short (surface-answered a) list 67 coated-length h
+    pub coated-short : (list : List Float) → length list < 69 → done 0x8_0000_0000 list ≡ written (surface-answered a) list
+    coated-short list h = too-short (surface-answered a) list 69 coated-length h
 
-    pub coated-whole : (list l₁ l₂ numbers : List Float) → 67 ≤ length list → l₁ ≡ common a ++ drop 53 list → numbers ≡ response-numbers (a .response)
-        → l₂ ≡ take 53 l₁ ++ numbers ++ drop (53 + length numbers) l₁ → done 67 l₂ ≡ written (surface-answered a) list
+    pub coated-whole : (list l₁ l₂ numbers : List Float) → 69 ≤ length list → l₁ ≡ common a ++ drop 53 list → numbers ≡ response-numbers (a .response)
+        → l₂ ≡ take 53 l₁ ++ numbers ++ drop (53 + length numbers) l₁ → done 69 l₂ ≡ written (surface-answered a) list
     coated-whole list l₁ l₂ numbers h e₁ en e₂ =
         let f : Front list l₁ (common a) 53 = record { count = refl; is = e₁ } in
-        let g = more list l₁ (common a) 53 f numbers 14 (ap length en) l₂ e₂ in
-        enough (surface-answered a) list l₂ 67 coated-length coated-length h
-        (g .is ∙ ap (λ (z : List Float). common a ++ z ++ drop 67 list) en ∙ ap (λ (z : List Float). z ++ drop 67 list) (sym with-response))
+        let g = more list l₁ (common a) 53 f numbers 16 (ap length en) l₂ e₂ in
+        enough (surface-answered a) list l₂ 69 coated-length coated-length h
+        (g .is ∙ ap (λ (z : List Float). common a ++ z ++ drop 69 list) en ∙ ap (λ (z : List Float). z ++ drop 69 list) (sym with-response))
 
   module _ (bare : a .coated ≡ false) where
     without : surface-answered a .numbers ≡ common a

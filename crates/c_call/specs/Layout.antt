@@ -13,18 +13,22 @@ use Rattle.surface.specs.declared.Powers.{Powers}
 use Rattle.surface.specs.declared.Answers.{Answers}
 use Rattle.c_call.specs.Call.{Reply, reply, counted}
 
--- rs, rp, ts, tp as re, im; R_s, R_p, T_s, T_p; the phases of rs and rp. A later request puts two numbers more at the end
-abbrev pub response-numbers : CoatingResponse → List Float
-response-numbers r =
+-- the Rust's fields: rs, rp, ts, tp as re, im; R_s, R_p, T_s, T_p; the phases of rs and rp
+abbrev pub rust-numbers : CoatingResponse → List Float
+rust-numbers r =
     r .rs .re ∷ r .rs .im ∷ r .rp .re ∷ r .rp .im ∷ r .ts .re ∷ r .ts .im ∷ r .tp .re ∷ r .tp .im
     ∷ r .«reflectance_s» ∷ r .«reflectance_p» ∷ r .«transmittance_s» ∷ r .«transmittance_p»
     ∷ r .«phase_rs_rad» ∷ r .«phase_rp_rad» ∷ []
+
+-- and 02 slip 2's two numbers at the end: what stays in the glass, of s and of p
+abbrev pub response-numbers : CoatingResponse → List Float
+response-numbers r = rust-numbers r ++ r .«absorptance_s» ∷ r .«absorptance_p» ∷ []
 
 -- dihkelu_start, dihkelu_step: s, p
 abbrev pub both : ℕ → Float → Float → Reply
 both returned s p = reply returned (s ∷ p ∷ [])
 
--- dihkelu_evaluate: 14 numbers
+-- dihkelu_evaluate: 16 numbers
 abbrev pub evaluated : CoatingResponse → Reply
 evaluated r = counted (response-numbers r)
 
@@ -55,6 +59,6 @@ abbrev pub common : Answers → List Float
 common a = head a ++ jones-numbers (a .reflection) ++ jones-numbers (a .transmission) ++ mueller-numbers (a .«reflection_mueller») ++
     mueller-numbers (a .«transmission_mueller»)
 
--- dihkelu_answers: and last, of a coated surface alone, the response: 67 numbers
+-- dihkelu_answers: and last, of a coated surface alone, the response: 69 numbers
 abbrev pub surface-answered : Answers → Reply
 surface-answered a = counted (common a ++ cond (a .coated) (response-numbers (a .response)) [])

@@ -52,7 +52,7 @@ pub fn put_powers(returned: u64, s: f64, p: f64, list: &mut [f64]) -> u64
 
 // ---- a response
 
-fn response(r: CoatingResponse) -> [f64; 14]
+fn response(r: CoatingResponse) -> [f64; 16]
     ensures { λ n. ⌜ n ≡ response-numbers r ⌝ }
 {
     let rs = r.rs;
@@ -74,6 +74,8 @@ fn response(r: CoatingResponse) -> [f64; 14]
         r.transmittance_p,
         r.phase_rs_rad,
         r.phase_rp_rad,
+        r.absorptance_s,
+        r.absorptance_p,
     ]
 }
 
@@ -82,7 +84,7 @@ pub fn put_response(r: CoatingResponse, list: &mut [f64]) -> u64
     ensures { λ n. ⌜ done n (now (list .exit)) ≡ written (evaluated r) (now (list .entry)) ⌝ }
 {
     let numbers = response(r);
-    put(14, &numbers, list)
+    put(16, &numbers, list)
 }
 
 // ---- a surface's answers
@@ -172,13 +174,13 @@ pub fn put_answers(a: Answers, list: &mut [f64]) -> u64
     ensures { λ n. ⌜ done n (now (list .exit)) ≡ written (surface-answered a) (now (list .entry)) ⌝ }
 {
     if a.coated {
-        if list.len() < 67 {
+        if list.len() < 69 {
             return 0x8_0000_0000;
         }
         place_common(a, list);
         let numbers = response(a.response);
         place(53, &numbers, list);
-        67
+        69
     } else {
         if list.len() < 53 {
             return 0x8_0000_0000;

@@ -9,6 +9,7 @@ use lib.ListN.{length}
 use lib.Ieee.{Float, lt}
 use Rattle.refusal.specs.Outcome.{Outcome, answer, refusal, invalid-parameter, too-many-layers, map}
 use Rattle.thin_film_solver.specs.declared.ThinFilmLayer.{ThinFilmLayer}
+use Rattle.thin_film_solver.specs.Absorptance.{with-absorptance}
 use Rattle.thin_film_solver.specs.Solve as Solve
 use Rattle.thin_film_coating.specs.declared.Coating.{Coating}
 use Rattle.thin_film_coating.specs.declared.Coating.the-variants as C
@@ -16,8 +17,8 @@ use Rattle.thin_film.specs.declared.SurfaceCoating.{SurfaceCoating}
 use Rattle.thin_film.specs.Coating.{coating-of, layers-of}
 use Rattle.thin_film_layers.specs.Evaluation.{ordered}
 use Rattle.thin_film_valid.specs.Valid.{valid}
-use Rattle.thin_film_coating.specs.Evaluate.{respond, evaluate-coating}
-use Rattle.thin_film.specs.Evaluate.{evaluate-surface}
+use Rattle.thin_film_coating.specs.Evaluate.{rust-respond, rust-evaluate-coating, evaluate-coating}
+use Rattle.thin_film.specs.Evaluate.{rust-evaluate-surface, evaluate-surface}
 use Rattle.gate_limits.specs.declared.Interface.{Interface}
 use Rattle.gate_limits.specs.declared.Interface.the-variants.{Bare, Coated}
 use Rattle.c_layers.specs.Evaluate.{layers, call-coating, evaluate-coded, evaluate}
@@ -36,19 +37,19 @@ module _ {A : Type 0} where
   mapped f (refusal number place) h = h
 
 module _ (n-incident n-substrate angle wavelength : Float) where
-  responds : (coating : Coating) (ls : List ThinFilmLayer) → Plain (respond coating ls n-incident n-substrate angle wavelength)
-  unfolding respond
+  responds : (coating : Coating) (ls : List ThinFilmLayer) → Plain (rust-respond coating ls n-incident n-substrate angle wavelength)
+  unfolding rust-respond
   responds C.IdealAr ls = tt
   responds C.IdealMirror ls = tt
   responds C.IdealBeamsplitter ls = tt
-  responds C.Multilayer ls = either (leb (length ls) 64) (answer (Solve.evaluate n-incident n-substrate angle wavelength ls)) too-many-layers tt (omega arith, refl)
+  responds C.Multilayer ls = either (leb (length ls) 64) (answer (Solve.rust-evaluate n-incident n-substrate angle wavelength ls)) too-many-layers tt (omega arith, refl)
 
   of-coating : (coating : Coating) (ls : List ThinFilmLayer) → Plain (evaluate-coating coating ls n-incident n-substrate angle wavelength)
-  unfolding evaluate-coating
-  of-coating coating ls = either (valid n-incident n-substrate angle wavelength) (respond coating ls n-incident n-substrate angle wavelength) invalid-parameter (responds coating ls) (omega arith, refl)
+  unfolding rust-evaluate-coating evaluate-coating
+  of-coating coating ls = mapped with-absorptance _ (either (valid n-incident n-substrate angle wavelength) (rust-respond coating ls n-incident n-substrate angle wavelength) invalid-parameter (responds coating ls) (omega arith, refl))
 
   pub of-surface : (s : SurfaceCoating) (ls : List ThinFilmLayer) → Plain (evaluate-surface s ls n-incident n-substrate angle wavelength)
-  unfolding evaluate-surface
+  unfolding evaluate-coating rust-evaluate-surface evaluate-surface
   of-surface s ls = of-coating (coating-of s) (ordered (lt n-substrate n-incident) (layers-of s ls))
 
   of-coded : (k : Interface) (flat : List Float) → Plain (evaluate-coded k flat n-incident n-substrate angle wavelength)

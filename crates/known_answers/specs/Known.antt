@@ -40,6 +40,7 @@ pub record KnownAnswers : Type 0 where
   -- 1 / 2^-47 = 0
   pub guarded-quotient : div (real one) (real (ofBits binary64 0x3D00_0000_0000_0000)) ≡ zero
   -- Custom, no layers, 1 to 3, angle 0, at every wavelength that is admitted: rs = rp = -0.5, ts = tp = 0.5, R = 0.25, T = 0.75, phases π
+  -- (and 02 slip 2's two numbers, +0)
   pub no-layers : (wavelength : Float) → finite-positive wavelength ≡ true →
       evaluate-surface (S.Custom C.Multilayer) [] one three zero-f wavelength ≡ answer (record {
         rs = real minus-half;
@@ -52,6 +53,8 @@ pub record KnownAnswers : Type 0 where
         «transmittance_p» = three-quarters;
         «phase_rs_rad» = pi;
         «phase_rp_rad» = pi;
+        «absorptance_s» = zero-f;
+        «absorptance_p» = zero-f;
       })
   -- fresnel_dielectric(1,1,3) = (0.25,0.25); (0,1,1) = (1,1)
   pub straight : fresnel-dielectric one one three ≡ record { rs = quarter; rp = quarter }

@@ -14,6 +14,7 @@ use Rattle.ieee.specs.Functions.{zero-f, one, finite-positive}
 use Rattle.refusal.specs.Outcome.{Outcome, answer, refusal, map, bind, invalid-parameter, too-many-layers}
 use Rattle.thin_film_solver.specs.declared.ThinFilmLayer.{ThinFilmLayer}
 use Rattle.thin_film_solver.specs.declared.CoatingResponse.{CoatingResponse}
+use Rattle.thin_film_solver.specs.Absorptance.{with-absorptance}
 use Rattle.thin_film_solver.specs.Solve as Solve
 use Rattle.thin_film_layers.specs.Evaluation.{ordered, no-layer}
 use Rattle.thin_film_valid.specs.Valid.{valid}
@@ -23,15 +24,15 @@ use Rattle.thin_film_coating.specs.declared.Coating.the-variants as C
 use Rattle.thin_film_coating.specs.declared.Layers.{Layers}
 use Rattle.thin_film_coating.specs.declared.Built as Declared
 use Rattle.thin_film_coating.specs.Coating as Built
-use Rattle.thin_film_coating.specs.Evaluate.{respond, evaluate-coating}
+use Rattle.thin_film_coating.specs.Evaluate.{rust-respond, rust-evaluate-coating, evaluate-coating}
 use Rattle.thin_film.specs.declared.SurfaceCoating.{SurfaceCoating}
 use Rattle.thin_film.specs.declared.SurfaceCoating.the-variants as S
 use Rattle.thin_film.specs.Coating.{coating-of, layers-of, to-coating}
-use Rattle.thin_film.specs.Evaluate.{evaluate-surface}
 use Rattle.thin_film_grammar.specs.Claim as Gives
 use Rattle.thin_film_shorthand.specs.Stack.{stack}
 use Rattle.thin_film_shorthand.specs.Claim as Shorthand
 use Rattle.thin_film_shorthand.proofs.Claim.{shorthand}
+use Rattle.thin_film.specs.Evaluate.{rust-evaluate-surface, evaluate-surface}
 use Rattle.polarization.specs.Surface.{indices-valid, surface-fresnel-jones}
 use Rattle.name_bytes.specs.Ascii.{first-over}
 use Rattle.name_coating.specs.Name.{from-format-name}
@@ -219,28 +220,28 @@ unlawful = record { n-incident = zero-f; n-substrate = one; angle = zero-f; wave
 
 module _ (n : Numbers) where
   coating-only : (coating : Coating) (layers : List ThinFilmLayer) → Only (1 ∷ 3 ∷ []) (evaluate-coating coating layers (n .n-incident) (n .n-substrate) (n .angle) (n .wavelength))
-  unfolding evaluate-coating respond
+  unfolding rust-evaluate-coating evaluate-coating rust-respond
   coating-only coating layers =
-      either (1 ∷ 3 ∷ []) (valid (n .n-incident) (n .n-substrate) (n .angle) (n .wavelength)) (respond coating layers (n .n-incident) (n .n-substrate) (n .angle) (n .wavelength)) invalid-parameter (responds coating) tt
+      mapped (1 ∷ 3 ∷ []) with-absorptance _ (either (1 ∷ 3 ∷ []) (valid (n .n-incident) (n .n-substrate) (n .angle) (n .wavelength)) (rust-respond coating layers (n .n-incident) (n .n-substrate) (n .angle) (n .wavelength)) invalid-parameter (responds coating) tt)
     where
-      responds : (c : Coating) → Only (1 ∷ 3 ∷ []) (respond c layers (n .n-incident) (n .n-substrate) (n .angle) (n .wavelength))
+      responds : (c : Coating) → Only (1 ∷ 3 ∷ []) (rust-respond c layers (n .n-incident) (n .n-substrate) (n .angle) (n .wavelength))
       responds C.IdealAr = tt
       responds C.IdealMirror = tt
       responds C.IdealBeamsplitter = tt
-      responds C.Multilayer = either (1 ∷ 3 ∷ []) (leb (length layers) 64) (answer (Solve.evaluate (n .n-incident) (n .n-substrate) (n .angle) (n .wavelength) layers)) too-many-layers tt tt
+      responds C.Multilayer = either (1 ∷ 3 ∷ []) (leb (length layers) 64) (answer (Solve.rust-evaluate (n .n-incident) (n .n-substrate) (n .angle) (n .wavelength) layers)) too-many-layers tt tt
 
 sixty-five : List ThinFilmLayer
 sixty-five = replicate 65 no-layer
 
 of-coating : Refuses (λ (x : Coating × (List ThinFilmLayer × Numbers)). let n = x .1 .1 in evaluate-coating (x .0) (x .1 .0) (n .n-incident) (n .n-substrate) (n .angle) (n .wavelength)) (1 ∷ 3 ∷ [])
-unfolding sixty-five evaluate-coating respond valid finite-positive Ieee.lt ofBits Ieee.le
+unfolding sixty-five rust-evaluate-coating evaluate-coating rust-respond valid finite-positive Ieee.lt ofBits Ieee.le
 of-coating = record {
   only = λ x. coating-only (x .1 .1) (x .0) (x .1 .0);
   each = (((C.IdealAr, ([], unlawful)), (0, refl)), (((C.Multilayer, (sixty-five, lit)), (0, refl)), tt));
 }
 
 of-surface-coating : Refuses (λ (x : SurfaceCoating × (List ThinFilmLayer × Numbers)). let n = x .1 .1 in evaluate-surface (x .0) (x .1 .0) (n .n-incident) (n .n-substrate) (n .angle) (n .wavelength)) (1 ∷ 3 ∷ [])
-unfolding sixty-five evaluate-surface evaluate-coating respond valid layers-of ordered finite-positive Ieee.lt ofBits Ieee.le
+unfolding sixty-five rust-evaluate-surface evaluate-surface rust-evaluate-coating evaluate-coating rust-respond valid layers-of ordered finite-positive Ieee.lt ofBits Ieee.le
 of-surface-coating = record {
   only = λ x. let n = x .1 .1 in coating-only n (coating-of (x .0)) (ordered (lt (n .n-substrate) (n .n-incident)) (layers-of (x .0) (x .1 .0)));
   each = (((S.IdealAr, ([], unlawful)), (0, refl)), (((S.Custom C.Multilayer, (sixty-five, lit)), (0, refl)), tt));

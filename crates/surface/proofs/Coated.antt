@@ -14,7 +14,7 @@ use Rattle.ieee.specs.Functions.{half}
 use Rattle.ieee.specs.Range.{In}
 use Rattle.ieee.proofs.Range.Laws.{in-mag, in-up, mag-up, neg-mag}
 use Rattle.ieee.proofs.Range.FromZero.{in-positive}
-use Rattle.ieee.proofs.Range.Falls.{in-zero-to-one, to-tests}
+use Rattle.ieee.proofs.Range.Falls.{zero-to-one, in-zero-to-one, to-tests}
 use Rattle.ieee.proofs.Range.Constants.{zero-mag, zero-foot, half-in, one-in, one-mag}
 use Rattle.math_root.specs.Root.{sqrt}
 use Rattle.math_root.proofs.Range.{sqrt-in}
@@ -23,6 +23,7 @@ use Rattle.math_trig.specs.Trig.{sin}
 use Rattle.refusal.specs.Outcome.{Outcome, answer}
 use Rattle.thin_film_solver.specs.declared.ThinFilmLayer.{ThinFilmLayer}
 use Rattle.thin_film_solver.specs.declared.CoatingResponse.{CoatingResponse}
+use Rattle.thin_film_solver.specs.Absorptance.{with-absorptance}
 use Rattle.thin_film_solver.specs.Solve as Solve
 use Rattle.thin_film_coating.specs.declared.Coating.{Coating}
 use Rattle.thin_film_coating.specs.declared.Coating.the-variants as C
@@ -33,16 +34,17 @@ use Rattle.thin_film_layers.specs.Evaluation.{ordered}
 use Rattle.thin_film_presets.specs.Layers.{broadband-layers, bragg-layers}
 use Rattle.thin_film_valid.specs.Valid.{valid}
 use Rattle.thin_film_valid.specs.Ideal.{ideal-ar, ideal-mirror, ideal-beamsplitter}
-use Rattle.thin_film_coating.specs.Evaluate.{respond, evaluate-coating}
-use Rattle.thin_film.specs.Evaluate.{evaluate-surface}
+use Rattle.thin_film_coating.specs.Evaluate.{rust-respond, rust-evaluate-coating, evaluate-coating}
+use Rattle.thin_film.specs.Evaluate.{rust-evaluate-surface, evaluate-surface}
 use Rattle.polarization.specs.Surface.{surface-coating-jones}
 use Rattle.thin_film_bounds.specs.Solver.{AdmittedLayers, Bounded}
 use Rattle.thin_film_bounds.proofs.Powers.{zero-pow, cpow-up}
+use Rattle.thin_film_bounds.proofs.InTheGlass.{absorptance-passes}
 use Rattle.thin_film_bounds.proofs.Solve.{every-response-bounded}
 use Rattle.gate_limits.specs.declared.Surface.{Surface}
 use Rattle.surface.specs.Answers.{coated-powers}
 use Rattle.gate_limits.specs.Limits.{within, layers-pass}
-use Rattle.surface.specs.Finite.{UnitPowers, FiniteResponse}
+use Rattle.surface.specs.Finite.{UnitPowers, FiniteResponse, UnitAbsorptances}
 use Rattle.gate_limits.proofs.Ranges.{layers-in, Inside}
 use Rattle.surface.proofs.Polarized.{PowerJones, cpow-finite, of-real-pow, diattenuator-pow}
 
@@ -88,7 +90,7 @@ root-half : In 1 1 1 0 (sqrt half)
 root-half = sqrt-in half-in tt
 
 ideal-ar-bounded : Bounded ideal-ar
-unfolding Solve.respond
+unfolding Solve.rust-respond with-absorptance
 ideal-ar-bounded = record {
   rs = zero-pow 411;
   rp = zero-pow 411;
@@ -100,10 +102,12 @@ ideal-ar-bounded = record {
   transmittance-p = in-up one-in tt;
   phase-rs = mag-up zero-mag tt;
   phase-rp = mag-up zero-mag tt;
+  absorptance-s = absorptance-passes zero-foot (in-up one-in tt);
+  absorptance-p = absorptance-passes zero-foot (in-up one-in tt);
 }
 
 ideal-mirror-bounded : Bounded ideal-mirror
-unfolding Solve.respond
+unfolding Solve.rust-respond with-absorptance
 ideal-mirror-bounded = record {
   rs = of-real-pow 411 (neg-mag one-mag) tt;
   rp = of-real-pow 411 one-mag tt;
@@ -115,10 +119,12 @@ ideal-mirror-bounded = record {
   transmittance-p = zero-foot;
   phase-rs = mag-up pi-mag tt;
   phase-rp = mag-up zero-mag tt;
+  absorptance-s = absorptance-passes (in-up one-in tt) zero-foot;
+  absorptance-p = absorptance-passes (in-up one-in tt) zero-foot;
 }
 
 ideal-beamsplitter-bounded : Bounded ideal-beamsplitter
-unfolding Solve.respond
+unfolding Solve.rust-respond with-absorptance
 ideal-beamsplitter-bounded = record {
   rs = of-real-pow 411 (in-mag root-half) tt;
   rp = of-real-pow 411 (in-mag root-half) tt;
@@ -130,6 +136,8 @@ ideal-beamsplitter-bounded = record {
   transmittance-p = in-up half-in tt;
   phase-rs = mag-up zero-mag tt;
   phase-rp = mag-up zero-mag tt;
+  absorptance-s = absorptance-passes (in-up half-in tt) (in-up half-in tt);
+  absorptance-p = absorptance-passes (in-up half-in tt) (in-up half-in tt);
 }
 
 -- ---- evaluate refuses nothing
@@ -144,7 +152,7 @@ module _ (n0 ns angle w : Float) (N : In 1 0 4 0 n0) (M : In 1 0 4 0 ns) (f : T 
   valid-here = simp (in-positive N tt, in-positive M tt, is-true (finite angle) f, in-positive W tt)
 
   coating-responds : (coating : Coating) (layers : List ThinFilmLayer) → length layers ≤ 16 → Bounded (Solve.evaluate n0 ns angle w layers) → Responds (evaluate-coating coating layers n0 ns angle w)
-  unfolding evaluate-coating respond
+  unfolding rust-respond rust-evaluate-coating evaluate-coating Solve.evaluate
   coating-responds C.IdealAr layers few b = record { value = ideal-ar; is = rw valid-here; bounded = ideal-ar-bounded }
   coating-responds C.IdealMirror layers few b = record { value = ideal-mirror; is = rw valid-here; bounded = ideal-mirror-bounded }
   coating-responds C.IdealBeamsplitter layers few b = record { value = ideal-beamsplitter; is = rw valid-here; bounded = ideal-beamsplitter-bounded }
@@ -157,7 +165,7 @@ module _ (n0 ns angle w : Float) (N : In 1 0 4 0 n0) (M : In 1 0 4 0 ns) (f : T 
 pub surface-responds : (s : Surface) (w : Float) (coating : SurfaceCoating) (layers : List ThinFilmLayer) → Inside s → In 100 0 10000 0 w
     → T (layers-pass (s .«n_incident») (s .«angle_rad») (layers-of coating [])) → T (layers-pass (s .«n_incident») (s .«angle_rad») layers) → length layers ≤ 16
     → Responds (evaluate-surface coating layers (s .«n_incident») (s .«n_substrate») (s .«angle_rad») w)
-unfolding evaluate-surface
+unfolding evaluate-coating rust-evaluate-surface evaluate-surface
 surface-responds s w coating layers h W p t few =
     let n0 = s .«n_incident» in
     let ns = s .«n_substrate» in
@@ -190,7 +198,13 @@ bounded-finite h = record {
   transmittance-p = in-mag (h .transmittance-p) .fine;
   phase-rs = h .phase-rs .fine;
   phase-rp = h .phase-rp .fine;
+  absorptance-s = zero-to-one _ (h .absorptance-s) .mag .fine;
+  absorptance-p = zero-to-one _ (h .absorptance-p) .mag .fine;
 }
+
+pub bounded-absorptances : {r : CoatingResponse} → Bounded r → UnitAbsorptances r
+unfolding within
+bounded-absorptances h = record { absorptance-s = h .absorptance-s; absorptance-p = h .absorptance-p }
 
 pub bounded-jones : {r : CoatingResponse} → Bounded r → PowerJones (surface-coating-jones r)
 unfolding surface-coating-jones

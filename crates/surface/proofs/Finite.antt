@@ -10,9 +10,9 @@ use lib.Ieee.Fits.{and-l, and-r, and-i}
 use Rattle.ieee.specs.Operators.{_⊗_}
 use Rattle.ieee.specs.Functions.{zero-f, one}
 use Rattle.ieee.specs.Range.{In}
-use Rattle.ieee.proofs.Range.Constants.{zero-mag}
+use Rattle.ieee.proofs.Range.Constants.{zero-mag, zero-foot}
 use Rattle.ieee.proofs.Range.Falls as Falls
-use Rattle.ieee.proofs.Range.Falls.{zero-to-one, product-unit, product-cross, sum-le, to-tests}
+use Rattle.ieee.proofs.Range.Falls.{zero-to-one, in-zero-to-one, product-unit, product-cross, sum-le, to-tests}
 use Rattle.thin_film_complex.specs.Complex.{zero}
 use Rattle.refusal.specs.Outcome.{answer, map}
 use Rattle.thin_film_solver.specs.declared.ThinFilmLayer.{ThinFilmLayer}
@@ -25,23 +25,24 @@ use Rattle.gate_limits.specs.declared.Interface.the-variants.{Bare, Coated}
 use Rattle.surface.specs.declared.Powers.{Powers}
 use Rattle.gate_limits.specs.Coating.{interface, preset-layers}
 use Rattle.gate_limits.specs.Limits.{within, layers-pass, surface-passes, passes}
-use Rattle.thin_film_solver.specs.Solve.{respond, no-response}
+use Rattle.thin_film_solver.specs.Solve.{no-response}
 use Rattle.surface.specs.Answers.{assembled, coated-powers, coated-answers, bare-powers, bare-answers, answers-of, answers}
-use Rattle.surface.specs.Finite.{UnitPowers, FiniteComplex, FiniteResponse, Answered, EverySurfaceAnswered, ProductFalls, SumFalls}
+use Rattle.surface.specs.Finite.{UnitPowers, FiniteComplex, FiniteResponse, UnitAbsorptances, Answered, EverySurfaceAnswered, ProductFalls, SumFalls}
 use Rattle.gate_limits.proofs.Ranges.{wavelength-in, Inside, surface-in}
 use Rattle.surface.proofs.Polarized.{PowerJones, jones-finite, mueller-finite}
 use Rattle.surface.proofs.Bare.{bare-unit, bare-jones}
-use Rattle.surface.proofs.Coated.{surface-responds, bounded-powers, bounded-finite, bounded-jones}
+use Rattle.surface.proofs.Coated.{surface-responds, bounded-powers, bounded-finite, bounded-absorptances, bounded-jones}
 
 -- ---- from the parts of an answer
 assembled-answered : (w : Float) (s : Surface) (layers : List ThinFilmLayer) (coated : Bool) (powers : Powers) (response : CoatingResponse) (jones : SurfaceJones)
-    → answers w s layers ≡ answer (assembled coated powers response jones) → UnitPowers powers → FiniteResponse response → PowerJones jones → Answered w s layers
+    → answers w s layers ≡ answer (assembled coated powers response jones) → UnitPowers powers → FiniteResponse response → UnitAbsorptances response → PowerJones jones → Answered w s layers
 unfolding assembled
-assembled-answered w s layers coated powers response jones e p r j = record {
+assembled-answered w s layers coated powers response jones e p r u j = record {
   value = assembled coated powers response jones;
   is = e;
   powers = p;
   response = r;
+  absorptances = u;
   reflection = jones-finite (j .reflection);
   transmission = jones-finite (j .transmission);
   reflection-mueller = mueller-finite (j .reflection);
@@ -53,7 +54,6 @@ zero-finite : FiniteComplex zero
 zero-finite = record { re = zero-mag .fine; im = zero-mag .fine }
 
 none-finite : FiniteResponse no-response
-unfolding respond
 none-finite = record {
   rs = zero-finite;
   rp = zero-finite;
@@ -65,7 +65,13 @@ none-finite = record {
   transmittance-p = zero-mag .fine;
   phase-rs = zero-mag .fine;
   phase-rp = zero-mag .fine;
+  absorptance-s = zero-mag .fine;
+  absorptance-p = zero-mag .fine;
 }
+
+none-unit : UnitAbsorptances no-response
+unfolding within
+none-unit = let z = to-tests (in-zero-to-one zero-foot) in record { absorptance-s = z; absorptance-p = z }
 
 -- ---- by what lies between the media
 by-interface : (i : Interface) (w : Float) (s : Surface) (layers : List ThinFilmLayer) → interface (s .coating) ≡ i → Inside s → In 100 0 10000 0 w
@@ -73,11 +79,11 @@ by-interface : (i : Interface) (w : Float) (s : Surface) (layers : List ThinFilm
 unfolding answers-of bare-answers coated-answers
 by-interface Bare w s layers e h W p t few =
     let j = bare-jones s h in
-    assembled-answered w s layers false (bare-powers s) no-response (j .value) (ap (λ (i : Interface). answers-of i w s layers) e ∙ ap (map (assembled false (bare-powers s) no-response)) (j .is)) (bare-unit s h) none-finite (j .pow)
+    assembled-answered w s layers false (bare-powers s) no-response (j .value) (ap (λ (i : Interface). answers-of i w s layers) e ∙ ap (map (assembled false (bare-powers s) no-response)) (j .is)) (bare-unit s h) none-finite none-unit (j .pow)
 by-interface (Coated coating) w s layers e h W p t few =
     let r = surface-responds s w coating layers h W p t few in
     assembled-answered w s layers true (coated-powers (r .value)) (r .value) (surface-coating-jones (r .value)) (ap (λ (i : Interface). answers-of i w s layers) e ∙ ap (map coated-answers) (r .is))
-    (bounded-powers (r .bounded)) (bounded-finite (r .bounded)) (bounded-jones (r .bounded))
+    (bounded-powers (r .bounded)) (bounded-finite (r .bounded)) (bounded-absorptances (r .bounded)) (bounded-jones (r .bounded))
 
 pub every-surface-answered : EverySurfaceAnswered
 unfolding passes

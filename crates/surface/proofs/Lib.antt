@@ -5,3 +5,4 @@ pub mod Coated
 pub mod Finite
 pub mod Returned
 pub mod Alone
+pub mod InTheGlass

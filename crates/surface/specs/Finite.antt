@@ -43,6 +43,9 @@ pub record FiniteResponse (r : CoatingResponse) : Type 0 where
   pub transmittance-p : Finite (r .«transmittance_p»)
   pub phase-rs : Finite (r .«phase_rs_rad»)
   pub phase-rp : Finite (r .«phase_rp_rad»)
+  -- 02 slip 2: 'on an admitted sheet they are finite too'
+  pub absorptance-s : Finite (r .«absorptance_s»)
+  pub absorptance-p : Finite (r .«absorptance_p»)
 
 -- an entry that is not there is a NaN, so all four and all sixteen are there
 abbrev pub FiniteJones : JonesMatrix → Type 0
@@ -58,12 +61,18 @@ pub record UnitPowers (p : Powers) : Type 0 where
   pub transmittance-s : T (power-passes (p .«transmittance_s»))
   pub transmittance-p : T (power-passes (p .«transmittance_p»))
 
+-- ---- and so is what stays in the glass
+pub record UnitAbsorptances (r : CoatingResponse) : Type 0 where
+  pub absorptance-s : T (power-passes (r .«absorptance_s»))
+  pub absorptance-p : T (power-passes (r .«absorptance_p»))
+
 -- ---- a surface is answered, and with such numbers
 pub record Answered (wavelength : Float) (s : Surface) (layers : List ThinFilmLayer) : Type 0 where
   pub value : Answers
   pub is : answers wavelength s layers ≡ answer value
   pub powers : UnitPowers (value .powers)
   pub response : FiniteResponse (value .response)
+  pub absorptances : UnitAbsorptances (value .response)
   pub reflection : FiniteJones (value .reflection)
   pub transmission : FiniteJones (value .transmission)
   pub reflection-mueller : FiniteMueller (value .«reflection_mueller»)

@@ -41,6 +41,8 @@ response src = record {
   «transmittance_p» = float src 11;
   «phase_rs_rad» = float src 12;
   «phase_rp_rad» = float src 13;
+  «absorptance_s» = float src 14;
+  «absorptance_p» = float src 15;
 }
 
 -- ---- an answer
@@ -57,4 +59,4 @@ of-response r =
     (parts (r .rp)
     (parts (r .ts)
     (parts (r .tp) (r .«reflectance_s» ∷ r .«reflectance_p» ∷ r .«transmittance_s» ∷ r .«transmittance_p» ∷ r .«phase_rs_rad» ∷
-    r .«phase_rp_rad» ∷ []))))
+    r .«phase_rp_rad» ∷ r .«absorptance_s» ∷ r .«absorptance_p» ∷ []))))

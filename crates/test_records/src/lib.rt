@@ -83,7 +83,7 @@ pub fn jones_at(b: &[u8], i: usize) -> JonesMatrix
     }
 }
 
-// The response in the first fourteen words.
+// The response in the first sixteen words.
 pub fn response_at(b: &[u8]) -> CoatingResponse
     ensures { λ r. ⌜ r ≡ response (now (b .entry)) ⌝ }
 {
@@ -101,6 +101,8 @@ pub fn response_at(b: &[u8]) -> CoatingResponse
         transmittance_p: powers.d,
         phase_rs_rad: float_at(b, 12),
         phase_rp_rad: float_at(b, 13),
+        absorptance_s: float_at(b, 14),
+        absorptance_p: float_at(b, 15),
     }
 }
 
@@ -193,7 +195,7 @@ fn of_jones(j: JonesMatrix) -> [f64; 8]
 }
 
 // The floats of a response, in the order of its fields.
-fn of_response(r: CoatingResponse) -> [f64; 14]
+fn of_response(r: CoatingResponse) -> [f64; 16]
     ensures { λ w. ⌜ w ≡ of-response r ⌝ }
 {
     let rs = r.rs;
@@ -215,6 +217,8 @@ fn of_response(r: CoatingResponse) -> [f64; 14]
         r.transmittance_p,
         r.phase_rs_rad,
         r.phase_rp_rad,
+        r.absorptance_s,
+        r.absorptance_p,
     ]
 }
 

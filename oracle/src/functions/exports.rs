@@ -5,7 +5,7 @@ use crate::arguments::Arg::{self, *};
 use crate::arguments::Style;
 use crate::functions::thin_film::surface_coating;
 use crate::functions::{shorthand, Function};
-use crate::record::{Arguments, Words};
+use crate::record::{absorptance, Arguments, Words};
 use crate::reference::thin_film::{CoatingResponse, ThinFilmLayer};
 use crate::section2;
 use crate::sheet::{gate, Refusal};
@@ -16,7 +16,7 @@ use crate::values::Rng;
 const BEFORE: f64 = -7.25;
 
 /// Lengths of a list at the ends of what a response and the answers of a surface need.
-pub const ROOMS: [u64; 12] = [0, 13, 14, 15, 52, 53, 54, 66, 67, 67, 67, 70];
+pub const ROOMS: [u64; 12] = [0, 15, 16, 17, 52, 53, 54, 68, 69, 69, 69, 72];
 
 /// Lengths of a list about what stacks need.
 pub const STACK_ROOMS: [u64; 10] = [0, 2, 3, 5, 6, 44, 45, 191, 192, 200];
@@ -50,6 +50,10 @@ fn response(r: &CoatingResponse) -> Vec<f64> {
     list.extend([r.reflectance_s, r.reflectance_p]);
     list.extend([r.transmittance_s, r.transmittance_p]);
     list.extend([r.phase_rs_rad, r.phase_rp_rad]);
+    list.extend([
+        absorptance(r.reflectance_s, r.transmittance_s),
+        absorptance(r.reflectance_p, r.transmittance_p),
+    ]);
     list
 }
 

@@ -14,16 +14,16 @@ fn bytes(list: &[f64]) -> Vec<u8> {
 
 const PLACE: [f64; 4] = [1.0, 1.5, 0.3, 550.0];
 
-/// What a call returns; a refusal must leave every byte, an answer every byte past its 14 numbers.
+/// What a call returns; a refusal must leave every byte, an answer every byte past its 16 numbers.
 fn returned(code: u32, at: [f64; 4], flat: &[f64], count: usize) -> u64 {
     let mut list = lent(count);
     let before = bytes(&list);
     let returned = linked_evaluate(code, 550.0, at, flat, &mut list);
     let after = bytes(&list);
     if returned >> 32 == 0 {
-        assert_eq!(returned, 14);
-        assert_ne!(after[..14 * 8], before[..14 * 8]);
-        assert_eq!(after[14 * 8..], before[14 * 8..]);
+        assert_eq!(returned, 16);
+        assert_ne!(after[..16 * 8], before[..16 * 8]);
+        assert_eq!(after[16 * 8..], before[16 * 8..]);
     } else {
         assert_eq!(returned & 0xFFFF_FFFF, 0);
         assert_eq!(after, before);
@@ -35,7 +35,7 @@ fn returned(code: u32, at: [f64; 4], flat: &[f64], count: usize) -> u64 {
 fn lists_of_every_length() {
     for code in 1..=8 {
         for count in 0..40 {
-            let expected = if count < 14 { 8 } else { 0 };
+            let expected = if count < 16 { 8 } else { 0 };
             assert_eq!(returned(code, PLACE, &[1.38, 0.0, 99.6], count), expected);
         }
     }
@@ -44,7 +44,7 @@ fn lists_of_every_length() {
 #[test]
 fn refusals_in_their_order() {
     let wrong = [f64::NAN, 1.5, 0.3, 550.0];
-    for count in [0, 13, 14, 20] {
+    for count in [0, 15, 16, 20] {
         for code in [0, 9, 16, 261, u32::MAX] {
             assert_eq!(returned(code, PLACE, &[], count), 1);
         }
@@ -57,10 +57,10 @@ fn refusals_in_their_order() {
         for length in [195, 198, 3_000] {
             assert_eq!(returned(5, PLACE, &vec![1.5; length], count), 3);
             assert_eq!(returned(5, wrong, &vec![1.5; length], count), 1);
-            let ignored = if count < 14 { 8 } else { 0 };
+            let ignored = if count < 16 { 8 } else { 0 };
             assert_eq!(returned(4, PLACE, &vec![1.5; length], count), ignored);
         }
-        let most = if count < 14 { 8 } else { 0 };
+        let most = if count < 16 { 8 } else { 0 };
         assert_eq!(returned(5, PLACE, &[1.5; 192], count), most);
     }
 }

@@ -35,6 +35,7 @@ fn no_layers() {
     assert_eq!([r.reflectance_s, r.reflectance_p], [0.25; 2]);
     assert_eq!([r.transmittance_s, r.transmittance_p], [0.75; 2]);
     assert_eq!([r.phase_rs_rad, r.phase_rp_rad], [PI; 2]);
+    assert_eq!(numbers(&r)[14..].iter().map(|x| bits(*x)).sum::<u64>(), 0);
 }
 
 #[test]

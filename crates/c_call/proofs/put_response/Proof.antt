@@ -8,7 +8,7 @@ use Rattle.c_call.proofs.put_response.Statement.{statement}
 use Rattle.c_call.proofs.put_response.Tie as tie
 
 returns : tie.Need-returns
-returns c = c .before .before .put .ensures ∙ ap (λ (z : List Float). written (reply 14 z) (c .before .before .before .before .before .before .before .args .list .now)) (c .before .before .before .before .before .response .ensures)
+returns c = c .before .before .put .ensures ∙ ap (λ (z : List Float). written (reply 16 z) (c .before .before .before .before .before .before .before .args .list .now)) (c .before .before .before .before .before .response .ensures)
 
 pub put-response-spec : {M : Type 1} → statement M
 put-response-spec = tie.close (tie.spec (λ c κs. search needs) (λ c. search needs) (λ c κs. search needs) (λ c. search needs) returns)
