@@ -83,7 +83,7 @@ extern "C" {
 
 /* ---- the version: major × 2^16 + minor. A program can hold the header it was compiled with against the library */
 
-#define DIHKELU_VERSION 0x00000001u
+#define DIHKELU_VERSION 0x00000002u
 DIHKELU_MUST_USE uint32_t dihkelu_version(void);
 
 /* ---- what a call returned, taken apart */
@@ -126,11 +126,11 @@ DIHKELU_MUST_USE static inline int dihkelu_environment_ok(void) {
 
 /* ---- the calls */
 
-/* How many doubles are written by dihkelu_evaluate, by dihkelu_answers for a bare surface, and for a coated one. A
- * later request may put two numbers more at the end of a response: go by the count that is returned. */
-#define DIHKELU_RESPONSE 14
+/* How many doubles are written by dihkelu_evaluate, by dihkelu_answers for a bare surface, and for a coated one. Up to
+ * version 0.1 a response had 14, without what stays in the glass at its end: go by the count that is returned. */
+#define DIHKELU_RESPONSE 16
 #define DIHKELU_BARE 53
-#define DIHKELU_COATED 67
+#define DIHKELU_COATED 69
 
 /* The gate. Returns the count of surfaces; refuses with 4, 5, 6. */
 DIHKELU_MUST_USE uint64_t dihkelu_gate(const uint8_t *sheet, size_t sheet_count);
@@ -154,7 +154,7 @@ DIHKELU_MUST_USE uint64_t dihkelu_run(const uint8_t *sheet, size_t sheet_count, 
  *   13 to 20  the same of the transmitted light
  *   21 to 36  the Mueller matrix of the reflected light, row after row
  *   37 to 52  the same of the transmitted light
- *   53 to 66  of a coated surface alone: its response, as dihkelu_evaluate writes it */
+ *   53 to 68  of a coated surface alone: its response, as dihkelu_evaluate writes it */
 DIHKELU_MUST_USE uint64_t dihkelu_answers(const uint8_t *sheet, size_t sheet_count, uint32_t surface, double *list,
                                           size_t list_count);
 
@@ -164,7 +164,8 @@ DIHKELU_MUST_USE uint64_t dihkelu_answers(const uint8_t *sheet, size_t sheet_cou
  * equal). Returns how many doubles it wrote; refuses with 1, 3, 8. In order:
  *    0 to 7   rs, rp, ts, tp, each re, im
  *    8 to 11  R_s, R_p, T_s, T_p
- *   12, 13    the phases of rs and rp in radians */
+ *   12, 13    the phases of rs and rp in radians
+ *   14, 15    what stays in the glass of s and of p: (1 - R) - T, from 0 to 1 */
 DIHKELU_MUST_USE uint64_t dihkelu_evaluate(uint32_t code, double design_wavelength_nm, double n_incident,
                                            double n_substrate, double angle_incident_rad, double wavelength_nm,
                                            const double *layers, size_t layers_count, double *list,

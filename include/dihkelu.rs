@@ -54,7 +54,7 @@ extern "C" {
 }
 
 /// The version that these declarations are of: major × 2^16 + minor.
-pub const VERSION: u32 = 0x0000_0001;
+pub const VERSION: u32 = 0x0000_0002;
 
 /// The library's version.
 pub fn version() -> u32 {
@@ -62,9 +62,9 @@ pub fn version() -> u32 {
 }
 
 /// How many numbers `evaluate` writes, and `answers` for a bare and for a coated surface.
-pub const RESPONSE: usize = 14;
+pub const RESPONSE: usize = 16;
 pub const BARE: usize = 53;
-pub const COATED: usize = 67;
+pub const COATED: usize = 69;
 
 /// The most numbers that `stack` writes: 64 layers of 3.
 pub const STACK: usize = 192;

@@ -109,8 +109,8 @@ static void sheet_calls(const uint8_t *bytes, size_t size) {
         if (l.count >= need && r != gate) wrong("run", "another number than the gate's", r);
         leave("run", l, r, may | (refused ? 0 : BIT(8)), need);
     }
-    static const size_t around[] = {0, 1, 52, 53, 54, 66, 67, 68, 69};
-    for (int i = 0; i < 9; i++) {
+    static const size_t around[] = {0, 1, 52, 53, 54, 66, 67, 68, 69, 70};
+    for (int i = 0; i < 10; i++) {
         uint32_t surface = below(8) == 0 ? (uint32_t)draw() : (uint32_t)below(surfaces + 1);
         List l = lend(around[i]), full = lend(DIHKELU_COATED);
         uint64_t r = dihkelu_answers(sheet, size, surface, (double *)l.now, l.count);
@@ -173,8 +173,8 @@ static void evaluate_calls(void) {
     double *layers = block(8 * n);
     for (size_t i = 0; i < n; i++) layers[i] = any();
     uint32_t code = below(8) ? (uint32_t)below(10) : (uint32_t)draw();
-    static const size_t around[] = {0, 13, 14, 15, 20};
-    List l = lend(around[below(5)]);
+    static const size_t around[] = {0, 14, 15, 16, 17, 20};
+    List l = lend(around[below(6)]);
     uint64_t r = dihkelu_evaluate(code, any(), any(), any(), any(), any(), layers, n, (double *)l.now, l.count);
     if (n % 3 != 0 && dihkelu_refusal(r) != 1) wrong("evaluate", "no 1 for layers that are no multiple of 3", r);
     if ((code == 0 || code > 8) && dihkelu_refusal(r) != 1) wrong("evaluate", "no 1 for an unknown code", r);

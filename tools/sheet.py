@@ -419,19 +419,39 @@ def answered(program, data):
     return name, output[:-1]
 
 
+STATE = re.compile(r"([0-9]+) ([TR]) ([0-9A-F]{16}) ([0-9A-F]{16})")
+
+
+def alone(wavelength, surface, reflected, program):
+    """The part of s and of p that one surface reflects or transmits: what is left of a beam of 1 and 1."""
+    sheet = Sheet()
+    sheet.beam = {"floats": [wavelength, 1.0, 1.0], "line": None}
+    sheet.surfaces = [{**surface, "reflected": reflected}]
+    name, output = answered(program, sheet.bytes())
+    line = STATE.fullmatch(output[0])
+    if not line:
+        raise Wrong(f"{name} gave no answer: it printed something else than a train's lines")
+    return number("0x" + line[3]), number("0x" + line[4])
+
+
+def stays(wavelength, surface, program):
+    """What stays in the glass of s and of p (document 02, slip 2): (1 - R) - T, clamped to 0..1."""
+    both = zip(alone(wavelength, surface, 1, program), alone(wavelength, surface, 0, program))
+    return [min(max((1 - r) - t, 0.0), 1.0) for r, t in both]
+
+
 def losses(sheet, data, program):
     name, output = answered(program, data)
     refused = re.fullmatch(r"refused ([0-9]+) ([0-9]+)", output[0])
     if refused:
         number_, place = int(refused[1]), int(refused[2])
         raise Wrong(f"refused {number_} {place}: {explain(number_, place, sheet, data)}")
-    state = re.compile(r"([0-9]+) ([TR]) ([0-9A-F]{16}) ([0-9A-F]{16})")
-    lines = [state.fullmatch(line) for line in output[:-1]]
+    lines = [STATE.fullmatch(line) for line in output[:-1]]
     total = re.fullmatch(r"sum ([0-9A-F]{16})", output[-1])
     if not sheet or not total or None in lines or len(lines) != len(sheet.surfaces):
         raise Wrong(f"{name} gave no answer: it printed something else than a train's lines")
-    rows = [["", "surface", "follows", "s lost %", "p lost %", "lost %", "left of the beam %"]]
-    _, s, p = sheet.beam["floats"]
+    rows = [["", "surface", "follows", "s lost %", "p lost %", "lost %", "stays in the glass %", "left of the beam %"]]
+    wavelength, s, p = sheet.beam["floats"]
     start = s + p
     for surface, line in zip(sheet.surfaces, lines):
         new_s, new_p = number("0x" + line[3]), number("0x" + line[4])
@@ -439,8 +459,11 @@ def losses(sheet, data, program):
         called = f"{COATINGS[surface['coating']]} {n0:g} to {n1:g} at {math.degrees(angle):.2f} deg"
         if surface["layers"]:
             called += f", {counted(len(surface['layers']), 'layer')}"
-        lost = (s + p) - (new_s + new_p)
-        rows.append([line[1], called, DIRECTIONS[line[2] == "R"], percent(s - new_s, s), percent(p - new_p, p), percent(lost, s + p), percent(new_s + new_p, start)])
+        lost, kept = (s + p) - (new_s + new_p), "-"  # a bare surface has no response
+        if COATINGS[surface["coating"]] != "bare":
+            stays_s, stays_p = stays(wavelength, surface, program)
+            kept = percent(s * stays_s + p * stays_p, s + p)
+        rows.append([line[1], called, DIRECTIONS[line[2] == "R"], percent(s - new_s, s), percent(p - new_p, p), percent(lost, s + p), kept, percent(new_s + new_p, start)])
         s, p = new_s, new_p
     widths = [max(len(row[i]) for row in rows) for i in range(len(rows[0]))]
     text = ""

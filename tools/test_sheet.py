@@ -183,12 +183,22 @@ class Losses(unittest.TestCase):
         """Powers whose sum rounds up after a surface that loses nothing, and any that a surface takes by less than is shown."""
         text = "beam 500 nm s 0.1 p 0.7\n" + 3 * "surface ideal-ar transmitted from 1 to 1 at 0 deg\n"
         status, out, _ = losses(text)
-        self.assertEqual((status, b"-0.0000" in out, out.count(b"  0.0000")), (0, False, 9))
+        self.assertEqual((status, b"-0.0000" in out, out.count(b"  0.0000")), (0, False, 12))
         # a program that gives back a little more, as no proved one does
         more = f"1 T {bits(math.nextafter(0.5, 1))} {bits(0.5)}"
         fake = shlex.join(["printf", f"{more}\\nsum {bits(1.0000000000000002)}\\n"])
         status, out, _ = losses(KNOWN_SHEET, fake)
         self.assertEqual((status, b"-0.0000" in out), (0, False), out)
+
+    def test_stays_in_the_glass(self):
+        """Of a coated surface the light that is neither reflected nor transmitted, as a part of what came to it; of a bare one nothing."""
+        fake = shlex.join(["printf", f"1 T {bits(0.25)} {bits(0.375)}\\nsum {bits(0.625)}\\n"])  # R and T alike, of s and of p
+        _, out, _ = losses(BEAM + CUSTOM, fake)
+        self.assertEqual(out.decode().splitlines()[1].split()[-2:], ["37.5000", "62.5000"])
+        _, out, _ = losses(KNOWN_SHEET)
+        self.assertEqual(out.decode().splitlines()[1].split()[-2:], ["-", "75.0000"])
+        _, out, _ = losses(BEAM + "surface ideal-beamsplitter reflected from 1 to 2 at 0 rad\n")
+        self.assertEqual(out.decode().splitlines()[1].split()[-2:], ["0.0000", "50.0000"])
 
     def test_one_layer_is_no_plural(self):
         _, out, _ = losses(BEAM + CUSTOM + LAYER)

@@ -46,7 +46,7 @@ module _ (n-incident n-substrate angle wavelength : Float) where
 
   of-coating : (coating : Coating) (ls : List ThinFilmLayer) → Plain (evaluate-coating coating ls n-incident n-substrate angle wavelength)
   unfolding rust-evaluate-coating evaluate-coating
-  of-coating coating ls = mapped with-absorptance _ (either (valid n-incident n-substrate angle wavelength) (rust-respond coating ls n-incident n-substrate angle wavelength) invalid-parameter (responds coating ls) (omega arith, refl))
+  of-coating coating ls = mapped with-absorptance (rust-evaluate-coating coating ls n-incident n-substrate angle wavelength) (either (valid n-incident n-substrate angle wavelength) (rust-respond coating ls n-incident n-substrate angle wavelength) invalid-parameter (responds coating ls) (omega arith, refl))
 
   pub of-surface : (s : SurfaceCoating) (ls : List ThinFilmLayer) → Plain (evaluate-surface s ls n-incident n-substrate angle wavelength)
   unfolding evaluate-coating rust-evaluate-surface evaluate-surface

@@ -25,7 +25,7 @@ use train_steps::TrainReply;
 pub extern "C" fn dihkelu_version() -> u32
     ensures { λ r. ⌜ r ≡ version ⌝ }
 {
-    0x0000_0001
+    0x0000_0002
 }
 
 // ---- a coated surface

@@ -222,7 +222,7 @@ module _ (n : Numbers) where
   coating-only : (coating : Coating) (layers : List ThinFilmLayer) → Only (1 ∷ 3 ∷ []) (evaluate-coating coating layers (n .n-incident) (n .n-substrate) (n .angle) (n .wavelength))
   unfolding rust-evaluate-coating evaluate-coating rust-respond
   coating-only coating layers =
-      mapped (1 ∷ 3 ∷ []) with-absorptance _ (either (1 ∷ 3 ∷ []) (valid (n .n-incident) (n .n-substrate) (n .angle) (n .wavelength)) (rust-respond coating layers (n .n-incident) (n .n-substrate) (n .angle) (n .wavelength)) invalid-parameter (responds coating) tt)
+      mapped (1 ∷ 3 ∷ []) with-absorptance (rust-evaluate-coating coating layers (n .n-incident) (n .n-substrate) (n .angle) (n .wavelength)) (either (1 ∷ 3 ∷ []) (valid (n .n-incident) (n .n-substrate) (n .angle) (n .wavelength)) (rust-respond coating layers (n .n-incident) (n .n-substrate) (n .angle) (n .wavelength)) invalid-parameter (responds coating) tt)
     where
       responds : (c : Coating) → Only (1 ∷ 3 ∷ []) (rust-respond c layers (n .n-incident) (n .n-substrate) (n .angle) (n .wavelength))
       responds C.IdealAr = tt

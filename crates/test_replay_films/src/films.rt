@@ -137,7 +137,7 @@ fn outcome_out(out: &mut [u64; 256], b: Built) -> usize {
 fn response_out(out: &mut [u64; 256], r: CoatingResponse) -> usize {
     out[0] = 0;
     test_records::write_response(out, 1, r);
-    15
+    17
 }
 
 fn evaluation_out(out: &mut [u64; 256], e: Evaluation) -> usize {

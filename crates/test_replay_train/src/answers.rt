@@ -15,7 +15,7 @@ fn powers_out(out: &mut [u64; 256], r: Powers) {
 
 // The matrices, from a place on; how many words there are then.
 fn matrices_out(out: &mut [u64; 256], at: usize, a: Answers) -> usize
-    requires { ⌜ at ≤ 16 ⌝ }
+    requires { ⌜ at ≤ 18 ⌝ }
 {
     let reflection = a.reflection;
     let transmission = a.transmission;
@@ -35,7 +35,7 @@ pub fn answers_out(out: &mut [u64; 256], a: Answers) -> usize {
         out[1] = 1;
         let response = a.response;
         test_records::write_response(out, 2, response);
-        matrices_out(out, 16, a)
+        matrices_out(out, 18, a)
     } else {
         out[1] = 0;
         let powers = a.powers;

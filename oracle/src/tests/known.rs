@@ -1,7 +1,7 @@
 // 01's known answers and wrong turns, over the original with section 2's meanings.
 
 use crate::functions::names::{from_format_name, names, trim};
-use crate::record::bits;
+use crate::record::{absorptance, bits, numbers};
 use crate::reference::fresnel::{fresnel_dielectric, schlick_approx};
 use crate::reference::polarization::{
     surface_coating_jones, surface_fresnel_jones, JonesMatrix, JonesVector, MuellerMatrix,
@@ -35,7 +35,16 @@ fn no_layers() {
     assert_eq!([r.reflectance_s, r.reflectance_p], [0.25; 2]);
     assert_eq!([r.transmittance_s, r.transmittance_p], [0.75; 2]);
     assert_eq!([r.phase_rs_rad, r.phase_rp_rad], [PI; 2]);
-    assert_eq!(numbers(&r)[14..].iter().map(|x| bits(*x)).sum::<u64>(), 0);
+    assert_eq!(numbers(&r)[14..].to_vec(), [0.0; 2]);
+}
+
+#[test]
+fn what_stays_in_the_glass() {
+    let words = [(0.3, 0.6), (1.0, 1.0), (-1.0, 0.0)].map(|(r, t)| absorptance(r, t).to_bits());
+    assert_eq!(words, [0x3FB9_9999_9999_9998, 0, 1_f64.to_bits()]);
+    for x in [0.0, 1.0, f64::INFINITY, f64::NAN] {
+        assert!(absorptance(x, f64::NAN).is_nan() && absorptance(f64::NAN, x).is_nan());
+    }
 }
 
 #[test]
