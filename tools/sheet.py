@@ -460,7 +460,7 @@ def losses(sheet, data, program):
         if surface["layers"]:
             called += f", {counted(len(surface['layers']), 'layer')}"
         lost, kept = (s + p) - (new_s + new_p), "-"  # a bare surface has no response
-        if COATINGS[surface["coating"]] != "bare":
+        if COATINGS[surface["coating"]] != "bare" and s + p:
             stays_s, stays_p = stays(wavelength, surface, program)
             kept = percent(s * stays_s + p * stays_p, s + p)
         rows.append([line[1], called, DIRECTIONS[line[2] == "R"], percent(s - new_s, s), percent(p - new_p, p), percent(lost, s + p), kept, percent(new_s + new_p, start)])
