@@ -1,12 +1,12 @@
 -- What 02 slip 2 says of a response's two numbers. Assumes nothing.
-use mathlib.Core.Path.{_≡_, refl, ap}
+use mathlib.Core.Path.{_≡_, refl}
 use lib.Ieee as Ieee
 use lib.Ieee.{Float, nan, inf, fin, binary64, ofBits}
-use Rattle.ieee.specs.Functions.{zero-f, one, clamp}
+use Rattle.ieee.specs.Functions.{one, clamp}
 use Rattle.ieee.specs.Operators.{_⊖_}
 use Rattle.thin_film_solver.specs.Absorptance.{absorptance, with-absorptance, AbsorptanceClaim}
 
--- a NaN stays NaN: as a transmittance beside 1 - R, which is zero, finite or infinite
+-- a NaN stays NaN, whatever it is taken from
 beside-nan : (x : Float) → Ieee.sub binary64 x nan ≡ nan
 unfolding Ieee.sub Ieee.add Ieee.neg
 beside-nan nan = refl
@@ -15,7 +15,7 @@ beside-nan (fin s m e) = refl
 
 nan-t : (r : Float) → absorptance r nan ≡ nan
 unfolding absorptance clamp Ieee.lt ofBits
-nan-t r = ap (λ (x : Float). clamp x zero-f one) (beside-nan (one ⊖ r))
+nan-t r = rw (beside-nan (one ⊖ r)) refl
 
 nan-r : (t : Float) → absorptance nan t ≡ nan
 unfolding absorptance clamp Ieee.lt Ieee.sub Ieee.add Ieee.neg ofBits
