@@ -9,8 +9,8 @@ use crate::reference::polarization::{
 };
 
 const RESPONSE: &[Arg] = &[
-    Part, Part, Part, Part, Part, Part, Part, Part, Power, Power, Power, Power, Angle, Angle, Power,
-    Power,
+    Part, Part, Part, Part, Part, Part, Part, Part, Power, Power, Power, Power, Angle, Angle,
+    Power, Power,
 ];
 const MATRIX_AND_STOKES: &[Arg] = &[
     Part, Part, Part, Part, Part, Part, Part, Part, Part, Part, Part, Part, Part, Part, Part, Part,

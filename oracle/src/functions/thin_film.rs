@@ -90,8 +90,8 @@ fn explicit(code: u64, layers: &[ThinFilmLayer]) -> usize {
 }
 
 const RESPONSE: &[Arg] = &[
-    Part, Part, Part, Part, Part, Part, Part, Part, Power, Power, Power, Power, Angle, Angle, Power,
-    Power,
+    Part, Part, Part, Part, Part, Part, Part, Part, Power, Power, Power, Power, Angle, Angle,
+    Power, Power,
 ];
 
 pub fn table() -> Vec<Function> {
