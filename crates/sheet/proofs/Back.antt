@@ -11,25 +11,25 @@ use lib.ListN.{length}
 use borrow.Author.Tests.{eqb-true}
 use Rattle.sheet.specs.Words.{kind, payload}
 use Rattle.sheet.specs.Blocks.{Block, All, GoodBlock, InGrammar}
-use Rattle.sheet.specs.Sheet.{SheetLayer, layer, SheetSurface, Sheet, Pattern, GoodLayer, GoodSurface, WellFormed, kind-word, block, layer-block, surface-block, layers-blocks, surfaces-blocks, end-block, blocks}
+use Rattle.sheet.specs.Sheet.{SheetLayer, layer, cauchy, SheetSurface, Sheet, Pattern, GoodLayer, GoodSurface, WellFormed, kind-word, block, layer-block, surface-block, layers-blocks, surfaces-blocks, end-block, blocks}
 use Rattle.sheet.specs.Read.{floats-after, Standing, at-open, at-beam, among, ended, layers-after, may, after, may-end, sheet-grammar}
-use Rattle.sheet.proofs.KindWords.{Made, made-of, Comes, comes-surface, comes-layer, comes-end, comes, after-surface, after-layer, after-end}
-use Rattle.sheet.proofs.Forward.{In}
+use Rattle.sheet.proofs.KindWords.{Made, made-of, either, Comes, comes-surface, comes-layer, comes-cauchy, comes-end, comes, after-surface, after-layer, after-end}
+use Rattle.sheet.proofs.Forward.{In, small-edition}
 
 -- ---- what stands after BEAM, a SURFACE or a layer
-pub record Among (done most : ℕ) (bs : List Block) : Type 0 where
+pub record Among (edition done most : ℕ) (bs : List Block) : Type 0 where
   pub layers : List SheetLayer
   pub surfaces : List SheetSurface
   pub is : bs ≡ layers-blocks layers (surfaces-blocks surfaces (end-block (done + length surfaces) ∷ []))
-  pub good-layers : All GoodLayer layers
+  pub good-layers : All (GoodLayer edition) layers
   pub fit : length layers ≤ most
-  pub good : All GoodSurface surfaces
+  pub good : All (GoodSurface edition) surfaces
   pub few : done + length surfaces ≤ 64
 
 abbrev After : Standing → List Block → Type 0
 After at-open bs = Unit
-After at-beam bs = Unit
-After (among done most) bs = done ≤ 64 → Among done most bs
+After (at-beam edition) bs = Unit
+After (among edition done most) bs = done ≤ 64 → Among edition done most bs
 After ended bs = bs ≡ []
 
 -- ---- floats of a made block by their number
@@ -39,6 +39,10 @@ three (a ∷ []) l h = absurd (omega arith)
 three (a ∷ b ∷ []) l h = absurd (omega arith)
 three (a ∷ b ∷ c ∷ []) l h = (a, b, c, refl, (h .0, (h .1 .0, h .1 .1 .0)))
 three (a ∷ b ∷ c ∷ d ∷ fs) l h = absurd (omega arith)
+
+four : (fs : List ℕ) → length fs ≡ 4 → All Pattern fs → (a b c d : ℕ) × (fs ≡ a ∷ b ∷ c ∷ d ∷ []) × (Pattern a × (Pattern b × (Pattern c × Pattern d)))
+four [] l h = absurd (omega arith)
+four (a ∷ fs) l h = let t = three fs (omega arith) (h .1) in (a, t .0, t .1, t .2, ap (λ (z : List ℕ). a ∷ z) (t .3), (h .0, t .4))
 
 none : (fs : List ℕ) → length fs ≡ 0 → fs ≡ []
 none [] l = refl
@@ -53,8 +57,8 @@ few-custom p ls = by (eqb (p / 2) 5) refl ls
     by false e [] le = (omega arith, inl refl)
     by false e (l ∷ ls) le = absurd (omega arith)
 
-module _ (done : ℕ) (b : Block) (bs : List Block) (g : GoodBlock sheet-grammar b) where
-  surface-on : (most : ℕ) → kind (b .word) ≡ 3 → payload (b .word) ≤ 15 → Among (suc done) (layers-after (payload (b .word))) bs → Among done most (b ∷ bs)
+module _ (edition done : ℕ) (b : Block) (bs : List Block) (g : GoodBlock sheet-grammar b) where
+  surface-on : (most : ℕ) → kind (b .word) ≡ 3 → payload (b .word) ≤ 15 → Among edition (suc done) (layers-after (payload (b .word))) bs → Among edition done most (b ∷ bs)
   unfolding floats-after layers-blocks surfaces-blocks
   surface-on most k p a =
       let m = made-of b 3 g k in
@@ -73,7 +77,7 @@ module _ (done : ℕ) (b : Block) (bs : List Block) (g : GoodBlock sheet-grammar
       count : (n : ℕ) → suc done + n ≡ done + suc n
       count n = omega arith
 
-  layer-on : (most : ℕ) → kind (b .word) ≡ 4 → 0 < most → payload (b .word) ≡ 0 → Among done (most - 1) bs → Among done most (b ∷ bs)
+  layer-on : (most : ℕ) → kind (b .word) ≡ 4 → 0 < most → payload (b .word) ≡ 0 → Among edition done (most - 1) bs → Among edition done most (b ∷ bs)
   unfolding floats-after layers-blocks
   layer-on most k r p a =
       let m = made-of b 4 g k in
@@ -88,7 +92,22 @@ module _ (done : ℕ) (b : Block) (bs : List Block) (g : GoodBlock sheet-grammar
         few = a .few;
       }
 
-  end-on : (most : ℕ) → done ≤ 64 → kind (b .word) ≡ 5 → payload (b .word) ≡ done → bs ≡ [] → Among done most (b ∷ bs)
+  cauchy-on : (most : ℕ) → edition ≡ 2 → kind (b .word) ≡ 6 → 0 < most → payload (b .word) ≡ 0 → Among edition done (most - 1) bs → Among edition done most (b ∷ bs)
+  unfolding floats-after layers-blocks
+  cauchy-on most e k r p a =
+      let m = made-of b 6 g k in
+      let t = four (m .floats) (m .many) (m .patterns) in
+      record {
+        layers = cauchy (t .0) (t .1) (t .2) (t .3) ∷ a .layers;
+        surfaces = a .surfaces;
+        is = λ i. (m .is ∙ (λ j. block 6 (p j) (t .4 j))) i ∷ a .is i;
+        good-layers = ((e, t .5), a .good-layers);
+        fit = omega (arith, a .fit);
+        good = a .good;
+        few = a .few;
+      }
+
+  end-on : (most : ℕ) → done ≤ 64 → kind (b .word) ≡ 5 → payload (b .word) ≡ done → bs ≡ [] → Among edition done most (b ∷ bs)
   unfolding floats-after layers-blocks surfaces-blocks
   end-on most le k p e =
       let m = made-of b 5 g k in
@@ -106,17 +125,18 @@ module _ (done : ℕ) (b : Block) (bs : List Block) (g : GoodBlock sheet-grammar
 onward : (bs : List Block) (s : Standing) → In s bs → After s bs
 unfolding may after may-end
 onward [] at-open h = tt
-onward [] at-beam h = tt
-onward [] (among done most) h = absurd (let z : _≡_ {A = ℕ} 0 1 = cc in omega arith)
+onward [] (at-beam edition) h = tt
+onward [] (among edition done most) h = absurd (let z : _≡_ {A = ℕ} 0 1 = cc in omega arith)
 onward [] ended h = refl
 onward (b ∷ bs) at-open h = tt
-onward (b ∷ bs) at-beam h = tt
-onward (b ∷ bs) (among done most) h = λ le. by le (λ s i. onward bs s i) (comes done most (b .word) (h .0))
+onward (b ∷ bs) (at-beam edition) h = tt
+onward (b ∷ bs) (among edition done most) h = λ le. by le (λ s i. onward bs s i) (comes edition done most (b .word) (h .0))
   where
-    by : done ≤ 64 → ((s : Standing) → In s bs → After s bs) → Comes done most (b .word) → Among done most (b ∷ bs)
-    by le again (comes-surface k d p) = surface-on done b bs (h .1 .0) most k p (again _ (subst (λ (s : Standing). In s bs) (after-surface done most (b .word) k) (h .1 .1)) d)
-    by le again (comes-layer k r p) = layer-on done b bs (h .1 .0) most k r p (again _ (subst (λ (s : Standing). In s bs) (after-layer done most (b .word) k) (h .1 .1)) le)
-    by le again (comes-end k p) = end-on done b bs (h .1 .0) most le k p (again _ (subst (λ (s : Standing). In s bs) (after-end done most (b .word) k) (h .1 .1)))
+    by : done ≤ 64 → ((s : Standing) → In s bs → After s bs) → Comes edition done most (b .word) → Among edition done most (b ∷ bs)
+    by le again (comes-surface k d p) = surface-on edition done b bs (h .1 .0) most k p (again _ (subst (λ (s : Standing). In s bs) (after-surface edition done most (b .word) k) (h .1 .1)) d)
+    by le again (comes-layer k r p) = layer-on edition done b bs (h .1 .0) most k r p (again _ (subst (λ (s : Standing). In s bs) (after-layer edition done most (b .word) 4 k (λ q. omega arith) (λ q. omega arith)) (h .1 .1)) le)
+    by le again (comes-cauchy e k r p) = cauchy-on edition done b bs (h .1 .0) most e k r p (again _ (subst (λ (s : Standing). In s bs) (after-layer edition done most (b .word) 6 k (λ q. omega arith) (λ q. omega arith)) (h .1 .1)) le)
+    by le again (comes-end k p) = end-on edition done b bs (h .1 .0) most le k p (again _ (subst (λ (s : Standing). In s bs) (after-end edition done most (b .word) k) (h .1 .1)))
 onward (b ∷ bs) ended h = absurd (let z : _≡_ {A = ℕ} 0 1 = cc in omega arith)
 
 -- ---- the whole sheet
@@ -129,18 +149,19 @@ no-layers : (ls : List SheetLayer) → length ls ≤ 0 → ls ≡ []
 no-layers [] h = refl
 no-layers (l ∷ ls) h = absurd (omega arith)
 
-closed : (o b : Block) (bs : List Block) → GoodBlock sheet-grammar o → o .word ≡ kind-word 1 1 → GoodBlock sheet-grammar b → b .word ≡ kind-word 2 0 → Among 0 0 bs → Formed (o ∷ b ∷ bs)
+closed : (edition : ℕ) (o b : Block) (bs : List Block) → ((edition ≡ 1) ⊎ (edition ≡ 2)) → GoodBlock sheet-grammar o → o .word ≡ kind-word 1 edition → GoodBlock sheet-grammar b → b .word ≡ kind-word 2 0 → Among edition 0 0 bs → Formed (o ∷ b ∷ bs)
 unfolding floats-after blocks layers-blocks
-closed o b bs ho wo hb wb a =
+closed edition o b bs ed ho wo hb wb a =
+    let small = small-edition edition ed in
     let mo = made-of o 1 ho (omega arith) in
     let mb = made-of b 2 hb (omega arith) in
     let t = three (mb .floats) (mb .many) (mb .patterns) in
-    let po : payload (o .word) ≡ 1 = omega arith in
+    let po : payload (o .word) ≡ edition = omega arith in
     let pb : payload (b .word) ≡ 0 = omega arith in
     let l : a .layers ≡ [] = no-layers (a .layers) (a .fit) in
     record {
-      sheet = record { wavelength = t .0; s = t .1; p = t .2; surfaces = a .surfaces };
-      formed = record { wavelength = t .4 .0; s = t .4 .1 .0; p = t .4 .1 .1; surfaces = a .good; few = omega (arith, a .few) };
+      sheet = record { edition = edition; wavelength = t .0; s = t .1; p = t .2; surfaces = a .surfaces };
+      formed = record { edition = ed; wavelength = t .4 .0; s = t .4 .1 .0; p = t .4 .1 .1; surfaces = a .good; few = omega (arith, a .few) };
       is = λ i. (mo .is ∙ (λ j. block 1 (po j) (none (mo .floats) (mo .many) j))) i ∷ (mb .is ∙ (λ j. block 2 (pb j) (t .3 j))) i ∷ (a .is ∙ (λ j. layers-blocks (l j) (surfaces-blocks (a .surfaces) (end-block (zero-add (length (a .surfaces)) j) ∷ [])))) i;
     }
 
@@ -149,5 +170,12 @@ unfolding may after may-end
 formed [] h = absurd (let z : _≡_ {A = ℕ} 0 1 = cc in omega arith)
 formed (o ∷ []) h = absurd (let e : false ≡ true = h .1 .1 in let z : _≡_ {A = ℕ} 0 1 = cc in omega arith)
 formed (o ∷ b ∷ bs) h =
-    closed o b bs (h .1 .0) (eqb-true (o .word) (kind-word 1 1) (h .0)) (h .1 .1 .1 .0) (eqb-true (b .word) (kind-word 2 0) (h .1 .1 .0))
-    (onward bs (among 0 0) (h .1 .1 .1 .1) (omega arith))
+    ⊎-elim (λ e. by 1 (inl refl) (eqb-true (o .word) (kind-word 1 1) e)) (λ e. by 2 (inr refl) (eqb-true (o .word) (kind-word 1 2) e))
+    (either (eqb (o .word) (kind-word 1 1)) _ (h .0))
+  where
+    by : (edition : ℕ) → (edition ≡ 1) ⊎ (edition ≡ 2) → o .word ≡ kind-word 1 edition → Formed (o ∷ b ∷ bs)
+    by edition ed e =
+        let small = small-edition edition ed in
+        let p : payload (o .word) ≡ edition = omega arith in
+        closed edition o b bs ed (h .1 .0) e (h .1 .1 .1 .0) (eqb-true (b .word) (kind-word 2 0) (h .1 .1 .0))
+        (onward bs (among edition 0 0) (subst (λ (n : ℕ). In (among n 0 0) bs) p (h .1 .1 .1 .1)) (omega arith))

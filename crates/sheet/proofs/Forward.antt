@@ -10,86 +10,98 @@ use lib.ListN.{length}
 use borrow.Author.Tests.{lt-ltb, eq-eqb}
 use Rattle.sheet.specs.Words.{kind, payload}
 use Rattle.sheet.specs.Blocks.{Block, All, InGrammar}
-use Rattle.sheet.specs.Sheet.{SheetLayer, layer, SheetSurface, Sheet, GoodLayer, GoodSurface, WellFormed, kind-word, block, layer-block, surface-block, layers-blocks, surfaces-blocks, end-block, blocks}
+use Rattle.sheet.specs.Sheet.{SheetLayer, layer, cauchy, SheetSurface, Sheet, GoodLayer, GoodSurface, WellFormed, kind-word, block, layer-block, surface-block, layers-blocks, surfaces-blocks, end-block, blocks}
 use Rattle.sheet.specs.Read.{floats-after, raws, Standing, at-open, at-beam, among, ended, layers-after, may, after, may-end, sheet-grammar, numbers, Rest, put, gathered, sheet-of}
-use Rattle.sheet.proofs.KindWords.{numbers-raw, kind-of, payload-of, made-good, Comes, comes-surface, comes-layer, comes-end, comes, after-surface, after-layer, after-end, may-surface, may-end-word}
+use Rattle.sheet.proofs.KindWords.{numbers-raw, kind-of, payload-of, made-good, Comes, comes-surface, comes-layer, comes-cauchy, comes-end, comes, after-surface, after-layer, after-end, may-surface, may-end-word}
 
 abbrev pub In : Standing → List Block → Type 0
 In s bs = InGrammar sheet-grammar s bs
 
 -- ---- blocks in grammar
-module _ (done : ℕ) where
-  pub end-in : (most : ℕ) → done < 2 ^ 28 → In (among done most) (end-block done ∷ [])
+module _ (edition done : ℕ) where
+  pub end-in : (most : ℕ) → done < 2 ^ 28 → In (among edition done most) (end-block done ∷ [])
   unfolding may-end floats-after
   end-in most lt =
       let w = kind-word 5 done in
-      (may-end-word done most w (kind-of 5 done lt) (payload-of 5 done lt), (made-good 5 done [] (omega arith) lt tt refl, subst (λ (s : Standing). may-end s ≡ true) (sym (after-end done most w (kind-of 5 done lt))) refl))
+      (may-end-word edition done most w (kind-of 5 done lt) (payload-of 5 done lt), (made-good 5 done [] (omega arith) lt tt refl, subst (λ (s : Standing). may-end s ≡ true) (sym (after-end edition done most w (kind-of 5 done lt))) refl))
 
-  layers-in : (most : ℕ) (ls : List SheetLayer) (more : List Block) → All GoodLayer ls → length ls ≤ most → ((r : ℕ) → In (among done r) more) → In (among done most) (layers-blocks ls more)
+  layers-in : (most : ℕ) (ls : List SheetLayer) (more : List Block) → All (GoodLayer edition) ls → length ls ≤ most → ((r : ℕ) → In (among edition done r) more) → In (among edition done most) (layers-blocks ls more)
   unfolding layers-blocks may after floats-after
   layers-in most [] more g le h = h most
   layers-in most (layer n k t ∷ ls) more g le h =
       (rw (lt-ltb 0 most (omega arith)), (made-good 4 0 (n ∷ k ∷ t ∷ []) (omega arith) (omega arith) (g .0 .0, (g .0 .1 .0, (g .0 .1 .1, tt))) refl, layers-in (most - 1) ls more (g .1) (omega arith) h))
+  layers-in most (cauchy a b c t ∷ ls) more g le h =
+      (rw (lt-ltb 0 most (omega arith), eq-eqb edition 2 (g .0 .0)), (made-good 6 0 (a ∷ b ∷ c ∷ t ∷ []) (omega arith) (omega arith) (g .0 .1 .0, (g .0 .1 .1 .0, (g .0 .1 .1 .1 .0, (g .0 .1 .1 .1 .1, tt)))) refl, layers-in (most - 1) ls more (g .1) (omega arith) h))
 
-most-for : (y : SheetSurface) → GoodSurface y → length (y .layers) ≤ layers-after (y .payload)
-most-for y g = ⊎-elim none (λ e. rw (eq-eqb (y .payload / 2) 5 e) (g .few)) (g .custom)
-  where
-    none : y .layers ≡ [] → length (y .layers) ≤ layers-after (y .payload)
-    none e = rw e (omega arith)
+module _ (edition : ℕ) where
+  most-for : (y : SheetSurface) → GoodSurface edition y → length (y .layers) ≤ layers-after (y .payload)
+  most-for y g = ⊎-elim none (λ e. rw (eq-eqb (y .payload / 2) 5 e) (g .few)) (g .custom)
+    where
+      none : y .layers ≡ [] → length (y .layers) ≤ layers-after (y .payload)
+      none e = rw e (omega arith)
 
--- a SURFACE and its layers
-surface-in : (done most : ℕ) (y : SheetSurface) (more : List Block) → GoodSurface y → done < 64 → ((r : ℕ) → In (among (suc done) r) more) → In (among done most) (surface-block y ∷ layers-blocks (y .layers) more)
-unfolding after floats-after
-surface-in done most y more g d h =
-    let w = kind-word 3 (y .payload) in
-    let lt : y .payload < 2 ^ 28 = omega (arith, g .payload) in
-    let k = kind-of 3 (y .payload) lt in
-    let p = payload-of 3 (y .payload) lt in
-    let b = made-good 3 (y .payload) (y .n-incident ∷ y .n-substrate ∷ y .angle ∷ []) (omega arith) lt (g .n-incident, (g .n-substrate, (g .angle, tt))) refl in
-    let few : payload w ≤ 15 = omega (arith, g .payload) in
-    let ls : In (among (suc done) (layers-after (payload w))) (layers-blocks (y .layers) more) =
-    subst (λ (n : ℕ). In (among (suc done) (layers-after n)) (layers-blocks (y .layers) more)) (sym p) (layers-in (suc done) (layers-after (y .payload)) (y .layers) more (g .layers) (most-for y g) h) in
-    (may-surface done most w k d few, (b, subst (λ (s : Standing). In s (layers-blocks (y .layers) more)) (sym (after-surface done most w k)) ls))
+  -- a SURFACE and its layers
+  surface-in : (done most : ℕ) (y : SheetSurface) (more : List Block) → GoodSurface edition y → done < 64 → ((r : ℕ) → In (among edition (suc done) r) more) → In (among edition done most) (surface-block y ∷ layers-blocks (y .layers) more)
+  unfolding after floats-after
+  surface-in done most y more g d h =
+      let w = kind-word 3 (y .payload) in
+      let lt : y .payload < 2 ^ 28 = omega (arith, g .payload) in
+      let k = kind-of 3 (y .payload) lt in
+      let p = payload-of 3 (y .payload) lt in
+      let b = made-good 3 (y .payload) (y .n-incident ∷ y .n-substrate ∷ y .angle ∷ []) (omega arith) lt (g .n-incident, (g .n-substrate, (g .angle, tt))) refl in
+      let few : payload w ≤ 15 = omega (arith, g .payload) in
+      let ls : In (among edition (suc done) (layers-after (payload w))) (layers-blocks (y .layers) more) =
+      subst (λ (n : ℕ). In (among edition (suc done) (layers-after n)) (layers-blocks (y .layers) more)) (sym p) (layers-in edition (suc done) (layers-after (y .payload)) (y .layers) more (g .layers) (most-for y g) h) in
+      (may-surface edition done most w k d few, (b, subst (λ (s : Standing). In s (layers-blocks (y .layers) more)) (sym (after-surface edition done most w k)) ls))
 
-pub surfaces-in : (done most total : ℕ) (ys : List SheetSurface) → total ≡ done + length ys → total ≤ 64 → All GoodSurface ys → In (among done most) (surfaces-blocks ys (end-block total ∷ []))
-unfolding surfaces-blocks
-surfaces-in done most total [] e le g = let q : total ≡ done = omega arith in rw q (end-in done most (omega arith))
-surfaces-in done most total (y ∷ ys) e le g =
-    surface-in done most y (surfaces-blocks ys (end-block total ∷ [])) (g .0) (omega arith) (λ r. surfaces-in (suc done) r total ys (omega arith) le (g .1))
+  pub surfaces-in : (done most total : ℕ) (ys : List SheetSurface) → total ≡ done + length ys → total ≤ 64 → All (GoodSurface edition) ys → In (among edition done most) (surfaces-blocks ys (end-block total ∷ []))
+  unfolding surfaces-blocks
+  surfaces-in done most total [] e le g = let q : total ≡ done = omega arith in rw q (end-in edition done most (omega arith))
+  surfaces-in done most total (y ∷ ys) e le g =
+      surface-in done most y (surfaces-blocks ys (end-block total ∷ [])) (g .0) (omega arith) (λ r. surfaces-in (suc done) r total ys (omega arith) le (g .1))
 
 -- ---- the whole sheet
+pub small-edition : (edition : ℕ) → (edition ≡ 1) ⊎ (edition ≡ 2) → edition < 2 ^ 28
+small-edition edition h = ⊎-elim (λ e. omega arith) (λ e. omega arith) h
+
 pub sheet-in : (x : Sheet) → WellFormed x → In at-open (blocks x)
 unfolding blocks may after floats-after
-sheet-in x h =
-    (refl, (made-good 1 1 [] (omega arith) (omega arith) tt refl, (refl, (made-good 2 0 (x .wavelength ∷ x .s ∷ x .p ∷ []) (omega arith) (omega arith) (h .wavelength, (h .s, (h .p, tt))) refl, surfaces-in 0 0 (length (x .surfaces)) (x .surfaces) (omega arith) (h .few) (h .surfaces)))))
+sheet-in x h = (⊎-elim (λ e. rw e) (λ e. rw e) (h .edition), (made-good 1 (x .edition) [] (omega arith) small tt refl, beam))
+  where
+    small : x .edition < 2 ^ 28
+    small = small-edition (x .edition) (h .edition)
+
+    beam : In (at-beam (payload (kind-word 1 (x .edition)))) (block 2 0 (x .wavelength ∷ x .s ∷ x .p ∷ []) ∷ surfaces-blocks (x .surfaces) (end-block (length (x .surfaces)) ∷ []))
+    beam = rw (payload-of 1 (x .edition) small) (refl, (made-good 2 0 (x .wavelength ∷ x .s ∷ x .p ∷ []) (omega arith) (omega arith) (h .wavelength, (h .s, (h .p, tt))) refl, surfaces-in (x .edition) 0 0 (length (x .surfaces)) (x .surfaces) (omega arith) (h .few) (h .surfaces)))
 
 -- ---- every standing that is reached can be brought to an end
 abbrev pub Live : Standing → Type 0
 Live at-open = Unit
-Live at-beam = Unit
-Live (among done most) = done ≤ 64
+Live (at-beam edition) = Unit
+Live (among edition done most) = done ≤ 64
 Live ended = Unit
 
 pub live-after : (s : Standing) (w : ℕ) → Live s → may s w ≡ true → Live (after s w)
 unfolding may after
 live-after at-open w l e = tt
-live-after at-beam w l e = omega arith
-live-after (among done most) w l e = by (comes done most w e)
+live-after (at-beam edition) w l e = omega arith
+live-after (among edition done most) w l e = by (comes edition done most w e)
   where
-    by : Comes done most w → Live (after (among done most) w)
-    by (comes-surface k d p) = rw (after-surface done most w k) d
-    by (comes-layer k r p) = rw (after-layer done most w k) l
-    by (comes-end k p) = rw (after-end done most w k) tt
+    by : Comes edition done most w → Live (after (among edition done most) w)
+    by (comes-surface k d p) = rw (after-surface edition done most w k) d
+    by (comes-layer k r p) = rw (after-layer edition done most w 4 k (λ q. omega arith) (λ q. omega arith)) l
+    by (comes-cauchy q k r p) = rw (after-layer edition done most w 6 k (λ q. omega arith) (λ q. omega arith)) l
+    by (comes-end k p) = rw (after-end edition done most w k) tt
 live-after ended w l e = tt
 
 pub finish : (s : Standing) → Live s → (bs : List Block) × In s bs
 unfolding may-end may after floats-after
-finish at-open l = (blocks dark, sheet-in dark (record { wavelength = omega arith; s = omega arith; p = omega arith; surfaces = tt; few = omega arith }))
+finish at-open l = (blocks dark, sheet-in dark (record { edition = inl refl; wavelength = omega arith; s = omega arith; p = omega arith; surfaces = tt; few = omega arith }))
   where
     dark : Sheet
-    dark = record { wavelength = 0; s = 0; p = 0; surfaces = [] }
-finish at-beam l = (block 2 0 (0 ∷ 0 ∷ 0 ∷ []) ∷ end-block 0 ∷ [], (refl, (made-good 2 0 (0 ∷ 0 ∷ 0 ∷ []) (omega arith) (omega arith) (omega arith, (omega arith, (omega arith, tt))) refl, end-in 0 0 (omega arith))))
-finish (among done most) l = (end-block done ∷ [], end-in done most (omega arith))
+    dark = record { edition = 1; wavelength = 0; s = 0; p = 0; surfaces = [] }
+finish (at-beam edition) l = (block 2 0 (0 ∷ 0 ∷ 0 ∷ []) ∷ end-block 0 ∷ [], (refl, (made-good 2 0 (0 ∷ 0 ∷ 0 ∷ []) (omega arith) (omega arith) (omega arith, (omega arith, (omega arith, tt))) refl, end-in edition 0 0 (omega arith))))
+finish (among edition done most) l = (end-block done ∷ [], end-in edition done most (omega arith))
 finish ended l = ([], refl)
 
 -- ---- gathered again
@@ -98,6 +110,8 @@ unfolding layers-blocks gathered put
 gathered-layers [] more r e n = e ∙ (λ i. record { layers = n i; surfaces = r .surfaces })
 gathered-layers (layer n k t ∷ ls) more r e z =
     rw (gathered-layers ls more r e z, numbers-raw (n ∷ k ∷ t ∷ [])) refl
+gathered-layers (cauchy a b c t ∷ ls) more r e z =
+    rw (gathered-layers ls more r e z, numbers-raw (a ∷ b ∷ c ∷ t ∷ [])) refl
 
 gathered-surface : (y : SheetSurface) (more : List Block) (ys : List SheetSurface) → y .payload < 2 ^ 28 → gathered more ≡ record { layers = y .layers; surfaces = ys }
     → gathered (surface-block y ∷ more) ≡ record { layers = []; surfaces = y ∷ ys }
@@ -105,15 +119,18 @@ unfolding gathered put
 gathered-surface y more ys lt e =
     rw (e, kind-of 3 (y .payload) lt, payload-of 3 (y .payload) lt, numbers-raw (y .n-incident ∷ y .n-substrate ∷ y .angle ∷ [])) refl
 
-pub gathered-surfaces : (n : ℕ) (ys : List SheetSurface) → n < 2 ^ 28 → All GoodSurface ys → gathered (surfaces-blocks ys (end-block n ∷ [])) ≡ record { layers = []; surfaces = ys }
+pub gathered-surfaces : (edition n : ℕ) (ys : List SheetSurface) → n < 2 ^ 28 → All (GoodSurface edition) ys → gathered (surfaces-blocks ys (end-block n ∷ [])) ≡ record { layers = []; surfaces = ys }
 unfolding surfaces-blocks gathered put
-gathered-surfaces n [] lt g = rw (kind-of 5 n lt) refl
-gathered-surfaces n (y ∷ ys) lt g =
-    let ih = gathered-surfaces n ys lt (g .1) in
+gathered-surfaces edition n [] lt g = rw (kind-of 5 n lt) refl
+gathered-surfaces edition n (y ∷ ys) lt g =
+    let ih = gathered-surfaces edition n ys lt (g .1) in
     let rest = surfaces-blocks ys (end-block n ∷ []) in
     gathered-surface y (layers-blocks (y .layers) rest) ys (omega (arith, g .0 .payload)) (gathered-layers (y .layers) rest (record { layers = []; surfaces = ys }) ih refl)
 
 pub sheet-of-blocks : (x : Sheet) → WellFormed x → sheet-of (blocks x) ≡ x
 unfolding sheet-of blocks gathered put
 sheet-of-blocks x h =
-    rw (numbers-raw (x .wavelength ∷ x .s ∷ x .p ∷ []), gathered-surfaces (length (x .surfaces)) (x .surfaces) (omega (arith, h .few)) (h .surfaces)) refl
+    rw (kind-of 1 (x .edition) small, payload-of 1 (x .edition) small, numbers-raw (x .wavelength ∷ x .s ∷ x .p ∷ []), gathered-surfaces (x .edition) (length (x .surfaces)) (x .surfaces) (omega (arith, h .few)) (h .surfaces)) refl
+  where
+    small : x .edition < 2 ^ 28
+    small = small-edition (x .edition) (h .edition)

@@ -7,11 +7,11 @@ use Prim.Native.Nat.{ℕ, zero, suc, _+_, _-_, _*_, _/_, _%_, _^_, _≤_, _<_}
 use native.Mathlib.Omega.{arith}
 use lib.Dec.{eqb, leb, ltb}
 use lib.ListN.{length}
-use borrow.Author.Tests.{eqb-true, ltb-true, leb-true, lt-ltb, le-leb, eq-eqb}
+use borrow.Author.Tests.{eqb-true, ltb-true, leb-true, lt-ltb, le-leb, eq-eqb, ne-eqb}
 use Rattle.sheet.specs.Words.{kind, payload}
 use Rattle.sheet.specs.Blocks.{Block, All, Word, GoodBlock}
 use Rattle.sheet.specs.Sheet.{Pattern, kind-word, raw-words, block}
-use Rattle.sheet.specs.Read.{floats-after, raws, Standing, among, ended, layers-after, is-surface, is-layer, is-end, may, after, sheet-grammar, numbers}
+use Rattle.sheet.specs.Read.{floats-after, raws, Standing, among, ended, layers-after, layer-kind, is-surface, is-layer, is-end, may, after, sheet-grammar, numbers}
 
 -- ---- floats and raw words
 pub numbers-raw : (fs : List ℕ) → numbers (raw-words fs) ≡ fs
@@ -84,10 +84,11 @@ pub either : (a b : Bool) → (a || b) ≡ true → (a ≡ true) ⊎ (b ≡ true
 either true b e = inl refl
 either false b e = inr e
 
-pub data Comes (done most w : ℕ) : Type 0 where
-  comes-surface : kind w ≡ 3 → done < 64 → payload w ≤ 15 → Comes done most w
-  comes-layer : kind w ≡ 4 → 0 < most → payload w ≡ 0 → Comes done most w
-  comes-end : kind w ≡ 5 → payload w ≡ done → Comes done most w
+pub data Comes (edition done most w : ℕ) : Type 0 where
+  comes-surface : kind w ≡ 3 → done < 64 → payload w ≤ 15 → Comes edition done most w
+  comes-layer : kind w ≡ 4 → 0 < most → payload w ≡ 0 → Comes edition done most w
+  comes-cauchy : edition ≡ 2 → kind w ≡ 6 → 0 < most → payload w ≡ 0 → Comes edition done most w
+  comes-end : kind w ≡ 5 → payload w ≡ done → Comes edition done most w
 
 pub surface-facts : (done w : ℕ) → is-surface done w ≡ true → (kind w ≡ 3) × ((done < 64) × (payload w ≤ 15))
 surface-facts done w e =
@@ -95,39 +96,48 @@ surface-facts done w e =
     let b = both (ltb done 64) _ (a .1) in
     (eqb-true (kind w) 3 (a .0), (ltb-true done 64 (b .0), leb-true (payload w) 15 (b .1)))
 
-module _ (done most w : ℕ) where
-  layer-comes : is-layer most w ≡ true → Comes done most w
+module _ (edition done most w : ℕ) where
+  layer-comes : is-layer edition most w ≡ true → Comes edition done most w
   layer-comes e =
-      let a = both (eqb (kind w) 4) _ e in
+      let a = both (layer-kind edition (kind w)) _ e in
       let b = both (ltb 0 most) _ (a .1) in
-      comes-layer (eqb-true (kind w) 4 (a .0)) (ltb-true 0 most (b .0)) (eqb-true (payload w) 0 (b .1))
+      let r : 0 < most = ltb-true 0 most (b .0) in
+      let p : payload w ≡ 0 = eqb-true (payload w) 0 (b .1) in
+      ⊎-elim (λ k. comes-layer (eqb-true (kind w) 4 k) r p)
+      (λ k. let c = both (eqb edition 2) _ k in comes-cauchy (eqb-true edition 2 (c .0)) (eqb-true (kind w) 6 (c .1)) r p)
+      (either (eqb (kind w) 4) _ (a .0))
 
-  end-comes : is-end done w ≡ true → Comes done most w
+  end-comes : is-end done w ≡ true → Comes edition done most w
   end-comes e = let a = both (eqb (kind w) 5) _ e in comes-end (eqb-true (kind w) 5 (a .0)) (eqb-true (payload w) done (a .1))
 
-  pub comes : may (among done most) w ≡ true → Comes done most w
+  pub comes : may (among edition done most) w ≡ true → Comes edition done most w
   unfolding may
   comes e =
       ⊎-elim (λ a. let f = surface-facts done w a in comes-surface (f .0) (f .1 .0) (f .1 .1))
-      (λ a. ⊎-elim layer-comes end-comes (either (is-layer most w) _ a))
+      (λ a. ⊎-elim layer-comes end-comes (either (is-layer edition most w) _ a))
       (either (is-surface done w) _ e)
 
-  pub after-surface : kind w ≡ 3 → after (among done most) w ≡ among (suc done) (layers-after (payload w))
+  pub after-surface : kind w ≡ 3 → after (among edition done most) w ≡ among edition (suc done) (layers-after (payload w))
   unfolding after
   after-surface e = rw e
 
-  pub after-layer : kind w ≡ 4 → after (among done most) w ≡ among done (most - 1)
+  -- after a layer of either kind
+  pub after-layer : (k : ℕ) → kind w ≡ k → ¬ (k ≡ 3) → ¬ (k ≡ 5) → after (among edition done most) w ≡ among edition done (most - 1)
   unfolding after
-  after-layer e = rw e
+  after-layer k e a b = rw (e, ne-eqb k 3 a, ne-eqb k 5 b) refl
 
-  pub after-end : kind w ≡ 5 → after (among done most) w ≡ ended
+  pub after-end : kind w ≡ 5 → after (among edition done most) w ≡ ended
   unfolding after
   after-end e = rw e
 
-  pub may-surface : kind w ≡ 3 → done < 64 → payload w ≤ 15 → may (among done most) w ≡ true
+  pub may-surface : kind w ≡ 3 → done < 64 → payload w ≤ 15 → may (among edition done most) w ≡ true
   unfolding may
   may-surface k d p = rw (eq-eqb (kind w) 3 k, lt-ltb done 64 d, le-leb (payload w) 15 p)
 
-  pub may-end-word : kind w ≡ 5 → payload w ≡ done → may (among done most) w ≡ true
+  pub may-end-word : kind w ≡ 5 → payload w ≡ done → may (among edition done most) w ≡ true
   unfolding may
-  may-end-word k p = rw (k, eq-eqb (payload w) done p)
+  may-end-word k p = rw (k, eq-eqb (payload w) done p) (last (eqb edition 2))
+    where
+      last : (t : Bool) → ((t && false) && (ltb 0 most && eqb (payload w) 0) || true) ≡ true
+      last true = refl
+      last false = refl

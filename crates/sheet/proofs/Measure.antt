@@ -12,9 +12,9 @@ use Rattle.sheet.specs.Sheet.{bytes}
 use Rattle.sheet.specs.Words.{word, count, big-endian, words-of}
 use Rattle.sheet.proofs.WordBytes.{Byte, word-first, word-next, length-bytes, bytes-bytes, word-bytes, bytes-of}
 use Rattle.sheet.specs.Blocks.{Block, All, Word, GoodBlock, InGrammar, flat}
-use Rattle.sheet.specs.Sheet.{SheetLayer, layer, SheetSurface, Sheet, GoodLayer, GoodSurface, WellFormed, raw-words, layer-block, surface-block, layers-blocks, surfaces-blocks, end-block, blocks, words, encode}
+use Rattle.sheet.specs.Sheet.{SheetLayer, layer, cauchy, SheetSurface, Sheet, GoodLayer, GoodSurface, WellFormed, kind-word, raw-words, layer-block, surface-block, layers-blocks, surfaces-blocks, end-block, blocks, words, encode}
 use Rattle.sheet.specs.Read.{Standing, at-open, sheet-grammar}
-use Rattle.sheet.specs.Claim.{Bytes, length-fits}
+use Rattle.sheet.specs.Claim.{Bytes, longest, length-fits}
 use Rattle.sheet.proofs.Lists.{all-append}
 use Rattle.sheet.proofs.Forward.{In, sheet-in}
 
@@ -58,19 +58,22 @@ unfolding flat
 flat-good s [] h = tt
 flat-good s (b ∷ bs) h = (h .1 .0 .word, all-append (b .raw) (flat bs) (h .1 .0 .raw) (flat-good (sheet-grammar .after s (b .word)) bs (h .1 .1)))
 
--- ---- lengths
-layers-long : (ls : List SheetLayer) (more : List Block) → All GoodLayer ls → length (flat (layers-blocks ls more)) ≤ 7 * length ls + length (flat more)
+-- ---- lengths: a sheet of edition 1 has layers of 7 words, one of edition 2 layers of 9 words at the most
+layers-long : (edition : ℕ) (ls : List SheetLayer) (more : List Block) → All (GoodLayer edition) ls
+    → (length (flat (layers-blocks ls more)) ≤ 9 * length ls + length (flat more)) × (edition ≡ 1 → length (flat (layers-blocks ls more)) ≤ 7 * length ls + length (flat more))
 unfolding flat layers-blocks raw-words
-layers-long [] more g = omega arith
-layers-long (layer n k t ∷ ls) more g = let ih = layers-long ls more (g .1) in omega arith
+layers-long edition [] more g = (omega arith, λ e. omega arith)
+layers-long edition (layer n k t ∷ ls) more g = let ih = layers-long edition ls more (g .1) in (omega (arith, ih .0), λ e. omega (arith, ih .1 e))
+layers-long edition (cauchy a b c t ∷ ls) more g = let ih = layers-long edition ls more (g .1) in (omega (arith, ih .0), λ e. absurd (omega (arith, g .0 .0)))
 
-surfaces-long : (ys : List SheetSurface) (more : List Block) → All GoodSurface ys → length (flat (surfaces-blocks ys more)) ≤ 119 * length ys + length (flat more)
+surfaces-long : (edition : ℕ) (ys : List SheetSurface) (more : List Block) → All (GoodSurface edition) ys
+    → (length (flat (surfaces-blocks ys more)) ≤ 151 * length ys + length (flat more)) × (edition ≡ 1 → length (flat (surfaces-blocks ys more)) ≤ 119 * length ys + length (flat more))
 unfolding flat surfaces-blocks raw-words
-surfaces-long [] more g = omega arith
-surfaces-long (y ∷ ys) more g =
-    let ih = surfaces-long ys more (g .1) in
-    let l = layers-long (y .layers) (surfaces-blocks ys more) (g .0 .layers) in
-    omega (arith, g .0 .few)
+surfaces-long edition [] more g = (omega arith, λ e. omega arith)
+surfaces-long edition (y ∷ ys) more g =
+    let ih = surfaces-long edition ys more (g .1) in
+    let l = layers-long edition (y .layers) (surfaces-blocks ys more) (g .0 .layers) in
+    (omega (arith, ih .0, l .0, g .0 .few), λ e. omega (arith, ih .1 e, l .1 e, g .0 .few))
 
 least : (ys : List SheetSurface) (more : List Block) → length (flat more) ≤ length (flat (surfaces-blocks ys more))
 unfolding flat surfaces-blocks layers-blocks
@@ -81,11 +84,12 @@ least (y ∷ ys) more = let ih = least ys more in let a = layers-least (y .layer
     layers-least [] more = omega arith
     layers-least (l ∷ ls) more = let ih = layers-least ls more in omega (arith, length-append (layer-block l .raw) (flat (layers-blocks ls more)))
 
-pub length-limits : (x : Sheet) → WellFormed x → (9 ≤ length (words x)) × (length (words x) ≤ 7625)
+pub length-limits : (x : Sheet) → WellFormed x → (9 ≤ length (words x)) × ((length (words x) ≤ 9673) × (x .edition ≡ 1 → length (words x) ≤ 7625))
 unfolding blocks flat raw-words
 length-limits x h =
     let e = end-block (length (x .surfaces)) ∷ [] in
-    (omega (arith, least (x .surfaces) e), omega (arith, surfaces-long (x .surfaces) e (h .surfaces), h .few))
+    let l = surfaces-long (x .edition) (x .surfaces) e (h .surfaces) in
+    (omega (arith, least (x .surfaces) e), (omega (arith, l .0, h .few), λ q. omega (arith, l .1 q, h .few)))
 
 -- ---- refusal 4
 T-both : (a b : Bool) → T (a && b) → T a × T b
@@ -94,11 +98,11 @@ T-both false b t = absurd t
 
 pub fits-count : (src : List ℕ) → T (length-fits src) → length src ≡ 4 * count src
 fits-count src t =
-    let a = T-both (eqb (length src % 4) 0) (leb 36 (length src) && leb (length src) 30500) t in
+    let a = T-both (eqb (length src % 4) 0) (leb 36 (length src) && leb (length src) (longest src)) t in
     omega (arith, eqb→eq (length src % 4) 0 (a .0))
 
-count-fits : (src : List ℕ) (n : ℕ) → length src ≡ 4 * n → 9 ≤ n → n ≤ 7625 → T (length-fits src)
-count-fits src n e h l = rw (eq-eqb (length src % 4) 0 (omega arith), le-leb 36 (length src) (omega arith), le-leb (length src) 30500 (omega arith)) tt
+count-fits : (src : List ℕ) (n : ℕ) → length src ≡ 4 * n → 9 ≤ n → 4 * n ≤ longest src → T (length-fits src)
+count-fits src n e h l = rw (eq-eqb (length src % 4) 0 (omega arith), le-leb 36 (length src) (omega arith), le-leb (length src) (longest src) (omega arith)) tt
 
 pub encode-fits : (x : Sheet) → WellFormed x → T (length-fits (encode x)) × Bytes (encode x)
 unfolding encode
@@ -106,4 +110,12 @@ encode-fits x h =
     let ws = words x in
     let l = length-limits x h in
     let g : All Word ws = flat-good at-open (blocks x) (sheet-in x h) in
-    (count-fits (bytes ws) (length ws) (length-bytes ws) (l .0) (l .1), bytes-bytes ws g)
+    let first : word (bytes ws) 0 ≡ kind-word 1 (x .edition) = word-bytes ws g 0 ∙ opens in
+    (count-fits (bytes ws) (length ws) (length-bytes ws) (l .0) (rw first (under (x .edition) (h .edition) (length ws) (l .1 .0) (l .1 .1))), bytes-bytes ws g)
+  where
+    opens : getD (words x) 0 0 ≡ kind-word 1 (x .edition)
+    opens = unfold blocks flat in refl
+
+    under : (edition : ℕ) → (edition ≡ 1) ⊎ (edition ≡ 2) → (n : ℕ) → n ≤ 9673 → (edition ≡ 1 → n ≤ 7625) → 4 * n ≤ cond (eqb (kind-word 1 edition) (kind-word 1 2)) 38692 30500
+    under edition (inl e) n a b = rw e (omega (arith, b e))
+    under edition (inr e) n a b = rw e (omega arith)

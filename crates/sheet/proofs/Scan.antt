@@ -1,6 +1,7 @@
 -- What is left of a sheet from a place on: how many SURFACEs, or a fault. One block more, and the three ways in which there is none. Assumes nothing.
 use mathlib.Core.Path.{_≡_, refl, sym, ap, _∙_}
 use mathlib.Core.Bool.{Bool, true, false, not, _&&_, cond}
+use mathlib.Core.Logic.{⊎-elim}
 use mathlib.Core.List.{List, [], _∷_}
 use Prim.Native.Nat.{ℕ, zero, suc, _+_, _-_, _≤_, _<_}
 use native.Mathlib.Nat.{add-zero}
@@ -14,10 +15,10 @@ use Rattle.refusal.specs.Outcome.{Outcome, answer, refusal, map}
 use Rattle.sheet.specs.Words.{word, count, kind, words-of}
 use Rattle.sheet.specs.Blocks.{Block, Grammar, Result, read, fault, mapped, blocks-from}
 use Rattle.sheet.specs.Sheet.{kind-word}
-use Rattle.sheet.specs.Read.{Standing, at-open, at-beam, among, ended, may, after, may-end, raws, sheet-grammar, Rest, put, gathered, sheet-of, decode, graded, surfaces-of, grammar}
+use Rattle.sheet.specs.Read.{Standing, at-open, at-beam, among, ended, layer-kind, may, after, may-end, raws, sheet-grammar, Rest, put, gathered, sheet-of, decode, graded, surfaces-of, grammar}
 use Rattle.sheet.proofs.Measure.{words-of-length, words-of-at}
 use Rattle.sheet.specs.Internal.{counted}
-use Rattle.sheet.proofs.KindWords.{Comes, comes-surface, comes-layer, comes-end, comes, after-surface, after-layer, after-end}
+use Rattle.sheet.proofs.KindWords.{either, Comes, comes-surface, comes-layer, comes-cauchy, comes-end, comes, after-surface, after-layer, after-end}
 
 -- ---- SURFACEs among blocks
 unfoldable pub count3 : List Block → ℕ
@@ -31,7 +32,7 @@ one-of n false false A B C a b c = c
 
 put-length : (b : Block) (r : Rest) → length (put b r .surfaces) ≡ cond (eqb (kind (b .word)) 3) (suc (length (r .surfaces))) (length (r .surfaces))
 unfolding put
-put-length b r = one-of (length (r .surfaces)) (eqb (kind (b .word)) 3) (eqb (kind (b .word)) 4) _ _ _ refl refl refl
+put-length b r = one-of (length (r .surfaces)) (eqb (kind (b .word)) 3) (layer-kind 2 (kind (b .word))) _ _ _ refl refl refl
 
 gathered-length : (bs : List Block) → length (gathered bs .surfaces) ≡ count3 bs
 unfolding gathered count3
@@ -134,14 +135,14 @@ module _ (src : List ℕ) (s : Standing) (at n : ℕ) (o : Outcome ℕ) (inv : g
 -- ---- the SURFACEs so far are those that the standing counts: 64 at the most
 abbrev pub Counts : Standing → ℕ → Type 0
 Counts at-open n = n ≡ 0
-Counts at-beam n = n ≡ 0
-Counts (among done most) n = (n ≡ done) × (done ≤ 64)
+Counts (at-beam edition) n = n ≡ 0
+Counts (among edition done most) n = (n ≡ done) × (done ≤ 64)
 Counts ended n = n ≤ 64
 
 pub counts-few : (s : Standing) (n : ℕ) → Counts s n → n ≤ 64
 counts-few at-open n c = omega arith
-counts-few at-beam n c = omega arith
-counts-few (among done most) n c = omega (arith, c .0, c .1)
+counts-few (at-beam edition) n c = omega arith
+counts-few (among edition done most) n c = omega (arith, c .0, c .1)
 counts-few ended n c = c
 
 module _ (w n : ℕ) where
@@ -153,12 +154,13 @@ module _ (w n : ℕ) where
 
   pub counts-on : (s : Standing) → Counts s n → may s w ≡ true → Counts (after s w) (counted w n)
   unfolding may after
-  counts-on at-open c e = other 1 (let q : w ≡ kind-word 1 1 = eqb-true w (kind-word 1 1) e in omega arith) (λ q. omega arith) ∙ c
-  counts-on at-beam c e = (other 2 (let q : w ≡ kind-word 2 0 = eqb-true w (kind-word 2 0) e in omega arith) (λ q. omega arith) ∙ c, omega arith)
-  counts-on (among done most) c e = by (comes done most w e)
+  counts-on at-open c e = other 1 (⊎-elim (λ f. let q : w ≡ kind-word 1 1 = eqb-true w (kind-word 1 1) f in omega arith) (λ f. let q : w ≡ kind-word 1 2 = eqb-true w (kind-word 1 2) f in omega arith) (either (eqb w (kind-word 1 1)) _ e)) (λ q. omega arith) ∙ c
+  counts-on (at-beam edition) c e = (other 2 (let q : w ≡ kind-word 2 0 = eqb-true w (kind-word 2 0) e in omega arith) (λ q. omega arith) ∙ c, omega arith)
+  counts-on (among edition done most) c e = by (comes edition done most w e)
     where
-      by : Comes done most w → Counts (after (among done most) w) (counted w n)
-      by (comes-surface k d p) = rw (after-surface done most w k) (one-more k ∙ ap suc (c .0), d)
-      by (comes-layer k r p) = rw (after-layer done most w k) (other 4 k (λ q. omega arith) ∙ c .0, c .1)
-      by (comes-end k p) = rw (after-end done most w k) (omega (arith, other 5 k (λ q. omega arith), c .0, c .1))
+      by : Comes edition done most w → Counts (after (among edition done most) w) (counted w n)
+      by (comes-surface k d p) = rw (after-surface edition done most w k) (one-more k ∙ ap suc (c .0), d)
+      by (comes-layer k r p) = rw (after-layer edition done most w 4 k (λ q. omega arith) (λ q. omega arith)) (other 4 k (λ q. omega arith) ∙ c .0, c .1)
+      by (comes-cauchy q k r p) = rw (after-layer edition done most w 6 k (λ q. omega arith) (λ q. omega arith)) (other 6 k (λ q. omega arith) ∙ c .0, c .1)
+      by (comes-end k p) = rw (after-end edition done most w k) (omega (arith, other 5 k (λ q. omega arith), c .0, c .1))
   counts-on ended c e = absurd (let z : _≡_ {A = ℕ} 0 1 = cc in omega arith)

@@ -6,11 +6,11 @@ use Prim.Native.Nat.{ℕ, zero, suc, _+_, _-_, _*_, _≤_, _<_}
 use native.Mathlib.Numerals.{add-one}
 use native.Mathlib.Omega.{arith}
 use lib.Dec.{eqb, ltb}
-use borrow.Author.Tests.{ne-eqb}
+use borrow.Author.Tests.{ne-eqb, lt-ltb, not-true, not-false}
 use Rattle.sheet.specs.Words.{kind, payload}
 use Rattle.sheet.specs.Read as Read
-use Rattle.sheet.specs.Read.{floats-after, raws, among, layers-after, is-surface, is-layer, is-end, may, after}
-use Rattle.sheet.proofs.KindWords.{Comes, comes-surface, comes-layer, comes-end, comes, after-surface, after-end}
+use Rattle.sheet.specs.Read.{floats-after, raws, among, layers-after, layer-kind, is-surface, is-layer, is-end, may, after}
+use Rattle.sheet.proofs.KindWords.{Comes, comes-surface, comes-layer, comes-cauchy, comes-end, comes, after-surface, after-end}
 use Rattle.sheet.specs.Internal.{standing-of, next-place, layer-follows, or-none, layer-run}
 use Rattle.sheet.specs.declared.Standing.{Standing}
 use Rattle.sheet.specs.declared.Standing.the-variants as S
@@ -20,19 +20,20 @@ pub raws-at : (w k : ℕ) → kind w ≡ k → 2 * floats-after k ≡ raws w
 unfolding raws
 raws-at w k e = ap (λ (n : ℕ). 2 * floats-after n) (sym e)
 
-pub raws-none : (w : ℕ) → (kind w ≡ 2 → ⊥) → (kind w ≡ 3 → ⊥) → (kind w ≡ 4 → ⊥) → 0 ≡ raws w
+pub raws-none : (w : ℕ) → (kind w ≡ 2 → ⊥) → (kind w ≡ 3 → ⊥) → (kind w ≡ 4 → ⊥) → (kind w ≡ 6 → ⊥) → 0 ≡ raws w
 unfolding raws floats-after
-raws-none w a b c = simp (ne-eqb (kind w) 2 a, ne-eqb (kind w) 3 b, ne-eqb (kind w) 4 c)
+raws-none w a b c d = simp (ne-eqb (kind w) 2 a, ne-eqb (kind w) 3 b, ne-eqb (kind w) 4 c, ne-eqb (kind w) 6 d)
 
-pub raws-few : (w : ℕ) → raws w ≤ 6
+pub raws-few : (w : ℕ) → raws w ≤ 8
 unfolding raws floats-after
-raws-few w = by (eqb (kind w) 2 || (eqb (kind w) 3 || eqb (kind w) 4))
+raws-few w = by (eqb (kind w) 2 || (eqb (kind w) 3 || eqb (kind w) 4)) (eqb (kind w) 6)
   where
-    by : (t : Bool) → 2 * cond t 3 0 ≤ 6
-    by true = omega arith
-    by false = omega arith
+    by : (t u : Bool) → 2 * cond t 3 (cond u 4 0) ≤ 8
+    by true u = omega arith
+    by false true = omega arith
+    by false false = omega arith
 
--- ---- LAYERs in a run
+-- ---- layers in a run
 pub run-most : (most : ℕ) (src : List ℕ) (at : ℕ) → layer-run most src at ≤ most
 unfolding layer-run
 run-most zero src at = omega arith
@@ -42,26 +43,44 @@ run-most (suc most) src at = go (layer-follows src at) (run-most most src (next-
     go true h = omega arith
     go false h = omega arith
 
+-- ---- a layer
+module _ (edition most w : ℕ) (t : Bool) (e : t ≡ layer-kind edition (kind w)) where
+  pub other-kind : not t ≡ true → false ≡ is-layer edition most w
+  other-kind f = simp (sym e ∙ not-true t f)
+
+  pub no-more : not t ≡ false → most ≡ 0 → false ≡ is-layer edition most w
+  no-more f r = simp (sym e ∙ not-false t f, r)
+
+  pub one-more : not t ≡ false → (most ≡ 0 → ⊥) → eqb (payload w) 0 ≡ is-layer edition most w
+  one-more f r = simp (sym e ∙ not-false t f, lt-ltb 0 most (positive most r))
+    where
+      positive : (n : ℕ) → (n ≡ 0 → ⊥) → 0 < n
+      positive n h = let g : ¬ (n ≡ 0) = h in omega arith
+
 -- ---- what may come
 module _ (s : Standing) (w : ℕ) where
-  pub open-one : s ≡ S.AtOpen → eqb w 268435457 ≡ may (standing-of s) w
+  pub open-one : s ≡ S.AtOpen → w ≡ 268435457 → true ≡ may (standing-of s) w
   unfolding may
-  open-one q = simp q
+  open-one q e = simp (q, e)
 
-  pub beam : s ≡ S.AtBeam → eqb w 536870912 ≡ may (standing-of s) w
+  pub open-two : s ≡ S.AtOpen → (w ≡ 268435457 → ⊥) → eqb w 268435458 ≡ may (standing-of s) w
   unfolding may
-  beam q = simp q
+  open-two q n = simp (q, ne-eqb w 268435457 n)
 
-  module _ (done most : ℕ) (q : s ≡ S.Among done most) where
+  pub beam : (edition : ℕ) → s ≡ S.AtBeam edition → eqb w 536870912 ≡ may (standing-of s) w
+  unfolding may
+  beam edition q = simp q
+
+  module _ (edition done most : ℕ) (q : s ≡ S.Among edition done most) where
     pub may-one : is-surface done w ≡ true → true ≡ may (standing-of s) w
     unfolding may
     may-one e = simp (q, e)
 
-    pub may-two : is-surface done w ≡ false → is-layer most w ≡ true → true ≡ may (standing-of s) w
+    pub may-two : is-surface done w ≡ false → is-layer edition most w ≡ true → true ≡ may (standing-of s) w
     unfolding may
     may-two a e = simp (q, a, e)
 
-    pub may-three : is-surface done w ≡ false → is-layer most w ≡ false → is-end done w ≡ may (standing-of s) w
+    pub may-three : is-surface done w ≡ false → is-layer edition most w ≡ false → is-end done w ≡ may (standing-of s) w
     unfolding may
     may-three a b = simp (q, a, b)
 
@@ -71,20 +90,20 @@ module _ (s : Standing) (w : ℕ) where
 
 -- ---- where one stands after it
 module _ (s : Standing) (w : ℕ) where
-  pub after-open : s ≡ S.AtOpen → Read.at-beam ≡ after (standing-of s) w
+  pub after-open : s ≡ S.AtOpen → Read.at-beam (payload w) ≡ after (standing-of s) w
   unfolding after
   after-open q = simp q
 
-  pub after-beam : s ≡ S.AtBeam → among 0 0 ≡ after (standing-of s) w
+  pub after-beam : (edition : ℕ) → s ≡ S.AtBeam edition → among edition 0 0 ≡ after (standing-of s) w
   unfolding after
-  after-beam q = simp q
+  after-beam edition q = simp q
 
-  module _ (done most : ℕ) (q : s ≡ S.Among done most) where
+  module _ (edition done most : ℕ) (q : s ≡ S.Among edition done most) where
     abbrev Case : Type 0
-    Case = Comes done most w
+    Case = Comes edition done most w
 
     case : may (standing-of s) w ≡ true → Case
-    case e = comes done most w (subst (λ (z : Standing). may (standing-of z) w ≡ true) q e)
+    case e = comes edition done most w (subst (λ (z : Standing). may (standing-of z) w ≡ true) q e)
 
     pub under-64 : may (standing-of s) w ≡ true → kind w ≡ 3 → done < 64
     under-64 e k = by (case e)
@@ -92,6 +111,7 @@ module _ (s : Standing) (w : ℕ) where
         by : Case → done < 64
         by (comes-surface k′ d p) = d
         by (comes-layer k′ r p) = absurd (omega arith)
+        by (comes-cauchy e k′ r p) = absurd (omega arith)
         by (comes-end k′ p) = absurd (omega arith)
 
     pub one-may : may (standing-of s) w ≡ true → (kind w ≡ 3 → ⊥) → (kind w ≡ 5 → ⊥) → 1 ≤ most
@@ -100,15 +120,16 @@ module _ (s : Standing) (w : ℕ) where
         by : Case → 1 ≤ most
         by (comes-surface k d p) = absurd (a k)
         by (comes-layer k r p) = r
+        by (comes-cauchy e k r p) = r
         by (comes-end k p) = absurd (b k)
 
-    pub after-three : (n : ℕ) → n ≡ layers-after (payload w) → kind w ≡ 3 → among (done + 1) n ≡ after (standing-of s) w
-    after-three n e k = rw (q, after-surface done most w k, e, add-one done) refl
+    pub after-three : (n : ℕ) → n ≡ layers-after (payload w) → kind w ≡ 3 → among edition (done + 1) n ≡ after (standing-of s) w
+    after-three n e k = rw (q, after-surface edition done most w k, e, add-one done) refl
 
     pub after-five : kind w ≡ 5 → Read.ended ≡ after (standing-of s) w
-    after-five k = rw (q, after-end done most w k) refl
+    after-five k = rw (q, after-end edition done most w k) refl
 
-    pub after-other : (kind w ≡ 3 → ⊥) → (kind w ≡ 5 → ⊥) → among done (most - 1) ≡ after (standing-of s) w
+    pub after-other : (kind w ≡ 3 → ⊥) → (kind w ≡ 5 → ⊥) → among edition done (most - 1) ≡ after (standing-of s) w
     unfolding after
     after-other a b = simp (q, ne-eqb (kind w) 3 a, ne-eqb (kind w) 5 b)
 

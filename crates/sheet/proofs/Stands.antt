@@ -9,16 +9,16 @@ use mir.Syntax.{w8}
 use mir.Val.{Fits}
 use lib.ListN.{length, getD, drop, length-append, length-drop, List·getD-append}
 use lib.Seq.{drop-drop, drop-at, drop-cons}
-use borrow.Author.Tests.{lt-ltb, ne-eqb}
+use borrow.Author.Tests.{lt-ltb}
 use Rattle.ieee.specs.Functions.{joined}
 use Rattle.sheet.specs.Words.{word, count, kind, payload, float, words-of}
 use Rattle.sheet.specs.Blocks.{Block, All, flat, read}
-use Rattle.sheet.specs.Sheet.{SheetLayer, layer, SheetSurface, no-surface, nth, Sheet, GoodSurface, WellFormed, raw-words, block, layer-block, surface-block, layers-blocks, surfaces-blocks, end-block, blocks, words, encode}
-use Rattle.sheet.specs.Read.{floats-after, raws, numbers, number, decode, at-open}
+use Rattle.sheet.specs.Sheet.{SheetLayer, layer, cauchy, SheetSurface, no-surface, nth, Sheet, GoodSurface, WellFormed, raw-words, block, layer-block, surface-block, layers-blocks, surfaces-blocks, end-block, blocks, words, encode}
+use Rattle.sheet.specs.Read.{floats-after, raws, layer-kind, numbers, number, decode, at-open}
 use Rattle.sheet.specs.Claim.{Bytes, length-fits}
 use Rattle.sheet.specs.Internal.{next-place, place-on, layer-follows, or-none, layer-run, layer-at, surface-at, layers-at, place}
 use Rattle.sheet.proofs.KindWords.{numbers-raw, kind-of, payload-of, raw-length}
-use Rattle.sheet.proofs.Forward.{sheet-in}
+use Rattle.sheet.proofs.Forward.{small-edition, sheet-in}
 use Rattle.sheet.proofs.Measure.{words-of-length, words-of-at, words-of-bytes, flat-good}
 use Rattle.sheet.proofs.Claim.{grammar-claim}
 
@@ -110,11 +110,14 @@ module _ (src : List ℕ) (at k p : ℕ) (fs : List ℕ) (bs : List Block) (h : 
   pub made-float : (i j : ℕ) → j ≡ suc (2 * i) → i < length fs → float src (at + j) ≡ getD fs i 0
   made-float i j e lt = float-here src at (block k p fs) bs h i j e (omega (arith, raw-length fs)) ∙ ap (λ (l : List ℕ). getD l i 0) (numbers-raw fs)
 
--- ---- LAYERs
+-- ---- layers
 layer-here : (src : List ℕ) (at : ℕ) (l : SheetLayer) (bs : List Block) → Stands src at (layer-block l ∷ bs) → layer-at src at ≡ l
 layer-here src at (layer n k t) bs h =
     let f : (i j : ℕ) → j ≡ suc (2 * i) → i < 3 → float src (at + j) ≡ getD (n ∷ k ∷ t ∷ []) i 0 = made-float src at 4 0 (n ∷ k ∷ t ∷ []) bs h in
-    λ i. layer (f 0 1 refl (omega arith) i) (f 1 3 refl (omega arith) i) (f 2 5 refl (omega arith) i)
+    rw (word-here src at (layer-block (layer n k t)) bs h) (λ i. layer (f 0 1 refl (omega arith) i) (f 1 3 refl (omega arith) i) (f 2 5 refl (omega arith) i))
+layer-here src at (cauchy a b c t) bs h =
+    let f : (i j : ℕ) → j ≡ suc (2 * i) → i < 4 → float src (at + j) ≡ getD (a ∷ b ∷ c ∷ t ∷ []) i 0 = made-float src at 6 0 (a ∷ b ∷ c ∷ t ∷ []) bs h in
+    rw (word-here src at (layer-block (cauchy a b c t)) bs h) (λ i. cauchy (f 0 1 refl (omega arith) i) (f 1 3 refl (omega arith) i) (f 2 5 refl (omega arith) i) (f 3 7 refl (omega arith) i))
 
 pub record LayersHere (src : List ℕ) (at : ℕ) (ls : List SheetLayer) (more : List Block) : Type 0 where
   pub layers : layers-at src at (length ls) ≡ ls
@@ -127,13 +130,14 @@ layers-here src at (l ∷ ls) more h =
     let again = layers-here src (next-place src at) ls more (next-stands src at (layer-block l) (layers-blocks ls more) h) in
     record { layers = λ i. layer-here src at l (layers-blocks ls more) h i ∷ again .layers i; beyond = again .beyond }
 
--- a block that is no LAYER ends a run of them
+-- a block that is no layer ends a run of them
 abbrev pub Ends : List Block → Type 0
 Ends [] = ⊥
-Ends (b ∷ bs) = ¬ (kind (b .word) ≡ 4)
+Ends (b ∷ bs) = layer-kind 2 (kind (b .word)) ≡ false
 
-layer-kind : (l : SheetLayer) → kind (layer-block l .word) ≡ 4
-layer-kind (layer n k t) = refl
+kind-of-layer : (l : SheetLayer) → layer-kind 2 (kind (layer-block l .word)) ≡ true
+kind-of-layer (layer n k t) = refl
+kind-of-layer (cauchy a b c t) = refl
 
 run-here : (m : ℕ) (src : List ℕ) (at : ℕ) (b : Block) (ls : List SheetLayer) (more : List Block) → Stands src at (b ∷ layers-blocks ls more) → length ls ≤ m → Ends more → layer-run m src at ≡ length ls
 unfolding layers-blocks layer-run
@@ -142,19 +146,19 @@ run-here zero src at b (l ∷ ls) more h le e = absurd (omega arith)
 run-here (suc m) src at b [] [] h le e = absurd e
 run-here (suc m) src at b [] (c ∷ more) h le e =
     let w = word-here src (next-place src at) c more (next-stands src at b (c ∷ more) h) in
-    rw (w, ne-eqb (kind (c .word)) 4 e) refl
+    rw (w, e) refl
 run-here (suc m) src at b (l ∷ ls) more h le e =
     let n = next-stands src at b (layer-block l ∷ layers-blocks ls more) h in
     let w = word-here src (next-place src at) (layer-block l) (layers-blocks ls more) n in
-    rw (w, layer-kind l) (ap suc (run-here m src (next-place src at) (layer-block l) ls more n (omega arith) e))
+    rw (w, kind-of-layer l) (ap suc (run-here m src (next-place src at) (layer-block l) ls more n (omega arith) e))
 
 -- ---- SURFACEs
-surfaces-end : (n : ℕ) (ys : List SheetSurface) → n < 2 ^ 28 → All GoodSurface ys → Ends (surfaces-blocks ys (end-block n ∷ []))
+surfaces-end : (edition n : ℕ) (ys : List SheetSurface) → n < 2 ^ 28 → All (GoodSurface edition) ys → Ends (surfaces-blocks ys (end-block n ∷ []))
 unfolding surfaces-blocks
-surfaces-end n [] lt g = λ e. omega (arith, kind-of 5 n lt)
-surfaces-end n (y ∷ ys) lt g = λ e. omega (arith, kind-of 3 (y .payload) (omega (arith, g .0 .payload)))
+surfaces-end edition n [] lt g = ap (layer-kind 2) (kind-of 5 n lt)
+surfaces-end edition n (y ∷ ys) lt g = ap (layer-kind 2) (kind-of 3 (y .payload) (omega (arith, g .0 .payload)))
 
--- the SURFACE y stands at a place with its LAYERs, and `more` after them
+-- the SURFACE y stands at a place with its layers, and `more` after them
 pub record SurfaceHere (src : List ℕ) (at : ℕ) (y : SheetSurface) (more : List Block) : Type 0 where
   pub kind : kind (word src at) ≡ 3
   pub inside : at + 6 < count src
@@ -163,10 +167,10 @@ pub record SurfaceHere (src : List ℕ) (at : ℕ) (y : SheetSurface) (more : Li
   pub layers : layers-at src (next-place src at) (length (y .layers)) ≡ y .layers
   pub beyond : Stands src (place-on src at (suc (length (y .layers)))) more
 
-pub surface-here : (src : List ℕ) (at n : ℕ) (y : SheetSurface) (ys : List SheetSurface) → n < 2 ^ 28 → All GoodSurface (y ∷ ys) → Stands src at (surfaces-blocks (y ∷ ys) (end-block n ∷ []))
+pub surface-here : (src : List ℕ) (at edition n : ℕ) (y : SheetSurface) (ys : List SheetSurface) → n < 2 ^ 28 → All (GoodSurface edition) (y ∷ ys) → Stands src at (surfaces-blocks (y ∷ ys) (end-block n ∷ []))
     → SurfaceHere src at y (surfaces-blocks ys (end-block n ∷ []))
 unfolding surfaces-blocks place-on raw-words
-surface-here src at n y ys lt g h =
+surface-here src at edition n y ys lt g h =
     let rest = surfaces-blocks ys (end-block n ∷ []) in
     let ls = layers-blocks (y .layers) rest in
     let b = surface-block y in
@@ -184,7 +188,7 @@ surface-here src at n y ys lt g h =
         angle = f 2 5 refl (omega arith) i;
         layers = l;
       };
-      run = run-here 16 src at b (y .layers) rest h (g .0 .few) (surfaces-end n ys lt (g .1));
+      run = run-here 16 src at b (y .layers) rest h (g .0 .few) (surfaces-end edition n ys lt (g .1));
       layers = all .layers;
       beyond = all .beyond;
     }
@@ -202,17 +206,18 @@ layers-sized : (ls : List SheetLayer) (more : List Block) → All Sized more →
 unfolding layers-blocks floats-after
 layers-sized [] more h = h
 layers-sized (layer n k t ∷ ls) more h = (sized 4 0 (n ∷ k ∷ t ∷ []) (omega arith) refl, layers-sized ls more h)
+layers-sized (cauchy a b c t ∷ ls) more h = (sized 6 0 (a ∷ b ∷ c ∷ t ∷ []) (omega arith) refl, layers-sized ls more h)
 
-surfaces-sized : (ys : List SheetSurface) (more : List Block) → All GoodSurface ys → All Sized more → All Sized (surfaces-blocks ys more)
+surfaces-sized : (edition : ℕ) (ys : List SheetSurface) (more : List Block) → All (GoodSurface edition) ys → All Sized more → All Sized (surfaces-blocks ys more)
 unfolding surfaces-blocks floats-after
-surfaces-sized [] more g h = h
-surfaces-sized (y ∷ ys) more g h =
-    (sized 3 (y .payload) (y .n-incident ∷ y .n-substrate ∷ y .angle ∷ []) (omega (arith, g .0 .payload)) refl, layers-sized (y .layers) (surfaces-blocks ys more) (surfaces-sized ys more (g .1) h))
+surfaces-sized edition [] more g h = h
+surfaces-sized edition (y ∷ ys) more g h =
+    (sized 3 (y .payload) (y .n-incident ∷ y .n-substrate ∷ y .angle ∷ []) (omega (arith, g .0 .payload)) refl, layers-sized (y .layers) (surfaces-blocks ys more) (surfaces-sized edition ys more (g .1) h))
 
 blocks-sized : (x : Sheet) → WellFormed x → All Sized (blocks x)
 unfolding blocks floats-after
 blocks-sized x h =
-    (sized 1 1 [] (omega arith) refl, (sized 2 0 (x .wavelength ∷ x .s ∷ x .p ∷ []) (omega arith) refl, surfaces-sized (x .surfaces) (end-block (length (x .surfaces)) ∷ []) (h .surfaces) (sized 5 (length (x .surfaces)) [] (omega (arith, h .few)) refl, tt)))
+    (sized 1 (x .edition) [] (small-edition (x .edition) (h .edition)) refl, (sized 2 0 (x .wavelength ∷ x .s ∷ x .p ∷ []) (omega arith) refl, surfaces-sized (x .edition) (x .surfaces) (end-block (length (x .surfaces)) ∷ []) (h .surfaces) (sized 5 (length (x .surfaces)) [] (omega (arith, h .few)) refl, tt)))
 
 -- what is read of some bytes stands in them
 pub standing : (src : List ℕ) → Bytes src → T (length-fits src) → (x : Sheet) → decode src ≡ read x → Standing src x
@@ -227,9 +232,9 @@ standing src bs t x e =
 module _ (src : List ℕ) (x : Sheet) (h : Standing src x) where
   pub beam-stands : Stands src (next-place src 0) (block 2 0 (x .wavelength ∷ x .s ∷ x .p ∷ []) ∷ surfaces-blocks (x .surfaces) (end-block (length (x .surfaces)) ∷ []))
   unfolding blocks
-  beam-stands = next-stands src 0 (block 1 1 []) _ (h .stands)
+  beam-stands = next-stands src 0 (block 1 (x .edition) []) _ (h .stands)
 
-  all-good : (i : ℕ) (ys : List SheetSurface) → All GoodSurface ys → All GoodSurface (drop i ys)
+  all-good : (i : ℕ) (ys : List SheetSurface) → All (GoodSurface (x .edition)) ys → All (GoodSurface (x .edition)) (drop i ys)
   all-good zero ys g = g
   all-good (suc i) [] g = tt
   all-good (suc i) (y ∷ ys) g = all-good i ys (g .1)
@@ -244,7 +249,7 @@ module _ (src : List ℕ) (x : Sheet) (h : Standing src x) where
     pub surface-i : SurfaceHere src at (nth (x .surfaces) i) (left (suc i))
     surface-i =
         let c = drop-cons (x .surfaces) i no-surface lt in
-        surface-here src at (length (x .surfaces)) (nth (x .surfaces) i) (drop (suc i) (x .surfaces)) few (subst (All GoodSurface) c (all-good i (x .surfaces) (h .formed .surfaces)))
+        surface-here src at (x .edition) (length (x .surfaces)) (nth (x .surfaces) i) (drop (suc i) (x .surfaces)) few (subst (All (GoodSurface (x .edition))) c (all-good i (x .surfaces) (h .formed .surfaces)))
         (subst (λ (ys : List SheetSurface). Stands src at (surfaces-blocks ys (end-block (length (x .surfaces)) ∷ []))) c s)
 
     pub surface-on : Stands src (place-on src at (suc (layer-run 16 src at))) (left (suc i))

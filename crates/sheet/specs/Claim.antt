@@ -1,16 +1,15 @@
--- What reading has to do with encoding, over all bytes: what is read is the one well-formed sheet that encodes to the bytes, and a fault is
--- where the
--- table 'Turned back' puts it. Types only; `proofs/` inhabits `GrammarClaim`.
+-- What reading has to do with encoding, over all bytes, for both editions: what is read is the one well-formed sheet that encodes to the
+-- bytes, and a fault is where the table 'Turned back' puts it. Types only; `proofs/` inhabits `GrammarClaim`.
 use mathlib.Core.Path.{_≡_}
 use mathlib.Core.Logic.{_⊎_}
-use mathlib.Core.Bool.{Bool, _&&_}
+use mathlib.Core.Bool.{Bool, _&&_, cond}
 use mathlib.Core.List.{List, List·Memᴰ}
 use Prim.Native.Nat.{ℕ, suc, _%_, _≤_, _<_}
 use lib.Dec.{T, eqb, leb}
 use lib.ListN.{length, getD}
 use Rattle.sheet.specs.Words.{word, count}
 use Rattle.sheet.specs.Blocks.{All, read, fault}
-use Rattle.sheet.specs.Sheet.{Sheet, WellFormed, blocks, words, encode, places}
+use Rattle.sheet.specs.Sheet.{Sheet, WellFormed, kind-word, blocks, words, encode, places}
 use Rattle.sheet.specs.Read.{decode, no-block}
 
 infixr 1 _⇔_
@@ -22,9 +21,13 @@ A ⇔ B = (A → B) × (B → A)
 abbrev pub Bytes : List ℕ → Type 0
 Bytes src = All (λ (b : ℕ). b < 256) src
 
--- refusal 4 where it is not so: a multiple of 4, not under 36 and not over 30,500
+-- 01: 30,500 bytes. 02 slip 3: 'The longest sheet becomes 38,692 bytes for edition 2, and 4 reads that limit if the first word is 0x10000002'
+abbrev pub longest : List ℕ → ℕ
+longest src = cond (eqb (word src 0) (kind-word 1 2)) 38692 30500
+
+-- refusal 4 where it is not so: a multiple of 4, not under 36 and not over the longest
 abbrev pub length-fits : List ℕ → Bool
-length-fits src = eqb (length src % 4) 0 && (leb 36 (length src) && leb (length src) 30500)
+length-fits src = eqb (length src % 4) 0 && (leb 36 (length src) && leb (length src) (longest src))
 
 -- ---- agreement of a well-formed sheet with the first n words of some bytes
 pub record Agrees (x : Sheet) (src : List ℕ) (n : ℕ) : Type 0 where

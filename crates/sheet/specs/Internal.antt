@@ -1,20 +1,20 @@
 -- Scaffolding, not to be believed: what the code's enum stands for, and what stands at a place of some bytes. The contracts of helpers name
 -- these; the claims
 -- name `decode` alone.
-use mathlib.Core.Bool.{Bool, true, false, _&&_, cond}
+use mathlib.Core.Bool.{Bool, true, false, cond}
 use mathlib.Core.List.{List, [], _∷_}
 use Prim.Native.Nat.{ℕ, zero, suc, _+_}
 use lib.Dec.{eqb, ltb}
 use Rattle.sheet.specs.declared.Standing.{Standing}
 use Rattle.sheet.specs.declared.Standing.the-variants as S
 use Rattle.sheet.specs.Words.{word, count, kind, payload, float}
-use Rattle.sheet.specs.Sheet.{SheetLayer, layer, SheetSurface}
+use Rattle.sheet.specs.Sheet.{SheetLayer, layer, cauchy, SheetSurface}
 use Rattle.sheet.specs.Read as Read
 
 abbrev pub standing-of : Standing → Read.Standing
 standing-of S.AtOpen = Read.at-open
-standing-of S.AtBeam = Read.at-beam
-standing-of (S.Among done most) = Read.among done most
+standing-of (S.AtBeam edition) = Read.at-beam edition
+standing-of (S.Among edition done most) = Read.among edition done most
 standing-of S.Ended = Read.ended
 
 -- one more where the kind word is a SURFACE's
@@ -30,22 +30,24 @@ unfoldable pub place-on : List ℕ → ℕ → ℕ → ℕ
 place-on src at zero = at
 place-on src at (suc n) = place-on src (next-place src at) n
 
--- a LAYER's kind word stands after the block at a place
+-- a layer's kind word stands after the block at a place
 abbrev pub layer-follows : List ℕ → ℕ → Bool
-layer-follows src at = eqb (kind (word src (next-place src at))) 4
+layer-follows src at = Read.layer-kind 2 (kind (word src (next-place src at)))
 
 abbrev pub or-none : Bool → ℕ → ℕ
 or-none true n = n
 or-none false n = 0
 
--- how many LAYERs stand directly after the block at a place: `most` at the most
+-- how many layers stand directly after the block at a place: `most` at the most
 unfoldable pub layer-run : ℕ → List ℕ → ℕ → ℕ
 layer-run zero src at = 0
 layer-run (suc most) src at = or-none (layer-follows src at) (suc (layer-run most src (next-place src at)))
 
--- the SURFACE or LAYER whose kind word is at a place
+-- the SURFACE or layer whose kind word is at a place
 abbrev pub layer-at : List ℕ → ℕ → SheetLayer
-layer-at src at = layer (float src (at + 1)) (float src (at + 3)) (float src (at + 5))
+layer-at src at =
+    cond (eqb (kind (word src at)) 6) (cauchy (float src (at + 1)) (float src (at + 3)) (float src (at + 5)) (float src (at + 7)))
+    (layer (float src (at + 1)) (float src (at + 3)) (float src (at + 5)))
 
 abbrev pub surface-at : List ℕ → ℕ → List SheetLayer → SheetSurface
 surface-at src at layers =
@@ -57,12 +59,12 @@ surface-at src at layers =
       layers = layers;
     }
 
--- n LAYERs, one after the other from a place on
+-- n layers, one after the other from a place on
 unfoldable pub layers-at : List ℕ → ℕ → ℕ → List SheetLayer
 layers-at src at zero = []
 layers-at src at (suc n) = layer-at src at ∷ layers-at src (next-place src at) n
 
--- the place of the i-th SURFACE: the first stands after OPEN and BEAM, each other after the LAYERs of the one before it
+-- the place of the i-th SURFACE: the first stands after OPEN and BEAM, each other after the layers of the one before it
 unfoldable pub place : List ℕ → ℕ → ℕ
 place src zero = place-on src 0 2
 place src (suc i) = let at = place src i in place-on src at (suc (layer-run 16 src at))

@@ -1,5 +1,5 @@
--- 01 section 1 as a reader: the kind words that may follow each other, and the sheet that some bytes hold, or the first word that is out of
--- grammar.
+-- 01 section 1 and 02 slip 3 as a reader: the kind words that may follow each other, and the sheet that some bytes hold, or the first
+-- word that is out of grammar.
 -- Definitions only. `Claim` says what it has to do with `WellFormed` and `encode`.
 use mathlib.Core.Bool.{Bool, true, false, _&&_, _||_, cond}
 use mathlib.Core.List.{List, [], _∷_}
@@ -12,11 +12,11 @@ use Rattle.refusal.specs.Outcome.{Outcome, answer, refusal, map}
 use Rattle.sheet.specs.declared.Verdict.{Verdict}
 use Rattle.sheet.specs.declared.Verdict.the-variants as K
 use Rattle.sheet.specs.Blocks.{Block, Grammar, Result, read, fault, mapped, blocks-from}
-use Rattle.sheet.specs.Sheet.{SheetLayer, layer, SheetSurface, Sheet, kind-word}
+use Rattle.sheet.specs.Sheet.{SheetLayer, layer, cauchy, SheetSurface, Sheet, kind-word}
 
--- ---- how many floats follow a kind: 01's table
+-- ---- how many floats follow a kind: 01's table, and slip 3's 'eight raw words'
 unfoldable pub floats-after : ℕ → ℕ
-floats-after k = cond (eqb k 2 || (eqb k 3 || eqb k 4)) 3 0
+floats-after k = cond (eqb k 2 || (eqb k 3 || eqb k 4)) 3 (cond (eqb k 6) 4 0)
 
 -- two raw words to a float
 unfoldable pub raws : ℕ → ℕ
@@ -25,13 +25,13 @@ raws w = 2 * floats-after (kind w)
 -- ---- where one stands between two blocks
 pub data Standing : Type 0 where
   at-open : Standing
-  -- after OPEN
-  at-beam : Standing
-  -- after BEAM, a SURFACE or a LAYER: the SURFACEs so far, and how many LAYERs may come
-  among : ℕ → ℕ → Standing
+  -- after OPEN of an edition
+  at-beam : ℕ → Standing
+  -- after BEAM, a SURFACE or a layer: the edition, the SURFACEs so far, and how many layers may come
+  among : ℕ → ℕ → ℕ → Standing
   ended : Standing
 
--- how many LAYERs may come after a SURFACE: 16 after a coating 5, else none
+-- how many layers may come after a SURFACE: 16 after a coating 5, else none
 abbrev pub layers-after : ℕ → ℕ
 layers-after p = cond (eqb (p / 2) 5) 16 0
 
@@ -39,32 +39,37 @@ layers-after p = cond (eqb (p / 2) 5) 16 0
 abbrev pub is-surface : ℕ → ℕ → Bool
 is-surface done w = eqb (kind w) 3 && (ltb done 64 && leb (payload w) 15)
 
--- LAYER: only where one may come, payload 0
-abbrev pub is-layer : ℕ → ℕ → Bool
-is-layer most w = eqb (kind w) 4 && (ltb 0 most && eqb (payload w) 0)
+-- the kinds of a layer: LAYER, and in edition 2 kind 6
+abbrev pub layer-kind : ℕ → ℕ → Bool
+layer-kind edition k = eqb k 4 || (eqb edition 2 && eqb k 6)
+
+-- a layer: only where one may come, payload 0
+abbrev pub is-layer : ℕ → ℕ → ℕ → Bool
+is-layer edition most w = layer-kind edition (kind w) && (ltb 0 most && eqb (payload w) 0)
 
 -- END: with the count of SURFACEs
 abbrev pub is-end : ℕ → ℕ → Bool
 is-end done w = eqb (kind w) 5 && eqb (payload w) done
 
--- the kind words that may come: OPEN of edition 1, BEAM, SURFACEs and LAYERs, END, nothing after
+-- the kind words that may come: OPEN of edition 1 or 2, BEAM, SURFACEs and layers, END, nothing after
 unfoldable pub may : Standing → ℕ → Bool
-may at-open w = eqb w (kind-word 1 1)
-may at-beam w = eqb w (kind-word 2 0)
-may (among done most) w = is-surface done w || (is-layer most w || is-end done w)
+may at-open w = eqb w (kind-word 1 1) || eqb w (kind-word 1 2)
+may (at-beam edition) w = eqb w (kind-word 2 0)
+may (among edition done most) w = is-surface done w || (is-layer edition most w || is-end done w)
 may ended w = false
 
 unfoldable pub after : Standing → ℕ → Standing
-after at-open w = at-beam
-after at-beam w = among 0 0
-after (among done most) w =
-    cond (eqb (kind w) 3) (among (suc done) (layers-after (payload w))) (cond (eqb (kind w) 5) ended (among done (most - 1)))
+after at-open w = at-beam (payload w)
+after (at-beam edition) w = among edition 0 0
+after (among edition done most) w =
+    cond (eqb (kind w) 3) (among edition (suc done) (layers-after (payload w)))
+    (cond (eqb (kind w) 5) ended (among edition done (most - 1)))
 after ended w = ended
 
 unfoldable pub may-end : Standing → Bool
 may-end at-open = false
-may-end at-beam = false
-may-end (among done most) = false
+may-end (at-beam edition) = false
+may-end (among edition done most) = false
 may-end ended = true
 
 abbrev pub sheet-grammar : Grammar
@@ -80,13 +85,14 @@ numbers (h ∷ l ∷ more) = joined h l ∷ numbers more
 abbrev pub number : Block → ℕ → ℕ
 number b i = getD (numbers (b .raw)) i 0
 
--- what stands from a block on: LAYERs of the SURFACE before it, and SURFACEs
+-- what stands from a block on: layers of the SURFACE before it, and SURFACEs
 pub record Rest : Type 0 where
   pub layers : List SheetLayer
   pub surfaces : List SheetSurface
 
 abbrev pub layer-of : Block → SheetLayer
-layer-of b = layer (number b 0) (number b 1) (number b 2)
+layer-of b =
+    cond (eqb (kind (b .word)) 6) (cauchy (number b 0) (number b 1) (number b 2) (number b 3)) (layer (number b 0) (number b 1) (number b 2))
 
 abbrev pub surface-of : Block → List SheetLayer → SheetSurface
 surface-of b layers =
@@ -95,7 +101,7 @@ surface-of b layers =
 unfoldable pub put : Block → Rest → Rest
 put b r =
     cond (eqb (kind (b .word)) 3) (record { layers = []; surfaces = surface-of b (r .layers) ∷ r .surfaces })
-    (cond (eqb (kind (b .word)) 4) (record { layers = layer-of b ∷ r .layers; surfaces = r .surfaces }) r)
+    (cond (layer-kind 2 (kind (b .word))) (record { layers = layer-of b ∷ r .layers; surfaces = r .surfaces }) r)
 
 unfoldable pub gathered : List Block → Rest
 gathered [] = record { layers = []; surfaces = [] }
@@ -107,7 +113,13 @@ no-block = record { word = 0; raw = [] }
 unfoldable pub sheet-of : List Block → Sheet
 sheet-of bs =
     let beam = getD bs 1 no-block in
-    record { wavelength = number beam 0; s = number beam 1; p = number beam 2; surfaces = gathered bs .surfaces }
+    record {
+      edition = payload (getD bs 0 no-block .word);
+      wavelength = number beam 0;
+      s = number beam 1;
+      p = number beam 2;
+      surfaces = gathered bs .surfaces;
+    }
 
 -- ---- from bytes to the sheet
 unfoldable pub decode : List ℕ → Result Sheet

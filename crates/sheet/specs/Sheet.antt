@@ -1,5 +1,5 @@
--- 01 section 1: a sheet as data, its blocks, and from these its words, its bytes and the places of its kind words. There is no reader here.
--- Definitions only. A float is its 64-bit pattern: the payload of a NaN is part of the bytes.
+-- 01 section 1 and 02 slip 3: a sheet of edition 1 or 2 as data, its blocks, and from these its words, its bytes and the places of its kind
+-- words. There is no reader here. Definitions only. A float is its 64-bit pattern: the payload of a NaN is part of the bytes.
 use mathlib.Core.Path.{_≡_}
 use mathlib.Core.Logic.{_⊎_}
 use mathlib.Core.List.{List, [], _∷_}
@@ -8,11 +8,12 @@ use lib.ListN.{length, getD}
 use Rattle.sheet.specs.Blocks.{Block, All, flat, starts}
 
 -- ---- the data
--- LAYER: n, k, thickness nm
+-- kind 4, LAYER: n, k, thickness nm. Kind 6, 'in place of any LAYER': A, B, C (Cauchy's coefficients) and thickness nm
 pub data SheetLayer : Type 0 where
   layer : ℕ → ℕ → ℕ → SheetLayer
+  cauchy : ℕ → ℕ → ℕ → ℕ → SheetLayer
 
--- SURFACE: its payload, n_incident, n_substrate, angle rad; and the LAYERs after it
+-- SURFACE: its payload, n_incident, n_substrate, angle rad; and the layers after it
 pub record SheetSurface : Type 0 where
   pub payload : ℕ
   pub n-incident : ℕ
@@ -20,8 +21,9 @@ pub record SheetSurface : Type 0 where
   pub angle : ℕ
   pub layers : List SheetLayer
 
--- 01's sheet. BEAM: wavelength nm, s power, p power; and the SURFACEs
+-- OPEN: the edition. BEAM: wavelength nm, s power, p power; and the SURFACEs
 pub record Sheet : Type 0 where
+  pub edition : ℕ
   pub wavelength : ℕ
   pub s : ℕ
   pub p : ℕ
@@ -38,25 +40,28 @@ nth ys i = getD ys i no-surface
 abbrev pub Pattern : ℕ → Type 0
 Pattern x = x < 2 ^ 64
 
-abbrev pub GoodLayer : SheetLayer → Type 0
-GoodLayer (layer n k thickness) = Pattern n × (Pattern k × Pattern thickness)
+-- 'Sheets of edition 2 may have kind 6'
+abbrev pub GoodLayer : ℕ → SheetLayer → Type 0
+GoodLayer edition (layer n k thickness) = Pattern n × (Pattern k × Pattern thickness)
+GoodLayer edition (cauchy a b c thickness) = (edition ≡ 2) × (Pattern a × (Pattern b × (Pattern c × Pattern thickness)))
 
--- payload 0 to 15; 0 to 16 LAYERs, and only after a coating 5
-pub record GoodSurface (y : SheetSurface) : Type 0 where
+-- payload 0 to 15; 0 to 16 layers, and only after a coating 5
+pub record GoodSurface (edition : ℕ) (y : SheetSurface) : Type 0 where
   pub payload : y .payload ≤ 15
   pub n-incident : Pattern (y .n-incident)
   pub n-substrate : Pattern (y .n-substrate)
   pub angle : Pattern (y .angle)
-  pub layers : All GoodLayer (y .layers)
+  pub layers : All (GoodLayer edition) (y .layers)
   pub few : length (y .layers) ≤ 16
   pub custom : (y .layers ≡ []) ⊎ (y .payload / 2 ≡ 5)
 
--- 01's grammar, of the data: 0 to 64 SURFACEs
+-- the grammar, of the data: edition 1 or 2, 0 to 64 SURFACEs
 pub record WellFormed (x : Sheet) : Type 0 where
+  pub edition : (x .edition ≡ 1) ⊎ (x .edition ≡ 2)
   pub wavelength : Pattern (x .wavelength)
   pub s : Pattern (x .s)
   pub p : Pattern (x .p)
-  pub surfaces : All GoodSurface (x .surfaces)
+  pub surfaces : All (GoodSurface (x .edition)) (x .surfaces)
   pub few : length (x .surfaces) ≤ 64
 
 -- ---- the blocks
@@ -72,20 +77,21 @@ raw-words (x ∷ xs) = x / 2 ^ 32 ∷ x % 2 ^ 32 ∷ raw-words xs
 abbrev pub block : ℕ → ℕ → List ℕ → Block
 block kind payload floats = record { word = kind-word kind payload; raw = raw-words floats }
 
--- kind 4
+-- kinds 4 and 6
 abbrev pub layer-block : SheetLayer → Block
 layer-block (layer n k thickness) = block 4 0 (n ∷ k ∷ thickness ∷ [])
+layer-block (cauchy a b c thickness) = block 6 0 (a ∷ b ∷ c ∷ thickness ∷ [])
 
 -- kind 3
 abbrev pub surface-block : SheetSurface → Block
 surface-block y = block 3 (y .payload) (y .n-incident ∷ y .n-substrate ∷ y .angle ∷ [])
 
--- LAYERs with `more` blocks after them
+-- layers with `more` blocks after them
 unfoldable pub layers-blocks : List SheetLayer → List Block → List Block
 layers-blocks [] more = more
 layers-blocks (l ∷ ls) more = layer-block l ∷ layers-blocks ls more
 
--- SURFACEs, each before its LAYERs, with `more` blocks after them
+-- SURFACEs, each before its layers, with `more` blocks after them
 unfoldable pub surfaces-blocks : List SheetSurface → List Block → List Block
 surfaces-blocks [] more = more
 surfaces-blocks (y ∷ ys) more = surface-block y ∷ layers-blocks (y .layers) (surfaces-blocks ys more)
@@ -94,9 +100,9 @@ surfaces-blocks (y ∷ ys) more = surface-block y ∷ layers-blocks (y .layers) 
 abbrev pub end-block : ℕ → Block
 end-block n = block 5 n []
 
--- OPEN of edition 1, BEAM, the SURFACEs, END, nothing after
+-- OPEN, BEAM, the SURFACEs, END, nothing after
 unfoldable pub blocks : Sheet → List Block
-blocks x = block 1 1 [] ∷ block 2 0 (x .wavelength ∷ x .s ∷ x .p ∷ []) ∷
+blocks x = block 1 (x .edition) [] ∷ block 2 0 (x .wavelength ∷ x .s ∷ x .p ∷ []) ∷
     surfaces-blocks (x .surfaces) (end-block (length (x .surfaces)) ∷ [])
 
 -- ---- all three from the blocks: the words, the bytes, the places of the kind words counted in words from 0

@@ -1,4 +1,4 @@
-// Sheets of document 01, section 1: the reader of their words, and the grammar.
+// Sheets of document 01, section 1, and of document 02, slip 3: the reader of their words, and the grammar.
 ghost use mathlib.Core.Path.{_≡_};
 ghost use mathlib.Core.Bool.{true};
 ghost use Prim.Native.Nat.{_<_};
@@ -48,6 +48,9 @@ fn raws(w: u32) -> usize
     }
     if k == 4 {
         return 6;
+    }
+    if k == 6 {
+        return 8;
     }
     0
 }
@@ -114,12 +117,12 @@ pub fn float_from(src: &[u8], at: usize) -> f64
 
 // ---- grammar
 
-// Where one stands between two blocks: before OPEN, before BEAM, among the blocks after it (SURFACEs
-// so far, LAYERs that may come), after END.
+// Where one stands between two blocks: before OPEN, before BEAM (the edition), among the blocks after it
+// (the edition, SURFACEs so far, layers that may come), after END.
 pub enum Standing {
     AtOpen,
-    AtBeam,
-    Among(u32, u32),
+    AtBeam(u32),
+    Among(u32, u32, u32),
     Ended,
 }
 
@@ -135,10 +138,23 @@ fn is_surface(done: u32, w: u32) -> bool
     w % 0x1000_0000 <= 15
 }
 
-fn is_layer(most: u32, w: u32) -> bool
-    ensures { λ r. ⌜ r ≡ Read.is-layer most w ⌝ }
+// The kinds of a layer: LAYER, and in edition 2 kind 6.
+fn layer_kind(edition: u32, kind: u32) -> bool
+    ensures { λ r. ⌜ r ≡ Read.layer-kind edition kind ⌝ }
 {
-    if w / 0x1000_0000 != 4 {
+    if kind == 4 {
+        return true;
+    }
+    if edition != 2 {
+        return false;
+    }
+    kind == 6
+}
+
+fn is_layer(edition: u32, most: u32, w: u32) -> bool
+    ensures { λ r. ⌜ r ≡ Read.is-layer edition most w ⌝ }
+{
+    if !layer_kind(edition, w / 0x1000_0000) {
         return false;
     }
     if most == 0 {
@@ -161,13 +177,18 @@ fn may(s: Standing, w: u32) -> bool
     ensures { λ r. ⌜ r ≡ Read.may (standing-of s) w ⌝ }
 {
     match s {
-        Standing::AtOpen => w == 0x1000_0001,
-        Standing::AtBeam => w == 0x2000_0000,
-        Standing::Among(done, most) => {
+        Standing::AtOpen => {
+            if w == 0x1000_0001 {
+                return true;
+            }
+            w == 0x1000_0002
+        }
+        Standing::AtBeam(_) => w == 0x2000_0000,
+        Standing::Among(edition, done, most) => {
             if is_surface(done, w) {
                 return true;
             }
-            if is_layer(most, w) {
+            if is_layer(edition, most, w) {
                 return true;
             }
             is_end(done, w)
@@ -176,7 +197,7 @@ fn may(s: Standing, w: u32) -> bool
     }
 }
 
-// How many LAYERs may come after a SURFACE of this payload.
+// How many layers may come after a SURFACE of this payload.
 fn layers_after(payload: u32) -> u32
     ensures { λ r. ⌜ r ≡ Read.layers-after payload ⌝ }
 {
@@ -189,16 +210,16 @@ fn after(s: Standing, w: u32) -> Standing
     ensures { λ r. ⌜ standing-of r ≡ Read.after (standing-of s) w ⌝ }
 {
     match s {
-        Standing::AtOpen => Standing::AtBeam,
-        Standing::AtBeam => Standing::Among(0, 0),
-        Standing::Among(done, most) => {
+        Standing::AtOpen => Standing::AtBeam(w % 0x1000_0000),
+        Standing::AtBeam(edition) => Standing::Among(edition, 0, 0),
+        Standing::Among(edition, done, most) => {
             if w / 0x1000_0000 == 3 {
-                return Standing::Among(done + 1, layers_after(w % 0x1000_0000));
+                return Standing::Among(edition, done + 1, layers_after(w % 0x1000_0000));
             }
             if w / 0x1000_0000 == 5 {
                 return Standing::Ended;
             }
-            Standing::Among(done, most - 1)
+            Standing::Among(edition, done, most - 1)
         }
         Standing::Ended => Standing::Ended,
     }
@@ -209,8 +230,8 @@ fn has_ended(s: Standing) -> bool
 {
     match s {
         Standing::AtOpen => false,
-        Standing::AtBeam => false,
-        Standing::Among(_, _) => false,
+        Standing::AtBeam(_) => false,
+        Standing::Among(_, _, _) => false,
         Standing::Ended => true,
     }
 }
@@ -272,14 +293,14 @@ pub fn place_on(src: &[u8], at: usize, n: usize) -> usize
     place
 }
 
-// How many LAYERs stand directly after the block at a place: 16 at the most.
+// How many layers stand directly after the block at a place: 16 at the most.
 pub fn layer_run(src: &[u8], at: usize) -> usize
     ensures { λ r. ⌜ r ≡ layer-run 16 (now (src .entry)) at ⌝ }
 {
     let mut n = 0;
     let mut place = at;
     while n < 16 {
-        if word_after(src, place) / 0x1000_0000 != 4 {
+        if !layer_kind(2, word_after(src, place) / 0x1000_0000) {
             return n;
         }
         place = next_place(src, place);

@@ -12,7 +12,7 @@ use Rattle.sheet.proofs.Standings.{raws-few}
 use Rattle.sheet.proofs.next_place.Statement.{statement}
 use Rattle.sheet.proofs.next_place.Tie as tie
 
-few : (w v k : ℕ) → w ≡ v → k ≡ Read.raws w → k ≤ 6
+few : (w v k : ℕ) → w ≡ v → k ≡ Read.raws w → k ≤ 8
 few w v k e h = omega (arith, h, raws-few w)
 
 on : (src : List ℕ) (at w k : ℕ) → at < count src → w ≡ word src at → k ≡ Read.raws w → at + k + 1 ≡ next-place src at

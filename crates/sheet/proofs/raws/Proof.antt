@@ -17,7 +17,11 @@ unfolding floats-after
 returns-3 c = raws-at _ 4 (c .if3 .taken)
 
 returns-4 : tie.Need-returns-4
-returns-4 c = raws-none _ (c .before .before .if1 .left) (c .before .if2 .left) (c .if3 .left)
+unfolding floats-after
+returns-4 c = raws-at _ 6 (c .if4 .taken)
+
+returns-5 : tie.Need-returns-5
+returns-5 c = raws-none _ (c .before .before .before .if1 .left) (c .before .before .if2 .left) (c .before .if3 .left) (c .if4 .left)
 
 pub raws-spec : {M : Type 1} → statement M
-raws-spec = tie.close (tie.spec returns returns-2 returns-3 returns-4)
+raws-spec = tie.close (tie.spec returns returns-2 returns-3 returns-4 returns-5)
