@@ -11,69 +11,77 @@ use borrow.Author.Tests.{not-true, not-false, eqb-true}
 use Rattle.ieee.specs.Functions.{zero-f}
 use Rattle.refusal.specs.Outcome.{Outcome, answer, refusal, map}
 use Rattle.gate_limits.specs.declared.Judgement.{Judgement}
-use Rattle.sheet.specs.Words.{word, count, kind, payload, float}
+use Rattle.sheet.specs.Words.{word, count, kind, float}
 use Rattle.sheet.specs.Blocks.{Block, Result, read, fault, starts}
-use Rattle.sheet.specs.Sheet.{Sheet, SheetLayer, layer, SheetSurface, blocks, places}
-use Rattle.sheet.specs.Read.{floats-after, raws, number, layer-of, surface-of, decode, graded, surfaces-of, grammar}
+use Rattle.sheet.specs.Sheet.{Sheet, blocks, places}
+use Rattle.sheet.specs.Read.{floats-after, raws, number, decode, graded, surfaces-of, grammar}
 use Rattle.sheet.specs.Claim.{length-fits}
-use Rattle.sheet.specs.Internal.{next-place, layer-at, surface-at}
+use Rattle.sheet.specs.Internal.{next-place}
 use Rattle.sheet.proofs.Stands.{Stands, Standing, standing, Known, bytes-from, word-here, float-here, inside, next-is, next-stands, ends-here}
-use Rattle.sheet_values.specs.Values.{value, film, surface-value}
+use Rattle.sheet_values.specs.declared.Beam.{Beam}
+use Rattle.sheet_values.specs.Values.{value}
 use Rattle.sheet_values.specs.Internal.{beam-at}
+use Rattle.sheet_values.proofs.Here.{beam-here}
 use Rattle.gate.specs.Gate.{verdict, carried, walked, verdicts, judged, within-limits}
 use Rattle.gate.specs.Internal.{judgement-at}
 
 -- ---- one block: what the code finds at its place is what its words say
-module _ (src : List ℕ) (at : ℕ) (b : Float) (k : Block) (ks : List Block) (h : Stands src at (k ∷ ks)) where
+module _ (src : List ℕ) (at : ℕ) (v b : Float) (k : Block) (ks : List Block) (h : Stands src at (k ∷ ks)) where
   w : word src at ≡ k .word
   w = word-here src at k ks h
 
-  three : (n : ℕ) → kind (k .word) ≡ n → floats-after n ≡ 3 → (i j : ℕ) → j ≡ suc (2 * i) → i < 3 → float src (at + j) ≡ number k i
-  unfolding raws
-  three n e f i j q lt =
-      let s : length (k .raw) ≡ 2 * floats-after n = h .sized .0 ∙ ap (λ (m : ℕ). 2 * floats-after m) e in
-      float-here src at k ks h i j q (omega arith)
-
   abbrev Judges : Type 0
-  Judges = judgement-at src at b ≡ record { passes = verdict b k; snell = carried b k }
+  Judges = judgement-at src at v b ≡ record { passes = verdict v b k; snell = carried b k }
 
-  module _ (n : ℕ) (e : kind (k .word) ≡ n) (f : floats-after n ≡ 3) where
-    f0 : float src (at + 1) ≡ number k 0
-    f0 = three n e f 0 1 refl (omega arith)
+  -- the floats that a kind has
+  module _ (n many : ℕ) (e : kind (k .word) ≡ n) (f : floats-after n ≡ many) where
+    nth-float : (i j : ℕ) → j ≡ suc (2 * i) → i < many → float src (at + j) ≡ number k i
+    unfolding raws
+    nth-float i j q lt =
+        let s : length (k .raw) ≡ 2 * floats-after n = h .sized .0 ∙ ap (λ (m : ℕ). 2 * floats-after m) e in
+        float-here src at k ks h i j q (omega arith)
 
-    f1 : float src (at + 3) ≡ number k 1
-    f1 = three n e f 1 3 refl (omega arith)
+    f0 : 3 ≤ many → float src (at + 1) ≡ number k 0
+    f0 le = nth-float 0 1 refl (omega arith)
 
-    f2 : float src (at + 5) ≡ number k 2
-    f2 = three n e f 2 5 refl (omega arith)
+    f1 : 3 ≤ many → float src (at + 3) ≡ number k 1
+    f1 le = nth-float 1 3 refl (omega arith)
+
+    f2 : 3 ≤ many → float src (at + 5) ≡ number k 2
+    f2 le = nth-float 2 5 refl (omega arith)
 
   is-beam : kind (k .word) ≡ 2 → Judges
   unfolding judgement-at verdict carried floats-after
-  is-beam e = rw (w, e, f0 2 e refl, f1 2 e refl, f2 2 e refl) refl
+  is-beam e = let le : 3 ≤ 3 = omega arith in rw (w, e, f0 2 3 e refl le, f1 2 3 e refl le, f2 2 3 e refl le) refl
 
   is-surface : kind (k .word) ≡ 3 → Judges
   unfolding judgement-at verdict carried floats-after
-  is-surface e = rw (w, e, f0 3 e refl, f1 3 e refl, f2 3 e refl) refl
+  is-surface e = let le : 3 ≤ 3 = omega arith in rw (w, e, f0 3 3 e refl le, f1 3 3 e refl le, f2 3 3 e refl le) refl
 
   is-layer : kind (k .word) ≡ 4 → Judges
   unfolding judgement-at verdict carried floats-after
-  is-layer e = rw (w, e, f0 4 e refl, f1 4 e refl, f2 4 e refl) refl
+  is-layer e = let le : 3 ≤ 3 = omega arith in rw (w, e, f0 4 3 e refl le, f1 4 3 e refl le, f2 4 3 e refl le) refl
 
-  is-other : eqb (kind (k .word)) 2 ≡ false → eqb (kind (k .word)) 3 ≡ false → eqb (kind (k .word)) 4 ≡ false → Judges
+  is-cauchy : kind (k .word) ≡ 6 → Judges
+  unfolding judgement-at verdict carried floats-after
+  is-cauchy e = let le : 3 ≤ 4 = omega arith in rw (w, e, f0 6 4 e refl le, f1 6 4 e refl le, f2 6 4 e refl le, nth-float 6 4 e refl 3 7 refl (omega arith)) refl
+
+  is-other : eqb (kind (k .word)) 2 ≡ false → eqb (kind (k .word)) 3 ≡ false → eqb (kind (k .word)) 4 ≡ false → eqb (kind (k .word)) 6 ≡ false → Judges
   unfolding judgement-at verdict carried
-  is-other p q r = rw (w, p, q, r) refl
+  is-other p q r s = rw (w, p, q, r, s) refl
 
   pub judges : Judges
-  judges = by (eqb n 2) refl (eqb n 3) refl (eqb n 4) refl
+  judges = by (eqb n 2) refl (eqb n 3) refl (eqb n 4) refl (eqb n 6) refl
     where
       n : ℕ
       n = kind (k .word)
 
-      by : (t : Bool) → eqb n 2 ≡ t → (u : Bool) → eqb n 3 ≡ u → (v : Bool) → eqb n 4 ≡ v → Judges
-      by true p u q v r = is-beam (eqb-true n 2 p)
-      by false p true q v r = is-surface (eqb-true n 3 q)
-      by false p false q true r = is-layer (eqb-true n 4 r)
-      by false p false q false r = is-other p q r
+      by : (t : Bool) → eqb n 2 ≡ t → (u : Bool) → eqb n 3 ≡ u → (v : Bool) → eqb n 4 ≡ v → (z : Bool) → eqb n 6 ≡ z → Judges
+      by true p u q v r z s = is-beam (eqb-true n 2 p)
+      by false p true q v r z s = is-surface (eqb-true n 3 q)
+      by false p false q true r z s = is-layer (eqb-true n 4 r)
+      by false p false q false r true s = is-cauchy (eqb-true n 6 s)
+      by false p false q false r false s = is-other p q r s
 
 -- ---- along the loop over a sheet
 map-judged : (x : Sheet) (ps : List ℕ) (ts : List Bool) → map surfaces-of (judged x ps ts) ≡ judged (surfaces-of x) ps ts
@@ -84,10 +92,10 @@ map-judged x (p ∷ ps) (true ∷ ts) = map-judged x ps ts
 map-judged x (p ∷ ps) (false ∷ ts) = refl
 
 -- the blocks that are left from a place on, and that they are judged as the whole sheet is
-pub record Left (src : List ℕ) (n at : ℕ) (b : Float) (o : Outcome ℕ) : Type 0 where
+pub record Left (src : List ℕ) (n at : ℕ) (v b : Float) (o : Outcome ℕ) : Type 0 where
   pub left : List Block
   pub stands : Stands src at left
-  pub judges : judged n (starts at left) (walked b left) ≡ o
+  pub judges : judged n (starts at left) (walked v b left) ≡ o
 
 abbrev result : List ℕ → Outcome ℕ
 result src = map surfaces-of (within-limits (graded (decode src)))
@@ -104,11 +112,12 @@ counted src n e = go (decode src) refl e
         inside e = cc
     go (fault place) p e = absurd (let z : _≡_ {A = ℕ} 0 1 = cc in omega arith)
 
-pub begin : (src : List ℕ) (n : ℕ) → Known src → T (length-fits src) → grammar src ≡ answer n → Left src n 0 zero-f (result src)
-begin src n known t e =
+pub begin : (src : List ℕ) (n : ℕ) (v : Float) → Known src → T (length-fits src) → grammar src ≡ answer n → (m : Beam) → m ≡ beam-at src (next-place src 0) → v ≡ m .«wavelength_nm» → Left src n 0 v zero-f (result src)
+begin src n v known t e m m-is v-is =
     let c = counted src n e in
     let s = standing src (bytes-from src known) t (c .0) (c .1 .0) in
-    record {
+    let p : v ≡ value (c .0 .wavelength) = v-is ∙ ap (λ (z : Beam). z .«wavelength_nm») (m-is ∙ beam-here src (c .0) s) in
+    rw p record {
       left = blocks (c .0);
       stands = s .stands;
       judges =
@@ -116,35 +125,35 @@ begin src n known t e =
           ∙ sym (ap (λ (q : Result Sheet). map surfaces-of (within-limits (graded q))) (c .1 .0) ∙ map-judged (c .0) (places (c .0)) (verdicts (c .0)));
     }
 
-module _ (src : List ℕ) (n at : ℕ) (b : Float) (o : Outcome ℕ) where
-  module _ (j : Judgement) (j-is : j ≡ judgement-at src at b) where
-    fails : (ks : List Block) → Stands src at ks → judged n (starts at ks) (walked b ks) ≡ o → at < count src → not (j .passes) ≡ true → refusal 6 at ≡ o
+module _ (src : List ℕ) (n at : ℕ) (v b : Float) (o : Outcome ℕ) where
+  module _ (j : Judgement) (j-is : j ≡ judgement-at src at v b) where
+    fails : (ks : List Block) → Stands src at ks → judged n (starts at ks) (walked v b ks) ≡ o → at < count src → not (j .passes) ≡ true → refusal 6 at ≡ o
     unfolding walked judged starts
     fails [] s e lt f = absurd (omega (arith, ends-here src at s))
     fails (k ∷ ks) s e lt f =
-        let p : verdict b k ≡ false = sym (ap (λ (z : Judgement). z .passes) (j-is ∙ judges src at b k ks s)) ∙ not-true (j .passes) f in
+        let p : verdict v b k ≡ false = sym (ap (λ (z : Judgement). z .passes) (j-is ∙ judges src at v b k ks s)) ∙ not-true (j .passes) f in
         rw p at e
 
-    holds : (ks : List Block) → Stands src at ks → judged n (starts at ks) (walked b ks) ≡ o → at < count src → not (j .passes) ≡ false → (at < next-place src at) × Left src n (next-place src at) (j .snell) o
+    holds : (ks : List Block) → Stands src at ks → judged n (starts at ks) (walked v b ks) ≡ o → at < count src → not (j .passes) ≡ false → (at < next-place src at) × Left src n (next-place src at) v (j .snell) o
     unfolding walked judged starts
     holds [] s e lt f = absurd (omega (arith, ends-here src at s))
     holds (k ∷ ks) s e lt f =
-        let q = j-is ∙ judges src at b k ks s in
-        let p : verdict b k ≡ true = sym (ap (λ (z : Judgement). z .passes) q) ∙ not-false (j .passes) f in
+        let q = j-is ∙ judges src at v b k ks s in
+        let p : verdict v b k ≡ true = sym (ap (λ (z : Judgement). z .passes) q) ∙ not-false (j .passes) f in
         let c : j .snell ≡ carried b k = ap (λ (z : Judgement). z .snell) q in
         let m = next-is src at k ks s in
         (omega arith, record { left = ks; stands = next-stands src at k ks s; judges = rw (m, c) (rw p at e) })
 
-    pub block-fails : Left src n at b o → at < count src → not (j .passes) ≡ true → refusal 6 at ≡ o
+    pub block-fails : Left src n at v b o → at < count src → not (j .passes) ≡ true → refusal 6 at ≡ o
     block-fails i lt f = fails (i .left) (i .stands) (i .judges) lt f
 
-    pub block-holds : Left src n at b o → at < count src → not (j .passes) ≡ false → (q : ℕ) → q ≡ next-place src at → (at < q) × Left src n q (j .snell) o
+    pub block-holds : Left src n at v b o → at < count src → not (j .passes) ≡ false → (q : ℕ) → q ≡ next-place src at → (at < q) × Left src n q v (j .snell) o
     block-holds i lt f q e = rw e (holds (i .left) (i .stands) (i .judges) lt f)
 
-  ended : (ks : List Block) → Stands src at ks → judged n (starts at ks) (walked b ks) ≡ o → count src ≤ at → answer n ≡ o
+  ended : (ks : List Block) → Stands src at ks → judged n (starts at ks) (walked v b ks) ≡ o → count src ≤ at → answer n ≡ o
   unfolding walked judged
   ended [] s e le = e
   ended (k ∷ ks) s e le = absurd (omega (arith, inside src at k ks s))
 
-  pub all-within : Left src n at b o → count src ≤ at → answer n ≡ o
+  pub all-within : Left src n at v b o → count src ≤ at → answer n ≡ o
   all-within i le = ended (i .left) (i .stands) (i .judges) le

@@ -1,42 +1,53 @@
--- 01 section 3 and the table 'Turned back': the gate over a whole sheet. Definitions only.
+-- 01 section 3, 02 slip 3 and the table 'Turned back': the gate over a whole sheet. Definitions only.
 -- `Claim` says what it has to do with `encode`, `WellFormed` and `WithinLimits`.
-use mathlib.Core.Bool.{Bool, true, cond}
+use mathlib.Core.Bool.{Bool, true, _&&_, cond}
 use mathlib.Core.List.{List, [], _∷_}
 use Prim.Native.Nat.{ℕ}
 use lib.Dec.{eqb}
 use lib.Ieee.{Float}
+use lib.Ieee.Scale.{finite}
 use Rattle.ieee.specs.Functions.{zero-f}
 use Rattle.refusal.specs.Outcome.{Outcome, answer, refusal, refused, map}
 use Rattle.gate_limits.specs.Limits.{beam-passes, snell-size, layer-within, surface-passes}
 use Rattle.sheet.specs.Words.{kind}
 use Rattle.sheet.specs.Blocks.{Block}
-use Rattle.sheet.specs.Sheet.{Sheet, blocks, places}
-use Rattle.sheet.specs.Read.{number, layer-of, surface-of, decode, graded, surfaces-of}
+use Rattle.sheet.specs.Sheet.{SheetLayer, layer, cauchy, Sheet, blocks, places}
+use Rattle.sheet.specs.Read.{layer-kind, number, layer-of, surface-of, decode, graded, surfaces-of}
 use Rattle.sheet.specs.Claim.{length-fits}
 use Rattle.sheet_values.specs.Values.{value, film, surface-value}
 use Rattle.gate.specs.declared.Gated.{Gated}
 use Rattle.gate.specs.declared.Gated.the-variants as G
 
+-- ---- a layer of either kind at a wavelength, for an n_incident·abs(sin) of b
+-- 'A, B and C must be finite'
+abbrev pub coefficients-finite : SheetLayer → Bool
+coefficients-finite (layer n k thickness) = true
+coefficients-finite (cauchy a b c thickness) = finite (value a) && (finite (value b) && finite (value c))
+
+-- 'The gate tests that index as a layer's n'
+abbrev pub layer-admitted : Float → Float → SheetLayer → Bool
+layer-admitted wavelength b l = coefficients-finite l && layer-within b (film wavelength l)
+
 -- ---- the limits, block by block
--- what they say of a block by its own words, for an n_incident·abs(sin) of b of the SURFACE before it; a preset's layers count as the
--- SURFACE
-unfoldable pub verdict : Float → Block → Bool
-verdict b k =
+-- what they say of a block by its own words, at the BEAM's wavelength and for an n_incident·abs(sin) of b of the SURFACE before it; a
+-- preset's layers count as the SURFACE
+unfoldable pub verdict : Float → Float → Block → Bool
+verdict wavelength b k =
     cond (eqb (kind (k .word)) 2) (beam-passes (value (number k 0)) (value (number k 1)) (value (number k 2)))
     (cond (eqb (kind (k .word)) 3) (surface-passes (surface-value (surface-of k [])))
-    (cond (eqb (kind (k .word)) 4) (layer-within b (film (layer-of k))) true))
+    (cond (layer-kind 2 (kind (k .word))) (layer-admitted wavelength b (layer-of k)) true))
 
--- n_incident·abs(sin) after a block: a SURFACE's own, for its LAYERs
+-- n_incident·abs(sin) after a block: a SURFACE's own, for its layers
 unfoldable pub carried : Float → Block → Float
 carried b k = cond (eqb (kind (k .word)) 3) (snell-size (value (number k 0)) (value (number k 2))) b
 
-unfoldable pub walked : Float → List Block → List Bool
-walked b [] = []
-walked b (k ∷ ks) = verdict b k ∷ walked (carried b k) ks
+unfoldable pub walked : Float → Float → List Block → List Bool
+walked wavelength b [] = []
+walked wavelength b (k ∷ ks) = verdict wavelength b k ∷ walked wavelength (carried b k) ks
 
 -- one for each block, in their order
 abbrev pub verdicts : Sheet → List Bool
-verdicts x = walked zero-f (blocks x)
+verdicts x = walked (value (x .wavelength)) zero-f (blocks x)
 
 -- 6: the first block outside, at its place
 unfoldable pub judged : {A : Type 0} → A → List ℕ → List Bool → Outcome A

@@ -1,15 +1,20 @@
 // The gate of document 01: any bytes of any length are admitted, with their count of surfaces, or
 // refused with 4, 5 or 6, in that order over the whole sheet.
 ghost use mathlib.Core.Path.{_≡_};
+ghost use mathlib.Core.Bool.{_&&_};
 ghost use lib.Dec.{T};
-ghost use Rattle.sheet.specs.Claim.{length-fits};
+ghost use lib.Ieee.Scale.{finite};
+ghost use Rattle.gate_limits.specs.Limits.{layer-within};
+ghost use Rattle.sheet.specs.Claim.{longest, length-fits};
 ghost use Rattle.sheet.specs.Read.{decode, graded, surfaces-of, grammar};
 ghost use Rattle.refusal.specs.Outcome.{answer, refusal, map};
 ghost use Rattle.gate.specs.Gate.{outcome, within-limits, gate};
+ghost use Rattle.sheet_values.specs.Values.{cauchy-film};
 ghost use Rattle.gate.specs.Internal.{judgement-at};
 use gate_limits::Judgement;
 use refusal::Refusal;
 use sheet::Verdict;
+use sheet_values::Cauchy;
 
 // A sheet that is admitted, with its count of surfaces; or a refusal.
 pub enum Gated {
@@ -17,12 +22,23 @@ pub enum Gated {
     Refused(Refusal),
 }
 
-// A multiple of 4, not under 36 and not over 30,500.
+// The longest sheet in bytes: edition 2's where the first word is its OPEN.
+fn longest(src: &[u8]) -> usize
+    ensures { λ r. ⌜ r ≡ longest (now (src .entry)) ⌝ }
+{
+    if sheet::word_from(src, 0) == 0x1000_0002 {
+        38692
+    } else {
+        30500
+    }
+}
+
+// A multiple of 4, not under 36 and not over the longest.
 fn length_fits(src: &[u8]) -> bool
     ensures { λ r. ⌜ r ≡ length-fits (now (src .entry)) ⌝ }
 {
     let n = src.len();
-    n % 4 == 0 && (36 <= n && n <= 30500)
+    n % 4 == 0 && (36 <= n && n <= longest(src))
 }
 
 // The first block outside the limits, at its place.
@@ -32,9 +48,22 @@ fn outside(place: usize) -> Gated
     Gated::Refused(Refusal { number: 6, place })
 }
 
-// Whether the block at a place is within the limits, and n_incident * abs(sin) after it.
-fn judge(src: &[u8], at: usize, snell: f64) -> Judgement
-    ensures { λ r. ⌜ r ≡ judgement-at (now (src .entry)) at snell ⌝ }
+// A kind 6 at a wavelength: its coefficients are finite, and its index is tested as a layer's n.
+fn cauchy_passes(wavelength_nm: f64, snell: f64, glass: Cauchy) -> bool
+    ensures { λ r. ⌜ r ≡ (finite (glass .a) && (finite (glass .b) && finite (glass .c))) && layer-within snell (cauchy-film «wavelength_nm» glass) ⌝ }
+{
+    ieee::is_finite(glass.a)
+        && (ieee::is_finite(glass.b)
+            && (ieee::is_finite(glass.c)
+                && gate_limits::layer_within(
+                    snell,
+                    sheet_values::cauchy_film(wavelength_nm, glass),
+                )))
+}
+
+// Whether the block at a place is within the limits at a wavelength, and n_incident * abs(sin) after it.
+fn judge(src: &[u8], at: usize, wavelength_nm: f64, snell: f64) -> Judgement
+    ensures { λ r. ⌜ r ≡ judgement-at (now (src .entry)) at «wavelength_nm» snell ⌝ }
 {
     let kind = sheet::word_from(src, at) / 0x1000_0000;
     if kind == 2 {
@@ -49,7 +78,13 @@ fn judge(src: &[u8], at: usize, snell: f64) -> Judgement
     }
     if kind == 4 {
         return Judgement {
-            passes: gate_limits::layer_within(snell, sheet_values::layer_at(src, at)),
+            passes: gate_limits::layer_within(snell, sheet_values::plain_at(src, at)),
+            snell,
+        };
+    }
+    if kind == 6 {
+        return Judgement {
+            passes: cauchy_passes(wavelength_nm, snell, sheet_values::cauchy_at(src, at)),
             snell,
         };
     }
@@ -59,16 +94,17 @@ fn judge(src: &[u8], at: usize, snell: f64) -> Judgement
     }
 }
 
-// The limits of a sheet that is in grammar, block after block.
+// The limits of a sheet that is in grammar, block after block, at the BEAM's wavelength.
 fn limits(src: &[u8], count: u32) -> Gated
     requires { ⌜ T (length-fits (now src)) × (grammar (now src) ≡ answer count) ⌝ }
     ensures { λ r. ⌜ outcome r ≡ map surfaces-of (within-limits (graded (decode (now (src .entry))))) ⌝ }
 {
     let total = src.len() / 4;
+    let beam = sheet_values::beam_of(src);
     let mut at: usize = 0;
     let mut snell = 0.0;
     while at < total {
-        let judgement = judge(src, at, snell);
+        let judgement = judge(src, at, beam.wavelength_nm, snell);
         if !judgement.passes {
             return outside(at);
         }

@@ -21,7 +21,8 @@ A ⇔ B = (A → B) × (B → A)
 abbrev pub Bytes : List ℕ → Type 0
 Bytes src = All (λ (b : ℕ). b < 256) src
 
--- 01: 30,500 bytes. 02 slip 3: 'The longest sheet becomes 38,692 bytes for edition 2, and 4 reads that limit if the first word is 0x10000002'
+-- 01: 30,500 bytes. 02 slip 3: 'The longest sheet becomes 38,692 bytes for edition 2, and 4 reads that limit if the first word is
+-- 0x10000002.'
 abbrev pub longest : List ℕ → ℕ
 longest src = cond (eqb (word src 0) (kind-word 1 2)) 38692 30500
 

@@ -92,7 +92,8 @@ pub record Rest : Type 0 where
 
 abbrev pub layer-of : Block → SheetLayer
 layer-of b =
-    cond (eqb (kind (b .word)) 6) (cauchy (number b 0) (number b 1) (number b 2) (number b 3)) (layer (number b 0) (number b 1) (number b 2))
+    cond (eqb (kind (b .word)) 6) (cauchy (number b 0) (number b 1) (number b 2) (number b 3))
+    (layer (number b 0) (number b 1) (number b 2))
 
 abbrev pub surface-of : Block → List SheetLayer → SheetSurface
 surface-of b layers =

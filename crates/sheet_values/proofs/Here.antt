@@ -1,9 +1,10 @@
--- The values of the BEAM and of a SURFACE with its LAYERs, where they stand in some bytes. Assumes nothing.
+-- The values of the BEAM and of a SURFACE with its layers, where they stand in some bytes. Assumes nothing.
 use mathlib.Core.Path.{_≡_, refl, sym, ap, _∙_}
 use mathlib.Core.List.{List, [], _∷_}
 use Prim.Native.Nat.{ℕ, suc, _+_, _*_, _<_}
 use native.Mathlib.Omega.{arith}
 use lib.ListN.{length, getD}
+use lib.Ieee.{Float}
 use Rattle.sheet.specs.Words.{float}
 use Rattle.sheet.specs.Blocks.{Block}
 use Rattle.sheet.specs.Sheet.{SheetLayer, SheetSurface, Sheet}
@@ -21,5 +22,5 @@ module _ (src : List ℕ) (at : ℕ) (y : SheetSurface) (more : List Block) (h :
   pub value-here : surface-value (surface-at src at []) ≡ surface-value y
   value-here = ap surface-value (h .value [])
 
-  pub films-here : (n : ℕ) → n ≡ layer-run 16 src at → films (layers-at src (next-place src at) n) ≡ films (y .layers)
-  films-here n e = ap (λ (m : ℕ). films (layers-at src (next-place src at) m)) (e ∙ h .run) ∙ ap films (h .layers)
+  pub films-here : (wavelength : Float) (n : ℕ) → n ≡ layer-run 16 src at → films wavelength (layers-at src (next-place src at) n) ≡ films wavelength (y .layers)
+  films-here wavelength n e = ap (λ (m : ℕ). films wavelength (layers-at src (next-place src at) m)) (e ∙ h .run) ∙ ap (films wavelength) (h .layers)

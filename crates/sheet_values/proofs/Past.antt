@@ -5,11 +5,10 @@ use Prim.Native.Nat.{ℕ, _+_, _≤_}
 use native.Mathlib.Omega.{arith}
 use borrow.Author.Tests.{le-ltb}
 use Rattle.sheet.specs.Words.{word, count, float}
-use Rattle.sheet.specs.Sheet.{layer}
-use Rattle.sheet.specs.Internal.{layer-at, surface-at}
+use Rattle.sheet.specs.Internal.{surface-at}
 use Rattle.sheet_values.specs.declared.Beam.{Beam}
-use Rattle.sheet_values.specs.Values.{value, film, surface-value}
-use Rattle.sheet_values.specs.Internal.{beam-at}
+use Rattle.sheet_values.specs.Values.{value, plain-film, cauchy-value, surface-value}
+use Rattle.sheet_values.specs.Internal.{beam-at, plain-at, cauchy-at}
 
 pub word-past : (src : List ℕ) (at : ℕ) → count src ≤ at → word src at ≡ 0
 unfolding word
@@ -26,5 +25,8 @@ module _ (src : List ℕ) (at : ℕ) (h : count src ≤ at) where
   pub beam-past : record { «wavelength_nm» = value 0; s = value 0; p = value 0 } ≡ beam-at src at
   beam-past = simp (float-past src at 1 h, float-past src at 3 h, float-past src at 5 h)
 
-  pub layer-past : film (layer 0 0 0) ≡ film (layer-at src at)
-  layer-past = simp (float-past src at 1 h, float-past src at 3 h, float-past src at 5 h)
+  pub plain-past : plain-film 0 0 0 ≡ plain-at src at
+  plain-past = simp (float-past src at 1 h, float-past src at 3 h, float-past src at 5 h)
+
+  pub cauchy-past : cauchy-value 0 0 0 0 ≡ cauchy-at src at
+  cauchy-past = simp (float-past src at 1 h, float-past src at 3 h, float-past src at 5 h, float-past src at 7 h)

@@ -1,12 +1,15 @@
--- 01 section 1: the values that the blocks of a sheet stand for. Definitions only.
+-- 01 section 1 and 02 slip 3: the values that the blocks of a sheet stand for. Definitions only.
 use mathlib.Core.List.{List, [], _∷_}
 use Prim.Native.Nat.{ℕ, _+_, _/_, _%_}
 use lib.Dec.{eqb}
 use lib.Ieee.{Float, binary64, ofBits}
+use Rattle.ieee.specs.Operators.{_⊕_, _⊗_, _⊘_}
+use Rattle.ieee.specs.Functions.{zero-f}
 use Rattle.thin_film_solver.specs.declared.ThinFilmLayer.{ThinFilmLayer}
 use Rattle.gate_limits.specs.declared.Surface as Coated
-use Rattle.sheet.specs.Sheet.{SheetLayer, layer, SheetSurface, Sheet}
+use Rattle.sheet.specs.Sheet.{SheetLayer, layer, cauchy, SheetSurface, Sheet}
 use Rattle.sheet_values.specs.declared.Beam.{Beam}
+use Rattle.sheet_values.specs.declared.Cauchy.{Cauchy}
 
 -- an f64 by its pattern
 abbrev pub value : ℕ → Float
@@ -17,12 +20,36 @@ abbrev pub beam-value : Sheet → Beam
 beam-value x = record { «wavelength_nm» = value (x .wavelength); s = value (x .s); p = value (x .p) }
 
 -- LAYER: n, k, thickness nm
-abbrev pub film : SheetLayer → ThinFilmLayer
-film (layer n k thickness) = record { n = value n; k = value k; «thickness_nm» = value thickness }
+abbrev pub plain-film : ℕ → ℕ → ℕ → ThinFilmLayer
+plain-film n k thickness = record { n = value n; k = value k; «thickness_nm» = value thickness }
 
-unfoldable pub films : List SheetLayer → List ThinFilmLayer
-films [] = []
-films (l ∷ ls) = film l ∷ films ls
+-- kind 6: A, B, C, thickness nm
+abbrev pub cauchy-value : ℕ → ℕ → ℕ → ℕ → Cauchy
+cauchy-value a b c thickness = record { a = value a; b = value b; c = value c; «thickness_nm» = value thickness }
+
+-- 1,000
+abbrev pub thousand : Float
+thousand = ofBits binary64 0x408F_4000_0000_0000
+
+-- 'Its index is A + (B + C/u2)/u2, where u = wavelength / 1000 and u2 = u·u'
+unfoldable pub cauchy-index : Float → Cauchy → Float
+cauchy-index wavelength g =
+    let u = wavelength ⊘ thousand in
+    let u2 = u ⊗ u in
+    g .a ⊕ (g .b ⊕ g .c ⊘ u2) ⊘ u2
+
+-- 'and its k is 0'
+abbrev pub cauchy-film : Float → Cauchy → ThinFilmLayer
+cauchy-film wavelength g = record { n = cauchy-index wavelength g; k = zero-f; «thickness_nm» = g .«thickness_nm» }
+
+-- a layer of either kind at a wavelength
+abbrev pub film : Float → SheetLayer → ThinFilmLayer
+film wavelength (layer n k thickness) = plain-film n k thickness
+film wavelength (cauchy a b c thickness) = cauchy-film wavelength (cauchy-value a b c thickness)
+
+unfoldable pub films : Float → List SheetLayer → List ThinFilmLayer
+films wavelength [] = []
+films wavelength (l ∷ ls) = film wavelength l ∷ films wavelength ls
 
 -- SURFACE: the lowest payload bit is 0 to follow the transmitted light, 1 the reflected; payload / 2 is the coating; n_incident,
 -- n_substrate, angle rad

@@ -1,9 +1,9 @@
-// The BEAM, the SURFACEs and the LAYERs of a sheet as values: document 01, section 1.
+// The BEAM, the SURFACEs and the layers of a sheet as values: document 01, section 1, and document 02, slip 3.
 ghost use mathlib.Core.Path.{_≡_};
 ghost use mathlib.Core.List.{[]};
 ghost use Rattle.sheet.specs.Internal.{next-place, layer-at, surface-at};
-ghost use Rattle.sheet_values.specs.Values.{film, surface-value};
-ghost use Rattle.sheet_values.specs.Internal.{beam-at};
+ghost use Rattle.sheet_values.specs.Values.{cauchy-index, cauchy-film, film, surface-value};
+ghost use Rattle.sheet_values.specs.Internal.{beam-at, plain-at, cauchy-at};
 use gate_limits::Surface;
 use thin_film_solver::ThinFilmLayer;
 
@@ -62,9 +62,11 @@ pub fn surface_at(src: &[u8], at: usize) -> Surface
     }
 }
 
+// ---- layers
+
 // The LAYER whose kind word is at a place; zero throughout past the last word.
-pub fn layer_at(src: &[u8], at: usize) -> ThinFilmLayer
-    ensures { λ r. ⌜ r ≡ film (layer-at (now (src .entry)) at) ⌝ }
+pub fn plain_at(src: &[u8], at: usize) -> ThinFilmLayer
+    ensures { λ r. ⌜ r ≡ plain-at (now (src .entry)) at ⌝ }
 {
     if at < src.len() / 4 {
         return ThinFilmLayer {
@@ -78,4 +80,62 @@ pub fn layer_at(src: &[u8], at: usize) -> ThinFilmLayer
         k: 0.0,
         thickness_nm: 0.0,
     }
+}
+
+// A glass that changes with colour, kind 6: the coefficients of Cauchy's formula, and the thickness.
+pub struct Cauchy {
+    pub a: f64,
+    pub b: f64,
+    pub c: f64,
+    pub thickness_nm: f64,
+}
+
+// The kind 6 whose kind word is at a place; zero throughout past the last word.
+pub fn cauchy_at(src: &[u8], at: usize) -> Cauchy
+    ensures { λ r. ⌜ r ≡ cauchy-at (now (src .entry)) at ⌝ }
+{
+    if at < src.len() / 4 {
+        return Cauchy {
+            a: sheet::float_from(src, at + 1),
+            b: sheet::float_from(src, at + 3),
+            c: sheet::float_from(src, at + 5),
+            thickness_nm: sheet::float_from(src, at + 7),
+        };
+    }
+    Cauchy {
+        a: 0.0,
+        b: 0.0,
+        c: 0.0,
+        thickness_nm: 0.0,
+    }
+}
+
+// Its index at a wavelength.
+fn cauchy_index(wavelength_nm: f64, glass: Cauchy) -> f64
+    ensures { λ r. ⌜ r ≡ cauchy-index «wavelength_nm» glass ⌝ }
+{
+    let u = wavelength_nm / 1000.0;
+    let u2 = u * u;
+    glass.a + (glass.b + glass.c / u2) / u2
+}
+
+// The layer that it is at a wavelength.
+pub fn cauchy_film(wavelength_nm: f64, glass: Cauchy) -> ThinFilmLayer
+    ensures { λ r. ⌜ r ≡ cauchy-film «wavelength_nm» glass ⌝ }
+{
+    ThinFilmLayer {
+        n: cauchy_index(wavelength_nm, glass),
+        k: 0.0,
+        thickness_nm: glass.thickness_nm,
+    }
+}
+
+// The layer of either kind at a place, at a wavelength.
+pub fn layer_at(src: &[u8], at: usize, wavelength_nm: f64) -> ThinFilmLayer
+    ensures { λ r. ⌜ r ≡ film «wavelength_nm» (layer-at (now (src .entry)) at) ⌝ }
+{
+    if sheet::word_from(src, at) / 0x1000_0000 == 6 {
+        return cauchy_film(wavelength_nm, cauchy_at(src, at));
+    }
+    plain_at(src, at)
 }
