@@ -1,2 +1,2 @@
--- The LAYERs after the block at a place, as a list.
+-- The layers after the block at a place, as a list.
 pub mod After

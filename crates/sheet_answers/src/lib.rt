@@ -1,5 +1,5 @@
 // The answers of a surface of a sheet, from the sheet's bytes: document 01, section 7. The SURFACE's kind
-// word is at a place and n LAYERs follow it; neither need be so: past the last word every word is zero.
+// word is at a place and n layers follow it; neither need be so: past the last word every word is zero.
 ghost use mathlib.Core.Path.{_≡_};
 ghost use Rattle.sheet.specs.Internal.{next-place, place-on, layer-at, layers-at};
 ghost use Rattle.sheet_values.specs.Values.{film, films};
@@ -26,23 +26,31 @@ pub enum PowersReply {
     Refused(Refusal),
 }
 
-// The j-th LAYER after the block at a place.
-pub fn layer_after(src: &[u8], at: usize, j: usize) -> ThinFilmLayer
-    ensures { λ r. ⌜ r ≡ film (layer-at (now (src .entry)) (place-on (now (src .entry)) (next-place (now (src .entry)) at) j)) ⌝ }
+// The j-th layer after the block at a place, at a wavelength.
+pub fn layer_after(src: &[u8], at: usize, j: usize, wavelength_nm: f64) -> ThinFilmLayer
+    ensures { λ r. ⌜ r ≡ film «wavelength_nm» (layer-at (now (src .entry)) (place-on (now (src .entry)) (next-place (now (src .entry)) at) j)) ⌝ }
 {
-    sheet_values::layer_at(src, sheet::place_on(src, sheet::next_place(src, at), j))
+    let place = sheet::place_on(src, sheet::next_place(src, at), j);
+    sheet_values::layer_at(src, place, wavelength_nm)
 }
 
-// The response with the n LAYERs after the block at a place, in their order or reversed.
-fn solve(src: &[u8], at: usize, n: usize, reversed: bool, light: Incidence) -> CoatingResponse
-    ensures { λ r. ⌜ r ≡ solved light (ordered reversed (films (layers-at (now (src .entry)) (next-place (now (src .entry)) at) n))) ⌝ }
+// The response with the n layers after the block at a place, in their order or reversed, at a wavelength.
+fn solve(
+    src: &[u8],
+    at: usize,
+    n: usize,
+    reversed: bool,
+    wavelength_nm: f64,
+    light: Incidence,
+) -> CoatingResponse
+    ensures { λ r. ⌜ r ≡ solved light (ordered reversed (films «wavelength_nm» (layers-at (now (src .entry)) (next-place (now (src .entry)) at) n))) ⌝ }
 {
     let mut ms = thin_film_matrix::identity();
     let mut mp = thin_film_matrix::identity();
     let mut i = 0;
     while i < n {
         let j = thin_film_layers::nth_index(reversed, n, i);
-        let terms = thin_film_solver::terms_of(light, layer_after(src, at, j));
+        let terms = thin_film_solver::terms_of(light, layer_after(src, at, j, wavelength_nm));
         let next_s = thin_film_solver::step_s(ms, terms);
         let next_p = thin_film_solver::step_p(mp, terms);
         ms = next_s;
@@ -52,7 +60,7 @@ fn solve(src: &[u8], at: usize, n: usize, reversed: bool, light: Incidence) -> C
     thin_film_solver::finish(light, ms, mp)
 }
 
-// A coated surface. Only Custom(Multilayer) has the LAYERs after it, which are reversed where light
+// A coated surface. Only Custom(Multilayer) has the layers after it, which are reversed where light
 // goes from the denser medium to the rarer one.
 fn evaluate_at(
     src: &[u8],
@@ -62,7 +70,7 @@ fn evaluate_at(
     coating: SurfaceCoating,
     wavelength_nm: f64,
 ) -> Evaluation
-    ensures { λ r. ⌜ outcome r ≡ evaluate-surface coating (films (layers-at (now (src .entry)) (next-place (now (src .entry)) at) n)) (surface .«n_incident») (surface .«n_substrate») (surface .«angle_rad») «wavelength_nm» ⌝ }
+    ensures { λ r. ⌜ outcome r ≡ evaluate-surface coating (films «wavelength_nm» (layers-at (now (src .entry)) (next-place (now (src .entry)) at) n)) (surface .«n_incident») (surface .«n_substrate») (surface .«angle_rad») «wavelength_nm» ⌝ }
 {
     match thin_film::reading::prepare_surface(
         coating,
@@ -78,12 +86,13 @@ fn evaluate_at(
             at,
             n,
             reversed,
+            wavelength_nm,
             light,
         )),
     }
 }
 
-// The powers of the surface at a place with the n LAYERs after it.
+// The powers of the surface at a place with the n layers after it.
 pub fn powers_at(
     src: &[u8],
     at: usize,
@@ -91,7 +100,7 @@ pub fn powers_at(
     surface: Surface,
     wavelength_nm: f64,
 ) -> PowersReply
-    ensures { λ r. ⌜ outcome-of r ≡ powers «wavelength_nm» surface (films (layers-at (now (src .entry)) (next-place (now (src .entry)) at) n)) ⌝ }
+    ensures { λ r. ⌜ outcome-of r ≡ powers «wavelength_nm» surface (films «wavelength_nm» (layers-at (now (src .entry)) (next-place (now (src .entry)) at) n)) ⌝ }
 {
     match gate_limits::interface_of(surface.coating) {
         Interface::Bare => PowersReply::Powers(surface::bare_powers(surface)),
@@ -104,7 +113,7 @@ pub fn powers_at(
     }
 }
 
-// The answers of the surface at a place with the n LAYERs after it.
+// The answers of the surface at a place with the n layers after it.
 pub fn answers_at(
     src: &[u8],
     at: usize,
@@ -112,7 +121,7 @@ pub fn answers_at(
     surface: Surface,
     wavelength_nm: f64,
 ) -> AnswersReply
-    ensures { λ r. ⌜ r ≡ returned (answers «wavelength_nm» surface (films (layers-at (now (src .entry)) (next-place (now (src .entry)) at) n))) ⌝ }
+    ensures { λ r. ⌜ r ≡ returned (answers «wavelength_nm» surface (films «wavelength_nm» (layers-at (now (src .entry)) (next-place (now (src .entry)) at) n))) ⌝ }
 {
     match gate_limits::interface_of(surface.coating) {
         Interface::Bare => surface::bare_answers(surface),

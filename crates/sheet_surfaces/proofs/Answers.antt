@@ -20,10 +20,10 @@ all-nth P [] i a h = absurd (omega arith)
 all-nth P (y ∷ ys) zero a h = a .0
 all-nth P (y ∷ ys) (suc i) a h = all-nth P ys i (a .1) (omega arith)
 
-pub films-length : (ls : List SheetLayer) → length (films ls) ≡ length ls
+pub films-length : (w : Float) (ls : List SheetLayer) → length (films w ls) ≡ length ls
 unfolding films
-films-length [] = λ i. 0
-films-length (l ∷ ls) = ap suc (films-length ls)
+films-length w [] = λ i. 0
+films-length w (l ∷ ls) = ap suc (films-length w ls)
 
 pub wavelength-within : (x : Sheet) → WithinLimits x → T (wavelength-passes (value (x .wavelength)))
 unfolding beam-passes
@@ -31,8 +31,8 @@ wavelength-within x h = and-l (wavelength-passes (value (x .wavelength))) _ (h .
 
 -- within the limits at a wavelength
 abbrev pub Good : Float → SheetSurface → Type 0
-Good w y = T (passes w (surface-value y) (films (y .layers)))
+Good w y = T (passes w (surface-value y) (films w (y .layers)))
 
--- a surface within the limits, with 16 LAYERs at the most
-pub answered : (w : Float) → T (wavelength-passes w) → (y : SheetSurface) → Good w y → length (y .layers) ≤ 16 → Answered w (surface-value y) (films (y .layers))
-answered w t y p h = every-surface-answered w (surface-value y) (films (y .layers)) t p (omega (arith, films-length (y .layers)))
+-- a surface within the limits, with 16 layers at the most
+pub answered : (w : Float) → T (wavelength-passes w) → (y : SheetSurface) → Good w y → length (y .layers) ≤ 16 → Answered w (surface-value y) (films w (y .layers))
+answered w t y p h = every-surface-answered w (surface-value y) (films w (y .layers)) t p (omega (arith, films-length w (y .layers)))

@@ -5,6 +5,7 @@ use Prim.Native.Nat.{ℕ, suc, _+_, _*_, _≤_, _<_}
 use native.Mathlib.Omega.{arith}
 use borrow.Author.Tests.{lt-ltb, le-ltb}
 use lib.ListN.{length, getD, drop}
+use lib.Ieee.{Float}
 use Rattle.refusal.specs.declared.Refusal.{Refusal}
 use Rattle.refusal.specs.Outcome.{Outcome, answer, refusal, refused, map}
 use Rattle.thin_film_solver.specs.declared.ThinFilmLayer.{ThinFilmLayer}
@@ -12,8 +13,10 @@ use Rattle.gate_limits.specs.declared.Surface as Value
 use Rattle.sheet.specs.Sheet.{SheetSurface, nth, Sheet, surfaces-blocks, end-block}
 use Rattle.sheet.specs.Internal.{next-place, place-on, layer-run, layer-at, surface-at, layers-at, place}
 use Rattle.sheet.proofs.Stands.{SurfaceHere, Known, placed}
-use Rattle.sheet_values.specs.Values.{film, films, surface-value}
-use Rattle.sheet_values.proofs.Here.{value-here, films-here}
+use Rattle.sheet_values.specs.declared.Beam.{Beam}
+use Rattle.sheet_values.specs.Values.{value, film, films, surface-value}
+use Rattle.sheet_values.specs.Internal.{beam-at}
+use Rattle.sheet_values.proofs.Here.{beam-here, value-here, films-here}
 use Rattle.sheet_answers.proofs.After as After
 use Rattle.gate.specs.Gate.{gate, gated}
 use Rattle.gate.proofs.Admitted.{Admitted, admitted, turned-back}
@@ -55,11 +58,11 @@ module _ (src : List ℕ) (i : ℕ) where
         let l : m ≡ length (nth (a .sheet .surfaces) i .layers) = em ∙ ap (layer-run 16 src) q ∙ here h .run in
         ap answer (λ k. record { surface = w k; layers = l k }) ∙ ap (map numbered) (there itself src i n a h)
 
-    -- ---- its LAYERs
+    -- ---- its layers
     module _ (j : ℕ) where
       pub no-layer-there : n ≤ i → refusal 7 0 ≡ nth-layer src i j
       unfolding nth-layer
-      no-layer-there h = ap (layer-of j) (none itself src i n a h)
+      no-layer-there h = none (layer-of j) src i n a h
 
       module _ (h : i < n) (at : ℕ) (q : at ≡ place src i) (m : ℕ) (em : m ≡ layer-run 16 src at) where
         abbrev y : SheetSurface
@@ -70,14 +73,16 @@ module _ (src : List ℕ) (i : ℕ) where
 
         pub past-layers : m ≤ j → refusal 7 0 ≡ nth-layer src i j
         unfolding nth-layer
-        past-layers l = sym (rw (le-ltb j (length (y .layers)) (omega (arith, many)))) ∙ ap (layer-of j) (there itself src i n a h)
+        past-layers l = sym (rw (le-ltb j (length (y .layers)) (omega (arith, many)))) ∙ there (layer-of j) src i n a h
 
-        pub layer-there : j < m → (z : ThinFilmLayer) → z ≡ film (layer-at src (place-on src (next-place src at) j)) → answer z ≡ nth-layer src i j
+        pub layer-there : j < m → (b : Beam) → b ≡ beam-at src (next-place src 0) → (z : ThinFilmLayer) → z ≡ film (b .«wavelength_nm») (layer-at src (place-on src (next-place src at) j)) → answer z ≡ nth-layer src i j
         unfolding nth-layer
-        layer-there l z ez =
-            let all : films (layers-at src (next-place src at) m) ≡ films (y .layers) = ap (λ (k : ℕ). films (layers-at src (next-place src k) m)) q ∙ films-here src (place src i) y _ (here h) m (em ∙ ap (layer-run 16 src) q) in
-            ap answer (ez ∙ sym (After.nth src (next-place src at) m j no-film l) ∙ ap (λ (ls : List ThinFilmLayer). getD ls j no-film) all)
-            ∙ sym (rw (lt-ltb j (length (y .layers)) (omega (arith, many)))) ∙ ap (layer-of j) (there itself src i n a h)
+        layer-there l b eb z ez =
+            let w = value (a .sheet .wavelength) in
+            let v : b .«wavelength_nm» ≡ w = ap (λ (k : Beam). k .«wavelength_nm») (eb ∙ beam-here src (a .sheet) (a .stands)) in
+            let all : films w (layers-at src (next-place src at) m) ≡ films w (y .layers) = ap (λ (k : ℕ). films w (layers-at src (next-place src k) m)) q ∙ films-here src (place src i) y _ (here h) w m (em ∙ ap (layer-run 16 src) q) in
+            ap answer (ez ∙ ap (λ (k : Float). film k (layer-at src (place-on src (next-place src at) j))) v ∙ sym (After.nth w src (next-place src at) m j no-film l) ∙ ap (λ (ls : List ThinFilmLayer). getD ls j no-film) all)
+            ∙ sym (rw (lt-ltb j (length (y .layers)) (omega (arith, many)))) ∙ there (layer-of j) src i n a h
 
   pub surface-refused : (r : Refusal) → refused r ≡ gate src → refused r ≡ nth-surface src i
   unfolding nth-surface
@@ -85,4 +90,4 @@ module _ (src : List ℕ) (i : ℕ) where
 
   pub layer-refused : (j : ℕ) (r : Refusal) → refused r ≡ gate src → refused r ≡ nth-layer src i j
   unfolding nth-layer
-  layer-refused j r e = ap (layer-of j) (not-admitted itself src i r e)
+  layer-refused j r e = not-admitted (layer-of j) src i r e

@@ -1,4 +1,4 @@
--- 01 section 7: a sheet's surfaces by their numbers. Definitions only.
+-- 01 section 7 and 02 slip 3: a sheet's surfaces by their numbers. Definitions only.
 use mathlib.Core.Bool.{cond}
 use mathlib.Core.List.{List}
 use Prim.Native.Nat.{ℕ}
@@ -28,23 +28,22 @@ of-surface f i (refusal number place) = refusal number place
 abbrev pub surface-of : ℕ → Outcome Sheet → Outcome SheetSurface
 surface-of = of-surface (λ x y. answer y)
 
--- its words, and how many LAYERs it has
+-- its words, and how many layers it has
 abbrev pub numbered : SheetSurface → NumberedSurface
 numbered y = record { surface = surface-value y; layers = length (y .layers) }
 
 unfoldable pub nth-surface : List ℕ → ℕ → Outcome NumberedSurface
 nth-surface src i = map numbered (surface-of i (gated src))
 
--- its j-th LAYER, counted from 0; 7 where there is no such layer
+-- its j-th layer at the BEAM's wavelength, counted from 0; 7 where there is no such layer
 abbrev pub no-film : ThinFilmLayer
 no-film = record { n = nan; k = nan; «thickness_nm» = nan }
 
-abbrev pub layer-of : ℕ → Outcome SheetSurface → Outcome ThinFilmLayer
-layer-of j (answer y) = cond (ltb j (length (y .layers))) (answer (getD (films (y .layers)) j no-film)) (refusal 7 0)
-layer-of j (refusal number place) = refusal number place
+abbrev pub layer-of : ℕ → Sheet → SheetSurface → Outcome ThinFilmLayer
+layer-of j x y = cond (ltb j (length (y .layers))) (answer (getD (films (value (x .wavelength)) (y .layers)) j no-film)) (refusal 7 0)
 
 unfoldable pub nth-layer : List ℕ → ℕ → ℕ → Outcome ThinFilmLayer
-nth-layer src i j = layer-of j (surface-of i (gated src))
+nth-layer src i j = of-surface (layer-of j) i (gated src)
 
 -- document 01's number and values for each case
 abbrev pub surface-outcome : NthSurface → Outcome NumberedSurface
@@ -57,7 +56,7 @@ layer-outcome (L.Refused r) = refused r
 
 -- ---- its answers
 abbrev pub answers-to : ℕ → Outcome Sheet → Outcome Answers
-answers-to = of-surface (λ x y. answers (value (x .wavelength)) (surface-value y) (films (y .layers)))
+answers-to = of-surface (λ x y. let w = value (x .wavelength) in answers w (surface-value y) (films w (y .layers)))
 
 unfoldable pub surface-answers : List ℕ → ℕ → Outcome Answers
 surface-answers src i = answers-to i (gated src)

@@ -57,7 +57,7 @@ pub fn surface_answers(src: &[u8], i: u32) -> SurfaceReply
 
 // ---- its words
 
-// A SURFACE's words, and how many LAYERs it has.
+// A SURFACE's words, and how many layers it has.
 pub struct NumberedSurface {
     pub surface: Surface,
     pub layers: usize,
@@ -94,7 +94,7 @@ pub enum NthLayer {
     Refused(Refusal),
 }
 
-// The j-th LAYER of the i-th surface.
+// The j-th layer of the i-th surface, at the BEAM's wavelength.
 pub fn nth_layer(src: &[u8], i: u32, j: usize) -> NthLayer
     ensures { λ r. ⌜ layer-outcome r ≡ nth-layer (now (src .entry)) i j ⌝ }
 {
@@ -113,7 +113,8 @@ pub fn nth_layer(src: &[u8], i: u32, j: usize) -> NthLayer
                     place: 0,
                 });
             }
-            NthLayer::Layer(sheet_answers::layer_after(src, at, j))
+            let beam = sheet_values::beam_of(src);
+            NthLayer::Layer(sheet_answers::layer_after(src, at, j, beam.wavelength_nm))
         }
         Gated::Refused(r) => NthLayer::Refused(r),
     }

@@ -28,10 +28,10 @@ use Rattle.train_steps.specs.declared.State.{State}
 use Rattle.train_steps.specs.Train.{chosen-of, chosen-powers, after-one}
 use Rattle.train_steps.specs.Internal.{chosen-alone, chosen-at, moved-at}
 
-alone : (w : Float) (y : SheetSurface) → Answered w (surface-value y) (films (y .layers)) → chosen-alone w (surface-value y) (films (y .layers)) ≡ chosen-powers w y
+alone : (w : Float) (y : SheetSurface) → Answered w (surface-value y) (films w (y .layers)) → chosen-alone w (surface-value y) (films w (y .layers)) ≡ chosen-powers w y
 unfolding chosen-alone chosen-powers
 alone w y a =
-    ap (chosen-of (surface-value y .reflected)) (powers-answered w (surface-value y) (films (y .layers)) (a .value) (a .is) ∙ sym (ap (map (λ (v : Answers). v .powers)) (a .is)))
+    ap (chosen-of (surface-value y .reflected)) (powers-answered w (surface-value y) (films w (y .layers)) (a .value) (a .is) ∙ sym (ap (map (λ (v : Answers). v .powers)) (a .is)))
 
 -- ---- the i-th surface of an admitted sheet, at its place
 module _ (src : List ℕ) (x : Sheet) (stands : Standing src x) (within : WithinLimits x) where
@@ -45,7 +45,7 @@ module _ (src : List ℕ) (x : Sheet) (stands : Standing src x) (within : Within
     here : SurfaceHere src (place src i) y (surfaces-blocks (drop (suc i) (x .surfaces)) (end-block (length (x .surfaces)) ∷ []))
     here = placed src x stands i lt
 
-    its-answer : Answered (value (x .wavelength)) (surface-value y) (films (y .layers))
+    its-answer : Answered (value (x .wavelength)) (surface-value y) (films (value (x .wavelength)) (y .layers))
     its-answer = answered (value (x .wavelength)) (wavelength-within x within) y (all-nth _ (x .surfaces) i (within .surfaces) lt) (all-nth _ (x .surfaces) i (stands .formed .surfaces) lt .few)
 
     pub chosen-here : (at : ℕ) → at ≡ place src i → (m : ℕ) → m ≡ layer-run 16 src at → chosen-at src at m (value (x .wavelength)) ≡ chosen-powers (value (x .wavelength)) y
@@ -53,7 +53,7 @@ module _ (src : List ℕ) (x : Sheet) (stands : Standing src x) (within : Within
     chosen-here at q m e =
         let w = value (x .wavelength) in
         let t : surface-value (surface-at src at []) ≡ surface-value y = ap (λ (k : ℕ). surface-value (surface-at src k [])) q ∙ value-here src (place src i) y _ here in
-        let l : films (layers-at src (next-place src at) m) ≡ films (y .layers) = ap (λ (k : ℕ). films (layers-at src (next-place src k) m)) q ∙ films-here src (place src i) y _ here m (e ∙ ap (layer-run 16 src) q) in
+        let l : films w (layers-at src (next-place src at) m) ≡ films w (y .layers) = ap (λ (k : ℕ). films w (layers-at src (next-place src k) m)) q ∙ films-here src (place src i) y _ here w m (e ∙ ap (layer-run 16 src) q) in
         (λ k. chosen-alone w (t k) (l k)) ∙ alone w y its-answer
 
     pub moved-here : (at : ℕ) → at ≡ place src i → (st : State) → moved-at src at (value (x .wavelength)) st ≡ after-one (value (x .wavelength)) st y

@@ -17,9 +17,10 @@ use Rattle.train_steps.specs.Train.{chosen-of}
 unfoldable pub chosen-alone : Float → Surface → List ThinFilmLayer → Chosen
 chosen-alone wavelength s layers = chosen-of (s .reflected) (powers wavelength s layers)
 
--- with n LAYERs
+-- with n layers
 unfoldable pub chosen-at : List ℕ → ℕ → ℕ → Float → Chosen
-chosen-at src at n wavelength = chosen-alone wavelength (surface-value (surface-at src at [])) (films (layers-at src (next-place src at) n))
+chosen-at src at n wavelength =
+    chosen-alone wavelength (surface-value (surface-at src at [])) (films wavelength (layers-at src (next-place src at) n))
 
 unfoldable pub moved-at : List ℕ → ℕ → Float → State → State
 moved-at src at wavelength st = let c = chosen-at src at (layer-run 16 src at) wavelength in

@@ -40,7 +40,7 @@ fn choose(reflected: bool, r: Powers) -> Chosen
     }
 }
 
-// Of the surface at a place with the n LAYERs after it. No surface within the limits is refused.
+// Of the surface at a place with the n layers after it. No surface within the limits is refused.
 fn chosen_at(src: &[u8], at: usize, n: usize, wavelength_nm: f64) -> Chosen
     ensures { λ r. ⌜ r ≡ chosen-at (now (src .entry)) at n «wavelength_nm» ⌝ }
 {

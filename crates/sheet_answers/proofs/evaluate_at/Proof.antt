@@ -7,10 +7,10 @@ use Rattle.sheet_answers.proofs.evaluate_at.Statement.{statement}
 use Rattle.sheet_answers.proofs.evaluate_at.Tie as tie
 
 returns : tie.Need-returns
-returns c = answered _ _ _ (c .before .answer .given .1) ∙ (c .before .before .before .prepare-surface .ensures) _ (many _ _ _)
+returns c = answered _ _ _ (c .before .answer .given .1) ∙ (c .before .before .before .prepare-surface .ensures) _ (many _ _ _ _)
 
 returns-2 : tie.Need-returns-2
-returns-2 c = solves _ _ _ _ _ (c .before .before .reversed .given .1) (c .solve .ensures) ∙ (c .before .before .before .before .prepare-surface .ensures) _ (many _ _ _)
+returns-2 c = solves _ _ _ _ _ (c .before .before .reversed .given .1) (c .solve .ensures) ∙ (c .before .before .before .before .prepare-surface .ensures) _ (many _ _ _ _)
 
 pub evaluate-at-spec : {M : Type 1} → statement M
 evaluate-at-spec = tie.close (tie.spec (λ c κs. search needs) (λ c. search needs) (λ c. search needs) (λ c κs. search needs) returns returns-2)

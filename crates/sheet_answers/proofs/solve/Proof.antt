@@ -4,6 +4,7 @@ use mathlib.Core.List.{List}
 use Prim.Native.Nat.{ℕ, _+_, _-_, _≤_}
 use native.Mathlib.Omega.{arith}
 use lib.ListN.{length}
+use lib.Ieee.{Float}
 use Rattle.thin_film_solver.specs.declared.ThinFilmLayer.{ThinFilmLayer}
 use Rattle.thin_film_layers.specs.Evaluation.{ordered, no-layer}
 use Rattle.thin_film_layers.proofs.Order.{Left, within, begun, turn, last}
@@ -15,10 +16,10 @@ use Rattle.sheet_answers.proofs.solve.Statement.{statement}
 use Rattle.sheet_answers.proofs.solve.Tie as tie
 
 abbrev Inv-loop : tie.InvT-loop
-Inv-loop src at n reversed light ms₀ mp₀ i₀ ms mp i = (i ≤ n) × Left light ms mp i (ordered reversed (films (layers-at src (next-place src at) n)))
+Inv-loop src at n reversed w light ms₀ mp₀ i₀ ms mp i = (i ≤ n) × Left light ms mp i (ordered reversed (films w (layers-at src (next-place src at) n)))
 
 abbrev μ-loop : tie.MeasureT-loop
-μ-loop src at n reversed light ms₀ mp₀ i₀ ms mp i = n - i
+μ-loop src at n reversed w light ms₀ mp₀ i₀ ms mp i = n - i
 
 loop-holds : tie.Need-loop-holds Inv-loop μ-loop
 loop-holds c = (search needs, begun _ _ _ _ (c .before .identity .ensures) (c .identity2 .ensures))
@@ -27,16 +28,17 @@ loop-again : tie.Need-loop-again Inv-loop μ-loop
 loop-again c =
     let src : List ℕ = c .before .before .before .before .before .before .before .before .before .before .args .src .now in
     let from : ℕ = next-place src (c .before .before .before .before .before .before .before .before .before .before .args .at) in
-    let n : ℕ = c .before .before .before .before .before .before .before .before .before .before .args .n in (
+    let n : ℕ = c .before .before .before .before .before .before .before .before .before .before .args .n in
+    let w : Float = c .before .before .before .before .before .before .before .before .before .before .args .wavelength-nm in (
       search needs,
-      turn _ _ (films (layers-at src from n)) n _ _ no-layer _ _ _ _ _ _ (sym (many src from n)) (c .before .before .before .before .before .loop-test .taken) (c .before .before .before .before .nth-index .ensures)
-          ((c .before .before .before .layer-after .ensures) ∙ sym (nth src from n _ no-layer (omega (arith, (c .before .before .before .before .nth-index .ensures), within (c .before .before .before .before .before .before .before .before .before .before .args .reversed) n (c .before .before .before .before .before .before .loop .i) (c .before .before .before .before .before .loop-test .taken))))) (c .before .before .terms-of .ensures) (c .before .step-s .ensures) (c .step-p .ensures) (c .before .before .before .before .before .before .loop .inv .1),
+      turn _ _ (films w (layers-at src from n)) n _ _ no-layer _ _ _ _ _ _ (sym (many w src from n)) (c .before .before .before .before .before .loop-test .taken) (c .before .before .before .before .nth-index .ensures)
+          ((c .before .before .before .layer-after .ensures) ∙ sym (nth w src from n _ no-layer (omega (arith, (c .before .before .before .before .nth-index .ensures), within (c .before .before .before .before .before .before .before .before .before .before .args .reversed) n (c .before .before .before .before .before .before .loop .i) (c .before .before .before .before .before .loop-test .taken))))) (c .before .before .terms-of .ensures) (c .before .step-s .ensures) (c .step-p .ensures) (c .before .before .before .before .before .before .loop .inv .1),
     )
 
 returns : tie.Need-returns Inv-loop μ-loop
 returns c =
-    let ls : List ThinFilmLayer = films (layers-at (c .before .before .before .before .before .before .args .src .now) (next-place (c .before .before .before .before .before .before .args .src .now) (c .before .before .before .before .before .before .args .at)) (c .before .before .before .before .before .before .args .n)) in
-    let n-is : length ls ≡ c .before .before .before .before .before .before .args .n = many _ _ _ in
+    let ls : List ThinFilmLayer = films (c .before .before .before .before .before .before .args .wavelength-nm) (layers-at (c .before .before .before .before .before .before .args .src .now) (next-place (c .before .before .before .before .before .before .args .src .now) (c .before .before .before .before .before .before .args .at)) (c .before .before .before .before .before .before .args .n)) in
+    let n-is : length ls ≡ c .before .before .before .before .before .before .args .n = many _ _ _ _ in
     (c .finish .ensures) ∙ last _ _ ls _ _ (c .before .before .loop .i) (omega arith) (c .before .before .loop .inv .1)
 
 pub solve-spec : {M : Type 1} → statement M

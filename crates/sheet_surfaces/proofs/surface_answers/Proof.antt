@@ -30,7 +30,7 @@ use Rattle.sheet_surfaces.proofs.surface_answers.Statement.{statement}
 use Rattle.sheet_surfaces.proofs.surface_answers.Tie as tie
 
 abbrev its-answers : Sheet → SheetSurface → Outcome Answers
-its-answers x y = answers (value (x .wavelength)) (surface-value y) (films (y .layers))
+its-answers x y = let w = value (x .wavelength) in answers w (surface-value y) (films w (y .layers))
 
 module _ (src : List ℕ) (i n : ℕ) (known : Known src) (e : answer n ≡ gate src) where
   abbrev a : Admitted src n
@@ -45,21 +45,22 @@ module _ (src : List ℕ) (i n : ℕ) (known : Known src) (e : answer n ≡ gate
     y = nth (a .sheet .surfaces) i
 
     -- the surface that stands there is answered
-    answered-there : Answered (value (a .sheet .wavelength)) (surface-value y) (films (y .layers))
+    answered-there : Answered (value (a .sheet .wavelength)) (surface-value y) (films (value (a .sheet .wavelength)) (y .layers))
     answered-there =
         let w = value (a .sheet .wavelength) in
         let d : i < length (a .sheet .surfaces) = omega (arith, a .counts) in
         answered w (wavelength-within (a .sheet) (a .within)) y (all-nth _ (a .sheet .surfaces) i (a .within .surfaces) d) (all-nth _ (a .sheet .surfaces) i (a .stands .formed .surfaces) d .few)
 
     whole : (m : ℕ) → m ≡ layer-run 16 src at → (s : Surface) → s ≡ surface-value (surface-at src at []) → (b : Beam) → b ≡ beam-at src (next-place src 0)
-        → (reply : AnswersReply) → reply ≡ returned (answers (b .«wavelength_nm») s (films (layers-at src (next-place src at) m)))
+        → (reply : AnswersReply) → reply ≡ returned (answers (b .«wavelength_nm») s (films (b .«wavelength_nm») (layers-at src (next-place src at) m)))
         → record { refusal = record { number = reply .refusal; place = 0 }; answers = reply .answers } ≡ given (surface-answers src i)
     unfolding returned given surface-answers
     whole m em s es b eb reply er =
         let p = here src i n known e h in
         let v : b .«wavelength_nm» ≡ value (a .sheet .wavelength) = ap (λ (z : Beam). z .«wavelength_nm») (eb ∙ beam-here src (a .sheet) (a .stands)) in
         let t : s ≡ surface-value y = es ∙ ap (λ (k : ℕ). surface-value (surface-at src k [])) q ∙ value-here src (place src i) y _ p in
-        let l : films (layers-at src (next-place src at) m) ≡ films (y .layers) = ap (λ (k : ℕ). films (layers-at src (next-place src k) m)) q ∙ films-here src (place src i) y _ p m (em ∙ ap (layer-run 16 src) q) in
+        let w = value (a .sheet .wavelength) in
+        let l : films (b .«wavelength_nm») (layers-at src (next-place src at) m) ≡ films w (y .layers) = (λ k. films (v k) (layers-at src (next-place src (q k)) m)) ∙ films-here src (place src i) y _ p w m (em ∙ ap (layer-run 16 src) q) in
         let r = answered-there in
         let said : surface-answers src i ≡ answer (r .value) = sym (there its-answers src i n a h) ∙ r .is in
         rw said (ap (λ (z : AnswersReply). record { refusal = record { number = z .refusal; place = 0 }; answers = z .answers }) (er ∙ ap returned ((λ k. answers (v k) (t k) (l k)) ∙ r .is)))

@@ -20,10 +20,10 @@ use Rattle.train_steps.specs.Internal.{chosen-alone, chosen-at}
 use Rattle.train_steps.proofs.chosen_at.Statement.{statement}
 use Rattle.train_steps.proofs.chosen_at.Tie as tie
 
-module _ (src : List ℕ) (at n : ℕ) (w : Float) (s : Surface) (s-is : s ≡ surface-value (surface-at src at [])) (reply : PowersReply) (h : outcome-of reply ≡ powers w s (films (layers-at src (next-place src at) n))) where
+module _ (src : List ℕ) (at n : ℕ) (w : Float) (s : Surface) (s-is : s ≡ surface-value (surface-at src at [])) (reply : PowersReply) (h : outcome-of reply ≡ powers w s (films w (layers-at src (next-place src at) n))) where
   same : chosen-of (s .reflected) (outcome-of reply) ≡ chosen-at src at n w
   unfolding chosen-at chosen-alone
-  same = ap (chosen-of (s .reflected)) h ∙ ap (λ (z : Surface). chosen-alone w z (films (layers-at src (next-place src at) n))) s-is
+  same = ap (chosen-of (s .reflected)) h ∙ ap (λ (z : Surface). chosen-alone w z (films w (layers-at src (next-place src at) n))) s-is
 
   picked : (r : Powers) (q : Chosen) → q ≡ chosen (s .reflected) r → reply ≡ R.Powers r → q ≡ chosen-at src at n w
   picked r q e g = e ∙ sym (ap (λ (z : PowersReply). chosen-of (s .reflected) (outcome-of z)) g) ∙ same
