@@ -49,7 +49,8 @@ answers-sound src bytes i = go (gated src) (gate-sound src bytes)
     go : (o : Outcome Sheet) → Sound o → Sound (answers-to i o)
     go (answer x) h =
         let y = nth (x .surfaces) i in
-        plain-sound (answers-to i (answer x)) (either (ltb i (length (x .surfaces))) _ (refusal 7 0) (of-interface (value (x .wavelength)) (surface-value y) (films (y .layers)) (interface (surface-value y .coating))) (omega arith, refl))
+        let w = value (x .wavelength) in
+        plain-sound (answers-to i (answer x)) (either (ltb i (length (x .surfaces))) _ (refusal 7 0) (of-interface w (surface-value y) (films w (y .layers)) (interface (surface-value y .coating))) (omega arith, refl))
     go (refusal number place) h = h
 
 -- ---- the reply's number is 0 exactly for an answer

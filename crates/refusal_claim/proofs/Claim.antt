@@ -1,7 +1,7 @@
 -- Demand 1. Assumes nothing.
 use mathlib.Core.Path.{_≡_, refl, sym, ap, _∙_, subst}
 use mathlib.Core.Bool.{Bool, true, false, _||_, cond}
-use mathlib.Core.Logic.{_⊎_, ⊎-elim}
+use mathlib.Core.Logic.{_⊎_, inl, ⊎-elim}
 use mathlib.Core.List.{List, [], _∷_, _++_, map as map-list}
 use Prim.Native.Nat.{ℕ, zero, suc, _*_, _≤_, _<_}
 use native.Mathlib.Omega.{arith}
@@ -37,7 +37,7 @@ use Rattle.polarization.specs.Surface.{indices-valid, surface-fresnel-jones}
 use Rattle.name_bytes.specs.Ascii.{first-over}
 use Rattle.name_coating.specs.Name.{from-format-name}
 use Rattle.gate_limits.specs.Limits.{within, beam-passes}
-use Rattle.sheet.specs.Words.{words-of}
+use Rattle.sheet.specs.Words.{word, words-of}
 use Rattle.sheet.specs.Blocks.{All, blocks-from, starts}
 use Rattle.sheet.specs.Sheet as Data
 use Rattle.sheet.specs.Sheet.{nth, WellFormed, raw-words, surfaces-blocks, blocks, encode}
@@ -45,7 +45,7 @@ use Rattle.sheet.specs.Read.{floats-after, raws, numbers, may, decode}
 use Rattle.sheet.specs.Claim.{Bytes}
 use Rattle.sheet.proofs.Claim.{grammar-claim}
 use Rattle.sheet_values.specs.Values.{value}
-use Rattle.gate.specs.Gate.{verdict, carried, walked, gated, gate}
+use Rattle.gate.specs.Gate.{verdict, carried, walked, verdicts, gated, gate}
 use Rattle.gate.proofs.Claim.{gate-claim}
 use Rattle.sheet_surfaces.specs.Surfaces.{of-surface, surface-of, numbered, layer-of, nth-surface, nth-layer, surface-answers}
 use Rattle.sheet_surfaces.proofs.Answers.{all-nth}
@@ -103,10 +103,10 @@ blank : Sheet
 blank = record { src = replicate 36 0; bytes = zeros 36 }
 
 abbrev dark : Data.Sheet
-dark = record { wavelength = 0; s = 0; p = 0; surfaces = [] }
+dark = record { edition = 1; wavelength = 0; s = 0; p = 0; surfaces = [] }
 
 dark-formed : WellFormed dark
-dark-formed = record { wavelength = omega arith; s = omega arith; p = omega arith; surfaces = tt; few = omega arith }
+dark-formed = record { edition = inl refl; wavelength = omega arith; s = omega arith; p = omega arith; surfaces = tt; few = omega arith }
 
 unlit : Sheet
 unlit = record { src = encode dark; bytes = grammar-claim .fits dark dark-formed .1 }
@@ -125,18 +125,18 @@ sixteen : length (panes .surfaces) ≡ 16
 sixteen = sym (mapped-length (λ (y : Data.SheetSurface). y .payload) (panes .surfaces)) ∙ ap length (train-claim .one .payloads)
 
 four : gated (none .src) ≡ refusal 4 0
-unfolding none gated
+unfolding none gated word
 four = refl
 
 five : gated (blank .src) ≡ refusal 5 0
-unfolding blank gated decode words-of blocks-from may
+unfolding blank gated word decode words-of blocks-from may
 five = refl
 
 six : gated (unlit .src) ≡ refusal 6 1
 unfolding unlit blocks surfaces-blocks raw-words starts numbers walked verdict carried beam-passes within Ieee.le ofBits
 six = gate-claim .six (encode dark) (unlit .bytes) 1 .1 (dark, ((dark-formed, refl), record { block = 1; inside = lit< tt; outside = refl; first = first; stands = refl }))
   where
-    first : (i : ℕ) → i < 1 → getD (walked zero-f (blocks dark)) i true ≡ true
+    first : (i : ℕ) → i < 1 → getD (verdicts dark) i true ≡ true
     first zero lt = refl
     first (suc i) lt = absurd (omega arith)
 

@@ -27,13 +27,13 @@ use Rattle.gate.proofs.Claim.{gate-claim}
 use Rattle.train_steps.specs.declared.State.{State}
 use Rattle.train_steps.specs.Train.{chosen, chosen-of, chosen-powers, fresh, start, after-one, stepped, step, state-after, after-each, Ran, ran, run}
 use Rattle.train_claim.specs.Claim.{worked-out, Action, a-step, act, acts, count-steps, Falls, AllFall, AdmittedSheet, EveryCall, TurnedBack, TrainClaim}
-use Rattle.train_claim.proofs.One.{one}
+use Rattle.train_claim.proofs.One.{one, two}
 use Rattle.train_claim.proofs.Falls.{Unit-powers, stays, taken, unit, begun, power-finite, sum-finite}
 use Rattle.train_claim.proofs.Values.{first, done-is, taken-on, all-done, coasts}
 use Rattle.train_claim.proofs.Writes.{each-s, each-p, left-alone}
 
 abbrev Whole : Float → SheetSurface → Type 0
-Whole w y = Answered w (surface-value y) (films (y .layers))
+Whole w y = Answered w (surface-value y) (films w (y .layers))
 
 -- ---- the chosen powers of a surface that is answered are from 0 to 1
 module _ (w : Float) (y : SheetSurface) where
@@ -45,9 +45,9 @@ module _ (w : Float) (y : SheetSurface) where
   unfolding chosen-powers
   factor-unit a = rw (a .is) (chosen-unit (surface-value y .reflected) (a .value .powers) (a .powers))
 
-answered-all : (w : Float) → T (wavelength-passes w) → (ys : List SheetSurface) → All GoodSurface ys → All (Good w) ys → All (Whole w) ys
-answered-all w t [] g h = tt
-answered-all w t (y ∷ ys) g h = (answered w t y (h .0) (g .0 .few), answered-all w t ys (g .1) (h .1))
+answered-all : (edition : ℕ) (w : Float) → T (wavelength-passes w) → (ys : List SheetSurface) → All (GoodSurface edition) ys → All (Good w) ys → All (Whole w) ys
+answered-all edition w t [] g h = tt
+answered-all edition w t (y ∷ ys) g h = (answered w t y (h .0) (g .0 .few), answered-all edition w t ys (g .1) (h .1))
 
 -- ---- one admitted sheet
 module _ (src : List ℕ) (x : Sheet) (is-admitted : gated src ≡ answer x) (formed : WellFormed x) (inside : WithinLimits x) where
@@ -58,7 +58,7 @@ module _ (src : List ℕ) (x : Sheet) (is-admitted : gated src ≡ answer x) (fo
   xs = x .surfaces
 
   all-answered : All (Whole w) xs
-  all-answered = answered-all w (wavelength-within x inside) xs (formed .surfaces) (inside .surfaces)
+  all-answered = answered-all (x .edition) w (wavelength-within x inside) xs (formed .surfaces) (inside .surfaces)
 
   on-step : (st : State) → step src st ≡ stepped st x
   unfolding step
@@ -193,4 +193,5 @@ train-claim = record {
   every-call = λ src bs x e. let g = gate-claim .admits src bs x .0 e .0 in every-call src x e (g .0) (g .1);
   turned-back = turned-back;
   one = one;
+  two = two;
 }

@@ -1,6 +1,6 @@
--- A sheet within the grammar and the limits: every payload, met head on, with LAYERs where they may stand. Assumes nothing.
+-- Sheets of both editions within the grammar and the limits: every payload, met head on, with layers where they may stand. Assumes nothing.
 use mathlib.Core.Path.{_≡_, refl}
-use mathlib.Core.Logic.{inl, inr}
+use mathlib.Core.Logic.{_⊎_, inl, inr}
 use mathlib.Core.List.{List, [], _∷_}
 use Prim.Native.Nat.{ℕ, zero, suc, _/_, _≤_}
 use native.Mathlib.Omega.{arith}
@@ -17,8 +17,9 @@ use Rattle.thin_film.specs.Coating.{mgf2-layers, mirror-layers, layers-of}
 use Rattle.gate_limits.specs.Coating.{coded, interface}
 use Rattle.gate_limits.specs.Limits.{within, beam-passes, layer-within, layers-within, angle-passes, surface-passes, passes}
 use Rattle.sheet.specs.Blocks.{All}
-use Rattle.sheet.specs.Sheet.{SheetLayer, layer, SheetSurface, Sheet, GoodLayer, GoodSurface, WellFormed}
-use Rattle.sheet_values.specs.Values.{value, films, surface-value}
+use Rattle.sheet.specs.Sheet.{SheetLayer, layer, cauchy, SheetSurface, Sheet, GoodLayer, GoodSurface, WellFormed}
+use Rattle.sheet_values.specs.Values.{value, cauchy-index, films, surface-value}
+use Rattle.gate.specs.Gate.{coefficients-finite}
 use Rattle.gate.specs.Claim.{WithinLimits}
 use Rattle.train_claim.specs.Claim.{EveryPayload}
 
@@ -30,40 +31,75 @@ pane payload layers = record { payload = payload; n-incident = 0x3FF0_0000_0000_
 abbrev coat : SheetLayer
 coat = layer 0x4000_0000_0000_0000 0 0x4050_0000_0000_0000
 
-abbrev panes : List SheetSurface
-panes =
-    pane 0 [] ∷ pane 1 [] ∷ pane 2 [] ∷ pane 3 [] ∷ pane 4 [] ∷ pane 5 [] ∷ pane 6 [] ∷ pane 7 [] ∷ pane 8 [] ∷ pane 9 [] ∷ pane 10 (coat ∷ []) ∷ pane 11 (replicate 16 coat)
+-- A 1.5, B 2^-8, C 2^-12, 64 nm
+abbrev glass : SheetLayer
+glass = cauchy 0x3FF8_0000_0000_0000 0x3F70_0000_0000_0000 0x3F30_0000_0000_0000 0x4050_0000_0000_0000
+
+abbrev panes : List SheetLayer → List SheetSurface
+panes ls =
+    pane 0 [] ∷ pane 1 [] ∷ pane 2 [] ∷ pane 3 [] ∷ pane 4 [] ∷ pane 5 [] ∷ pane 6 [] ∷ pane 7 [] ∷ pane 8 [] ∷ pane 9 [] ∷ pane 10 (coat ∷ []) ∷ pane 11 ls
     ∷ pane 12 [] ∷ pane 13 [] ∷ pane 14 [] ∷ pane 15 [] ∷ []
 
 -- 512 nm, s = p = 1
-abbrev sheet : Sheet
-sheet = record { wavelength = 0x4080_0000_0000_0000; s = 0x3FF0_0000_0000_0000; p = 0x3FF0_0000_0000_0000; surfaces = panes }
+abbrev sheet : ℕ → List SheetLayer → Sheet
+sheet edition ls = record { edition = edition; wavelength = 0x4080_0000_0000_0000; s = 0x3FF0_0000_0000_0000; p = 0x3FF0_0000_0000_0000; surfaces = panes ls }
 
-coats : (n : ℕ) → All GoodLayer (replicate n coat)
-coats zero = tt
-coats (suc n) = ((omega arith, (omega arith, omega arith)), coats n)
+coats : (edition n : ℕ) → All (GoodLayer edition) (replicate n coat)
+coats edition zero = tt
+coats edition (suc n) = ((omega arith, (omega arith, omega arith)), coats edition n)
 
-plain : (p : ℕ) → p ≤ 15 → GoodSurface (pane p [])
-plain p le = record { payload = le; n-incident = omega arith; n-substrate = omega arith; angle = omega arith; layers = tt; few = omega arith; custom = inl refl }
+module _ (edition : ℕ) where
+  plain : (p : ℕ) → p ≤ 15 → GoodSurface edition (pane p [])
+  plain p le = record { payload = le; n-incident = omega arith; n-substrate = omega arith; angle = omega arith; layers = tt; few = omega arith; custom = inl refl }
 
-custom : (p n : ℕ) → p ≤ 15 → p / 2 ≡ 5 → n ≤ 16 → length (replicate n coat) ≡ n → GoodSurface (pane p (replicate n coat))
-custom p n le e few l = record { payload = le; n-incident = omega arith; n-substrate = omega arith; angle = omega arith; layers = coats n; few = omega arith; custom = inr e }
+  custom : (p : ℕ) (ls : List SheetLayer) → p ≤ 15 → p / 2 ≡ 5 → length ls ≤ 16 → All (GoodLayer edition) ls → GoodSurface edition (pane p ls)
+  custom p ls le e few g = record { payload = le; n-incident = omega arith; n-substrate = omega arith; angle = omega arith; layers = g; few = few; custom = inr e }
 
-inside : WithinLimits sheet
+  formed : (ls : List SheetLayer) → (edition ≡ 1) ⊎ (edition ≡ 2) → length ls ≤ 16 → All (GoodLayer edition) ls → WellFormed (sheet edition ls)
+  formed ls e few g = record {
+    edition = e;
+    wavelength = omega arith;
+    s = omega arith;
+    p = omega arith;
+    surfaces = (plain 0 (omega arith), (plain 1 (omega arith), (plain 2 (omega arith), (plain 3 (omega arith), (plain 4 (omega arith), (plain 5 (omega arith), (plain 6 (omega arith), (plain 7 (omega arith), (plain 8 (omega arith), (plain 9 (omega arith), (custom 10 (coat ∷ []) (omega arith) refl (omega arith) (coats edition 1), (custom 11 ls (omega arith) refl few g, (plain 12 (omega arith), (plain 13 (omega arith), (plain 14 (omega arith), (plain 15 (omega arith), tt))))))))))))))));
+    few = omega arith;
+  }
+
+-- the layers of the last coating 5 within the limits at 512 nm
+abbrev Inside : List SheetLayer → Type 0
+Inside ls = let w = value 0x4080_0000_0000_0000 in T (passes w (surface-value (pane 11 ls)) (films w ls)) × All (λ (l : SheetLayer). T (coefficients-finite l)) ls
+
+inside : (edition : ℕ) (ls : List SheetLayer) → Inside ls → WithinLimits (sheet edition ls)
 unfolding dielectric mgf2-layers mirror-layers layers-of bragg-layers broadband-layers within beam-passes layer-within layers-within angle-passes surface-passes passes coded interface films wrap fold second-fold series sin-at sin cos-at cos-of cos abs clamp Ieee.rem Ieee.lt Ieee.le Ieee.eq Ieee.add Ieee.sub Ieee.mul Ieee.div Ieee.neg Ieee.ofInt Ieee.isNan ofBits
-inside = record {
+inside edition ls h = record {
   beam = of-true _ refl;
-  surfaces = (of-true _ refl, (of-true _ refl, (of-true _ refl, (of-true _ refl, (of-true _ refl, (of-true _ refl, (of-true _ refl, (of-true _ refl, (of-true _ refl, (of-true _ refl, (of-true _ refl, (of-true _ refl, (of-true _ refl, (of-true _ refl, (of-true _ refl, (of-true _ refl, tt))))))))))))))));
+  surfaces = (of-true _ refl, (of-true _ refl, (of-true _ refl, (of-true _ refl, (of-true _ refl, (of-true _ refl, (of-true _ refl, (of-true _ refl, (of-true _ refl, (of-true _ refl, (of-true _ refl, (h .0, (of-true _ refl, (of-true _ refl, (of-true _ refl, (of-true _ refl, tt))))))))))))))));
+  coefficients = (tt, (tt, (tt, (tt, (tt, (tt, (tt, (tt, (tt, (tt, ((tt, tt), (h .1, (tt, (tt, (tt, (tt, tt))))))))))))))));
 }
 
-formed : WellFormed sheet
-formed = record {
-  wavelength = omega arith;
-  s = omega arith;
-  p = omega arith;
-  surfaces = (plain 0 (omega arith), (plain 1 (omega arith), (plain 2 (omega arith), (plain 3 (omega arith), (plain 4 (omega arith), (plain 5 (omega arith), (plain 6 (omega arith), (plain 7 (omega arith), (plain 8 (omega arith), (plain 9 (omega arith), (custom 10 1 (omega arith) refl (omega arith) refl, (custom 11 16 (omega arith) refl (omega arith) refl, (plain 12 (omega arith), (plain 13 (omega arith), (plain 14 (omega arith), (plain 15 (omega arith), tt))))))))))))))));
-  few = omega arith;
-}
+abbrev first-layers : List SheetLayer
+first-layers = replicate 16 coat
 
-pub one : EveryPayload
-one = record { sheet = sheet; formed = formed; within = inside; payloads = refl; layers = refl }
+abbrev second-layers : List SheetLayer
+second-layers = coat ∷ glass ∷ replicate 14 coat
+
+first-inside : Inside first-layers
+unfolding layers-of within layer-within layers-within angle-passes surface-passes passes coded interface films wrap fold second-fold series sin-at sin cos-at cos-of cos abs clamp Ieee.rem Ieee.lt Ieee.le Ieee.eq Ieee.add Ieee.sub Ieee.mul Ieee.div Ieee.neg Ieee.ofInt Ieee.isNan ofBits
+first-inside = (of-true _ refl, (tt, (tt, (tt, (tt, (tt, (tt, (tt, (tt, (tt, (tt, (tt, (tt, (tt, (tt, (tt, (tt, tt)))))))))))))))))
+
+second-inside : Inside second-layers
+unfolding cauchy-index layers-of within layer-within layers-within angle-passes surface-passes passes coded interface films wrap fold second-fold series sin-at sin cos-at cos-of cos abs clamp Ieee.rem Ieee.lt Ieee.le Ieee.eq Ieee.add Ieee.sub Ieee.mul Ieee.div Ieee.neg Ieee.ofInt Ieee.isNan ofBits
+second-inside = (of-true _ refl, (tt, (of-true _ refl, (tt, (tt, (tt, (tt, (tt, (tt, (tt, (tt, (tt, (tt, (tt, (tt, (tt, (tt, tt)))))))))))))))))
+
+pub one : EveryPayload 1 (replicate 16 4)
+one = record { sheet = sheet 1 first-layers; formed = formed 1 first-layers (inl refl) (omega arith) (coats 1 16); within = inside 1 first-layers first-inside; edition-is = refl; payloads = refl; layers = refl }
+
+pub two : EveryPayload 2 (4 ∷ 6 ∷ replicate 14 4)
+two = record {
+  sheet = sheet 2 second-layers;
+  formed = formed 2 second-layers (inr refl) (omega arith) (coats 2 1 .0, ((refl, (omega arith, (omega arith, (omega arith, omega arith)))), coats 2 14));
+  within = inside 2 second-layers second-inside;
+  edition-is = refl;
+  payloads = refl;
+  layers = refl;
+}

@@ -4,15 +4,16 @@ use mathlib.Core.Bool.{_&&_}
 use mathlib.Core.List.{List, [], _∷_, map}
 use Prim.Native.Nat.{ℕ, suc, _+_, _*_, _≤_, _<_, min}
 use lib.Dec.{T}
-use lib.ListN.{length, getD, take}
+use lib.ListN.{length, getD, take, replicate}
 use lib.Ieee.{Float, le}
 use Rattle.ieee.specs.Operators.{_⊗_}
 use Rattle.ieee.specs.Functions.{zero-f}
 use Rattle.refusal.specs.Outcome.{answer, refusal}
 use Rattle.surface.specs.Answers.{answers}
 use Rattle.surface.specs.Finite.{Finite, Answered}
+use Rattle.sheet.specs.Words.{kind}
 use Rattle.sheet.specs.Blocks.{All}
-use Rattle.sheet.specs.Sheet.{SheetSurface, nth, Sheet, WellFormed}
+use Rattle.sheet.specs.Sheet.{SheetLayer, SheetSurface, nth, Sheet, WellFormed, layer-block}
 use Rattle.sheet.specs.Claim.{Bytes}
 use Rattle.sheet_values.specs.Values.{value, films, surface-value}
 use Rattle.sheet_surfaces.specs.Surfaces.{surface-answers}
@@ -91,7 +92,8 @@ pub record AdmittedSheet (src : List ℕ) (x : Sheet) : Type 0 where
       → getD (run src list .list) (2 * i + 1) d ≡ worked-out x (suc i) .p
   -- 'Every power, amplitude, phase, Jones and Mueller entry of that sheet's surfaces' answers under demand 2, as section 7 names them, is
   -- finite.'
-  pub answers : All (λ (y : SheetSurface). Answered (value (x .wavelength)) (surface-value y) (films (y .layers))) (x .surfaces)
+  pub answers : All
+      (λ (y : SheetSurface). let w = value (x .wavelength) in Answered w (surface-value y) (films w (y .layers))) (x .surfaces)
   -- and so are s, p and their sum after any number of steps
   pub finite : (n : ℕ) → (Finite (worked-out x n .s) × Finite (worked-out x n .p)) × Finite (sum (worked-out x n .s) (worked-out x n .p))
 
@@ -106,8 +108,8 @@ pub record EveryCall (src : List ℕ) (x : Sheet) : Type 0 where
       getD (run src list .list) i d ≡ getD list i d
   pub eight : (list : List Float) → length list < 2 * length (x .surfaces) → run src list ≡ record { result = refusal 8 0; list = list }
   -- the answers of a surface that the sheet has are that surface's; 7 where it has none
-  pub answered : (i : ℕ) → i < length (x .surfaces) → let y = nth (x .surfaces) i in
-      surface-answers src i ≡ answers (value (x .wavelength)) (surface-value y) (films (y .layers))
+  pub answered : (i : ℕ) → i < length (x .surfaces) → let y = nth (x .surfaces) i in let w = value (x .wavelength) in
+      surface-answers src i ≡ answers w (surface-value y) (films w (y .layers))
   pub no-surface : (i : ℕ) → length (x .surfaces) ≤ i → surface-answers src i ≡ refusal 7 0
 
 -- ---- the claim for bytes that the gate refuses: every call has the same refusal and leaves what it was lent
@@ -117,15 +119,20 @@ pub record TurnedBack (src : List ℕ) (number place : ℕ) : Type 0 where
   pub runs : (list : List Float) → run src list ≡ record { result = refusal number place; list = list }
   pub answered : (i : ℕ) → surface-answers src i ≡ refusal number place
 
--- ---- an admitted sheet that has every payload, and LAYERs after both coatings 5: no limit refuses every coated surface
-pub record EveryPayload : Type 0 where
+-- ---- an admitted sheet of an edition that has every payload, a LAYER after one coating 5 and layers of these kinds after the other: no limit
+-- refuses every coated surface
+abbrev pub kinds-of : SheetSurface → List ℕ
+kinds-of y = map (λ (l : SheetLayer). kind (layer-block l .word)) (y .layers)
+
+pub record EveryPayload (edition : ℕ) (kinds : List ℕ) : Type 0 where
   pub sheet : Sheet
   pub formed : WellFormed sheet
   pub within : WithinLimits sheet
+  pub edition-is : sheet .edition ≡ edition
   pub payloads : map (λ (y : SheetSurface). y .payload) (sheet .surfaces) ≡
       0 ∷ 1 ∷ 2 ∷ 3 ∷ 4 ∷ 5 ∷ 6 ∷ 7 ∷ 8 ∷ 9 ∷ 10 ∷ 11 ∷ 12 ∷ 13 ∷ 14 ∷ 15 ∷ []
-  pub layers : map (λ (y : SheetSurface). length (y .layers)) (sheet .surfaces) ≡
-      0 ∷ 0 ∷ 0 ∷ 0 ∷ 0 ∷ 0 ∷ 0 ∷ 0 ∷ 0 ∷ 0 ∷ 1 ∷ 16 ∷ 0 ∷ 0 ∷ 0 ∷ 0 ∷ []
+  pub layers : map kinds-of (sheet .surfaces) ≡
+      [] ∷ [] ∷ [] ∷ [] ∷ [] ∷ [] ∷ [] ∷ [] ∷ [] ∷ [] ∷ (4 ∷ []) ∷ kinds ∷ [] ∷ [] ∷ [] ∷ [] ∷ []
 
 -- ---- demand 3
 pub record TrainClaim : Type 0 where
@@ -134,4 +141,6 @@ pub record TrainClaim : Type 0 where
   pub admitted : (src : List ℕ) → Bytes src → (x : Sheet) → gated src ≡ answer x → AdmittedSheet src x
   pub every-call : (src : List ℕ) → Bytes src → (x : Sheet) → gated src ≡ answer x → EveryCall src x
   pub turned-back : (src : List ℕ) (number place : ℕ) → gated src ≡ refusal number place → TurnedBack src number place
-  pub one : EveryPayload
+  -- of edition 1 with 16 LAYERs; of edition 2 with 15 and a kind 6 among them
+  pub one : EveryPayload 1 (replicate 16 4)
+  pub two : EveryPayload 2 (4 ∷ 6 ∷ replicate 14 4)
