@@ -359,19 +359,14 @@ of-nth-surface = record {
 of-nth-layer : Refuses (λ (x : Sheet × (ℕ × ℕ)). nth-layer (x .0 .src) (x .1 .0) (x .1 .1)) (4 ∷ 5 ∷ 6 ∷ 7 ∷ [])
 unfolding nth-layer
 of-nth-layer = record {
-  only = λ x. layers (x .1 .1) (surface-of (x .1 .0) (gated (x .0 .src))) (of-surface-only _ (x .1 .0) (gated (x .0 .src)) (all-seven (x .0 .src)) (λ y e lt. tt));
+  only = λ x.
+      of-surface-only _ (x .1 .0) (gated (x .0 .src)) (all-seven (x .0 .src))
+      (λ y e lt. either seven (ltb (x .1 .1) (length (nth (y .surfaces) (x .1 .0) .layers))) (answer _) (refusal 7 0) tt tt);
   each = (
-    ((none, (0, 0)), (0, ap (λ o. layer-of 0 (surface-of 0 o)) four)),
-    (
-      ((blank, (0, 0)), (0, ap (λ o. layer-of 0 (surface-of 0 o)) five)),
-      (((unlit, (0, 0)), (1, ap (λ o. layer-of 0 (surface-of 0 o)) six)), (((whole, (16, 0)), (0, ap (layer-of 0) (past (λ x y. answer y)))), tt)),
-    ),
+    ((none, (0, 0)), (0, said _ 0 _ 4 0 four)),
+    (((blank, (0, 0)), (0, said _ 0 _ 5 0 five)), (((unlit, (0, 0)), (1, said _ 0 _ 6 1 six)), (((whole, (16, 0)), (0, past (layer-of 0))), tt))),
   );
 }
-  where
-    layers : (j : ℕ) (o : Outcome Data.SheetSurface) → Only seven o → Only seven (layer-of j o)
-    layers j (answer y) t = either seven (ltb j (length (y .layers))) (answer _) (refusal 7 0) tt tt
-    layers j (refusal number place) t = t
 
 pub refusal-claim : RefusalClaim
 refusal-claim = record {
