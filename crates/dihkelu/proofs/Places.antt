@@ -8,12 +8,12 @@ use lib.Dec.{T, eqb, leb, leb→le}
 use lib.ListN.{length, getD, take, drop, length-append, length-drop}
 use lib.Ieee.Fits.{and-l, and-r}
 use borrow.Author.Tests.{leb-true}
-use Rattle.refusal.specs.Outcome.{Outcome, answer, refusal}
-use Rattle.sheet.specs.Words.{words-of}
+use Rattle.refusal.specs.Outcome.{Outcome}
+use Rattle.sheet.specs.Words.{word, words-of}
 use Rattle.sheet.specs.Blocks.{Block, Grammar, flat, starts, Result, read, fault, mapped, blocks-from}
-use Rattle.sheet.specs.Sheet.{Sheet, WellFormed, blocks, words, places}
+use Rattle.sheet.specs.Sheet.{Sheet, WellFormed, kind-word, blocks, words, places}
 use Rattle.sheet.specs.Read.{decode, sheet-of, at-open, sheet-grammar}
-use Rattle.sheet.specs.Claim.{Bytes, length-fits}
+use Rattle.sheet.specs.Claim.{Bytes, longest, length-fits}
 use Rattle.sheet.proofs.Claim.{grammar-claim}
 use Rattle.sheet.proofs.Measure.{words-of-length, length-limits}
 use Rattle.gate.specs.Gate.{gated}
@@ -73,16 +73,23 @@ starts-below at [] i lt = absurd (omega arith)
 starts-below at (b ∷ bs) zero lt = omega (arith, length-append (b .raw) (flat bs))
 starts-below at (b ∷ bs) (suc i) lt = let h = starts-below (at + suc (length (b .raw))) bs i (omega arith) in omega (arith, length-append (b .raw) (flat bs))
 
-place-below : (x : Sheet) → WellFormed x → (place : ℕ) → FirstOutside x place → place ≤ 7625
-place-below x h place f = omega (arith, f .stands, starts-below 0 (blocks x) (f .block) (f .inside), length-limits x h .1)
+place-below : (x : Sheet) → WellFormed x → (place : ℕ) → FirstOutside x place → place ≤ 9673
+place-below x h place f = omega (arith, f .stands, starts-below 0 (blocks x) (f .block) (f .inside), length-limits x h .1 .0)
 
 -- ---- the gate
 module _ (src : List ℕ) (bytes : Bytes src) where
-  fits : T (length-fits src) → (36 ≤ length src) × (length src ≤ 30500)
+  most : longest src ≤ 38692
+  most = by (eqb (word src 0) (kind-word 1 2))
+    where
+      by : (t : Bool) → cond t 38692 30500 ≤ 38692
+      by true = omega arith
+      by false = omega arith
+
+  fits : T (length-fits src) → (36 ≤ length src) × (length src ≤ 38692)
   fits t =
       let n = length src in
-      let u = and-r (eqb (n % 4) 0) (leb 36 n && leb n 30500) t in
-      (leb→le 36 n (and-l (leb 36 n) (leb n 30500) u), leb→le n 30500 (and-r (leb 36 n) (leb n 30500) u))
+      let u = and-r (eqb (n % 4) 0) (leb 36 n && leb n (longest src)) t in
+      (leb→le 36 n (and-l (leb 36 n) (leb n (longest src)) u), omega (arith, leb→le n (longest src) (and-r (leb 36 n) (leb n (longest src)) u), most))
 
   of-case : {o : Outcome Sheet} → Case src o → Sound o
   of-case (short f) = (omega arith, omega arith)
