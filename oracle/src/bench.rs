@@ -1,7 +1,7 @@
 // Command bench: nanoseconds for a call, best of several runs, of each side; and their ratios.
 
 use crate::section2::{self, PI};
-use crate::sheets::even;
+use crate::sheets::{even, glasses};
 use crate::values::Rng;
 use std::hint::black_box;
 use std::time::Instant;
@@ -89,9 +89,9 @@ macro_rules! side {
                     wavelength,
                 };
                 let layers: Vec<[f64; 3]> = surface
-                    .layers
+                    .films(wavelength)
                     .iter()
-                    .map(|(_, film)| [film.n, film.k, film.thickness_nm])
+                    .map(|film| [film.n, film.k, film.thickness_nm])
                     .collect();
                 if surface.coating == 0 {
                     return bare(&place);
@@ -131,7 +131,7 @@ side!(authors, f64::cos);
 side!(reference, crate::section2::cos);
 
 /// The workloads, with the number of calls in each.
-pub const WORKS: [(&str, usize); 19] = [
+pub const WORKS: [(&str, usize); 18] = [
     ("bare surface, the two powers alone", 64),
     ("MgF2", 64),
     ("15-layer mirror", 64),
@@ -144,6 +144,7 @@ pub const WORKS: [(&str, usize); 19] = [
     ("whole run, 64 surfaces of 1 layer", 1),
     ("whole run, 1 bare surface", 1),
     ("whole run, 64 bare surfaces", 1),
+    ("whole run, 64 surfaces of 16 kind 6", 1),
     ("gate, 1 surface of 16 layers", 1),
     ("gate, the longest sheet: 64 surfaces of 16 layers", 1),
     ("step, 1 surface of 16 layers", 1),
@@ -153,18 +154,19 @@ pub const WORKS: [(&str, usize); 19] = [
     ("stack shorthand, 255 bytes of 64 layers", 1),
 ];
 
-/// Sheets of so many surfaces with so many layers each; without layers they are bare.
+/// Sheets of so many surfaces with so many layers each; without layers they are bare. The last is of edition 2.
 pub fn run_sheets() -> Vec<Vec<u8>> {
     [
-        (1, 16),
-        (8, 16),
-        (64, 16),
-        (64, 4),
-        (64, 1),
-        (1, 0),
-        (64, 0),
+        even(1, 16),
+        even(8, 16),
+        even(64, 16),
+        even(64, 4),
+        even(64, 1),
+        even(1, 0),
+        even(64, 0),
+        glasses(64, 16),
     ]
-    .map(|(surfaces, layers)| even(surfaces, layers).bytes())
+    .map(|plan| plan.bytes())
     .to_vec()
 }
 

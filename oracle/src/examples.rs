@@ -1,18 +1,19 @@
 // Named example sheets: every coating in both directions, no surfaces and 64, layers, and each refusal at several places.
 
 use crate::sheet_cases::from_words;
-use crate::sheets::{example, largest, varied, Face, Plan};
+use crate::sheets::{example, largest, largest_of_two, mixed, plain, varied, Face, Plan};
 
 fn face(payload: u32, numbers: [f64; 3], layers: &[[f64; 3]]) -> Face {
     Face {
         payload,
         numbers,
-        layers: layers.to_vec(),
+        layers: plain(layers),
     }
 }
 
 fn plan(surfaces: Vec<Face>) -> Plan {
     Plan {
+        edition: 1,
         beam: [632.8, 0.75, 0.5],
         surfaces,
     }
@@ -28,6 +29,9 @@ const COATINGS: [&str; 8] = [
     "ideal_beamsplitter",
     "ideal_mirror",
 ];
+
+/// About BK7's.
+const GLASS: [f64; 4] = [1.5046, 0.0042, 0.0, 80.0];
 
 const LAYERS: [[f64; 3]; 3] = [[1.38, 0.0, 99.6], [2.3, 0.0, 60.0], [1.46, -0.0, 1234.5]];
 
@@ -75,6 +79,14 @@ fn admitted() -> Vec<(String, Vec<u8>)> {
         plan(vec![face(0, [1.0, 1.52, 0.2], &[]); 64]),
     );
     add("64_surfaces_of_16_layers", largest());
+    add("64_surfaces_of_16_glasses", largest_of_two());
+    add("edition_2", of_two(varied()));
+    add("glasses_and_layers", mixed());
+    add("glasses_from_the_denser_side", {
+        let mut sheet = of_two(plan(vec![face(11, [1.52, 1.0, 0.3], &LAYERS)]));
+        sheet.surfaces[0].layers[1] = GLASS.to_vec();
+        sheet
+    });
     let mut dark = plan(vec![face(0, [1.0, 1.52, 0.2], &[])]);
     dark.beam = [100.0, -0.0, 0.0];
     add("no_power", dark);
@@ -87,6 +99,12 @@ fn admitted() -> Vec<(String, Vec<u8>)> {
         )]),
     );
     list
+}
+
+/// The same sheet in edition 2.
+fn of_two(mut sheet: Plan) -> Plan {
+    sheet.edition = 2;
+    sheet
 }
 
 fn refused() -> Vec<(String, Vec<u8>)> {
@@ -106,8 +124,29 @@ fn refused() -> Vec<(String, Vec<u8>)> {
     add("4_a_byte_short", whole[..63].to_vec());
     add("4_a_byte_more", [&whole[..], &[0]].concat());
     add("4_30504_bytes", [&longest[..], &[0; 4]].concat());
+    let longest_of_two = largest_of_two().bytes();
+    add(
+        "4_38692_bytes_of_edition_1",
+        [&whole[..4], &longest_of_two[4..]].concat(),
+    );
+    add("4_38696_bytes", [&longest_of_two[..], &[0; 4]].concat());
     // 5
-    add("5_edition_2", with(0, 0x1000_0002));
+    add("5_edition_0", with(0, 0x1000_0000));
+    add("5_edition_3", with(0, 0x1000_0003));
+    let glass = |edition: u32, glass: [f64; 4]| {
+        let mut sheet = plan(vec![face(10, [1.0, 1.52, 0.3], &LAYERS)]);
+        sheet.edition = edition;
+        sheet.surfaces[0].layers[1] = glass.to_vec();
+        sheet.bytes()
+    };
+    add("5_glass_in_edition_1", glass(1, GLASS));
+    add("5_glass_past_the_end", glass(2, GLASS)[..120].to_vec());
+    add("5_17_glasses", {
+        let mut sheet = plan(vec![face(10, [1.0, 1.52, 0.3], &[])]);
+        sheet.edition = 2;
+        sheet.surfaces[0].layers = vec![GLASS.to_vec(); 17];
+        sheet.bytes()
+    });
     add("5_no_beam", with(1, 0x3000_0000));
     add("5_payload_16", with(8, 0x3000_0010));
     add("5_layer_on_bare", {
@@ -182,5 +221,11 @@ fn refused() -> Vec<(String, Vec<u8>)> {
         ])
         .bytes(),
     );
+    add("6_glass_index_over_4", glass(2, [1.5, 0.5, 0.3, 80.0]));
+    add(
+        "6_glass_not_finite",
+        glass(2, [1.5, f64::INFINITY, 0.0, 80.0]),
+    );
+    add("6_glass_too_thick", glass(2, [1.5, 0.0042, 0.0, 100_001.0]));
     list
 }

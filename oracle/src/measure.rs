@@ -3,7 +3,7 @@
 use crate::record::numbers;
 use crate::reference::thin_film::{evaluate_tmm_multilayer, Complex, ThinFilmLayer};
 use crate::section2::{abs, asin, sin, sqrt, PI, T};
-use crate::sheet::{limits, preset_layers, Sheet, Surface};
+use crate::sheet::{limits, preset_layers, Layer, Sheet, Surface};
 use crate::traced::{bare, solve, Count, Of, Seen};
 use crate::train::{answers, powers, Answers, Light};
 use crate::values::{neighbour, Rng};
@@ -66,9 +66,9 @@ fn indices(rng: &mut Rng, count: usize) -> Vec<f64> {
 }
 
 /// Quarter- and half-wave stacks and cavities: thickness in quarters of the wavelength within the layer, or a little beside.
-fn tune(rng: &mut Rng, surface: &mut Surface, wavelength: f64) {
+fn tune(rng: &mut Rng, surface: &Surface, films: &mut [ThinFilmLayer], wavelength: f64) {
     let side = surface.n_incident * abs(sin(surface.angle));
-    let count = surface.layers.len();
+    let count = films.len();
     let kind = rng.below(4);
     let spacer = if rng.one_in(2) {
         count / 2
@@ -81,7 +81,7 @@ fn tune(rng: &mut Rng, surface: &mut Surface, wavelength: f64) {
     };
     let all_beside = if rng.one_in(2) { beside(rng) } else { 1.0 };
     let each_beside = rng.one_in(4);
-    for (i, (_, layer)) in surface.layers.iter_mut().enumerate() {
+    for (i, layer) in films.iter_mut().enumerate() {
         let quarters = match kind {
             0 => 1.0,
             1 if i == spacer => 2.0,
@@ -101,25 +101,22 @@ fn tune(rng: &mut Rng, surface: &mut Surface, wavelength: f64) {
 
 /// Two equal mirrors, a little beside their quarter waves, around a spacer that is in resonance for s or for p:
 /// the matrices grow to the spacer and cancel after it.
-fn cavity(rng: &mut Rng, surface: &mut Surface, wavelength: f64) {
-    let count = surface.layers.len() - 1 + surface.layers.len() % 2;
+fn cavity(rng: &mut Rng, surface: &mut Surface, films: &mut Vec<ThinFilmLayer>, wavelength: f64) {
+    let count = films.len() - 1 + films.len() % 2;
     let half = count / 2;
-    surface.layers.truncate(count);
+    films.truncate(count);
     surface.n_substrate = surface.n_incident;
     let side = surface.n_incident * abs(sin(surface.angle));
     let beside = 1.0 + rng.log(-20, -3);
     let cosine = |n: f64| sqrt(1.0 - (side / n) * (side / n));
     for i in 0..half {
-        let mut layer = surface.layers[i].1.clone();
+        let mut layer = films[i].clone();
         layer.thickness_nm = beside * wavelength / (4.0 * layer.n * cosine(layer.n));
-        surface.layers[i].1 = layer.clone();
-        surface.layers[count - 1 - i].1 = layer;
+        films[i] = layer.clone();
+        films[count - 1 - i] = layer;
     }
-    let behind: Vec<ThinFilmLayer> = surface.layers[half + 1..]
-        .iter()
-        .map(|(_, layer)| layer.clone())
-        .collect();
-    let spacer = &mut surface.layers[half].1;
+    let behind: Vec<ThinFilmLayer> = films[half + 1..].to_vec();
+    let spacer = &mut films[half];
     let within = asin(side / spacer.n);
     let mirror =
         evaluate_tmm_multilayer(spacer.n, surface.n_substrate, within, wavelength, &behind);
@@ -173,9 +170,9 @@ fn candidate(rng: &mut Rng, wavelength: f64) -> Surface {
         2 => n_incident * STEEP,
         _ => index(rng),
     };
-    let films: Vec<f64> = indices(rng, count);
+    let indices: Vec<f64> = indices(rng, count);
     let presets = preset_layers(coating);
-    let all = films.iter().copied().chain(presets.iter().map(|l| l.n));
+    let all = indices.iter().copied().chain(presets.iter().map(|l| l.n));
     let least = all.fold(n_substrate, f64::min);
     let mut surface = Surface {
         word: 8,
@@ -186,18 +183,19 @@ fn candidate(rng: &mut Rng, wavelength: f64) -> Surface {
         angle: angle(rng, n_incident, least),
         layers: Vec::new(),
     };
-    for n in films {
+    let mut films = Vec::new();
+    for n in indices {
         let k = rng.pick(&[0.0, -0.0]);
         let thickness_nm = thickness(rng);
-        surface
-            .layers
-            .push((0, ThinFilmLayer { n, k, thickness_nm }));
+        films.push(ThinFilmLayer { n, k, thickness_nm });
     }
     match rng.below(6) {
         0 | 1 => (),
-        2 if count > 0 => cavity(rng, &mut surface, wavelength),
-        _ => tune(rng, &mut surface, wavelength),
+        2 if count > 0 => cavity(rng, &mut surface, &mut films, wavelength),
+        _ => tune(rng, &surface, &mut films, wavelength),
     }
+    let layers = films.into_iter().map(|film| (0, Layer::Fixed(film)));
+    surface.layers = layers.collect();
     surface
 }
 
@@ -243,7 +241,7 @@ pub fn surface(sheet: &Sheet, seen: &mut Seen) {
         }
         Light::Coated(response) if (2..=5).contains(&surface.coating) => {
             let mut layers = preset_layers(surface.coating);
-            layers.extend(surface.layers.iter().map(|(_, layer)| layer.clone()));
+            layers.extend(surface.films(wavelength));
             if surface.n_incident > surface.n_substrate {
                 layers.reverse();
             }
@@ -279,7 +277,7 @@ fn describe(sheet: &Sheet) -> String {
         "code {}, {:?} to {:?}, angle {:?}, wavelength {:?}",
         surface.coating, surface.n_incident, surface.n_substrate, surface.angle, sheet.wavelength
     );
-    for (_, layer) in &surface.layers {
+    for layer in surface.films(sheet.wavelength) {
         text += &format!(" | {:?} {:?}", layer.n, layer.thickness_nm);
     }
     text

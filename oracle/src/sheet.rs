@@ -1,4 +1,4 @@
-// Document 01, sections 1 and 3: the sheet's words and grammar (refusals 4 and 5) and the gate (refusal 6).
+// Document 01, sections 1 and 3, and document 02, slip 3: the sheet's words and grammar (refusals 4 and 5) and the gate (refusal 6).
 
 use crate::reference::thin_film::{Coating, SurfaceCoating, ThinFilmLayer};
 use crate::section2::{abs, cos, sin};
@@ -35,8 +35,49 @@ pub struct Surface {
     pub n_incident: f64,
     pub n_substrate: f64,
     pub angle: f64,
-    /// The LAYERs with the places of their kind words.
-    pub layers: Vec<(usize, ThinFilmLayer)>,
+    /// The layers with the places of their kind words.
+    pub layers: Vec<(usize, Layer)>,
+}
+
+impl Surface {
+    /// Its layers at a wavelength.
+    pub fn films(&self, wavelength: f64) -> Vec<ThinFilmLayer> {
+        let film = |(_, layer): &(usize, Layer)| layer.film(wavelength);
+        self.layers.iter().map(film).collect()
+    }
+}
+
+#[derive(Clone, Debug)]
+pub enum Layer {
+    /// LAYER.
+    Fixed(ThinFilmLayer),
+    /// Kind 6: A, B, C and the thickness.
+    Cauchy([f64; 3], f64),
+}
+
+impl Layer {
+    /// What it is at a wavelength: slip 3's formula from the inside out.
+    pub fn film(&self, wavelength: f64) -> ThinFilmLayer {
+        match self {
+            Layer::Fixed(film) => film.clone(),
+            Layer::Cauchy([a, b, c], thickness) => {
+                let micrometres = wavelength / 1000.0;
+                let square = micrometres * micrometres;
+                ThinFilmLayer {
+                    n: [b, a].into_iter().fold(*c, |sum, next| next + sum / square),
+                    k: 0.0,
+                    thickness_nm: *thickness,
+                }
+            }
+        }
+    }
+
+    fn is_finite(&self) -> bool {
+        match self {
+            Layer::Fixed(_) => true,
+            Layer::Cauchy(coefficients, _) => coefficients.iter().all(|x| x.is_finite()),
+        }
+    }
 }
 
 const MOST_SURFACES: usize = 64;
@@ -51,21 +92,23 @@ pub fn gate(bytes: &[u8]) -> Result<Sheet, Refusal> {
 
 /// Section 1: length and grammar.
 pub fn read(bytes: &[u8]) -> Result<Sheet, Refusal> {
-    if bytes.len() % 4 != 0 || bytes.len() < 36 || bytes.len() > 30_500 {
+    let most = if bytes.starts_with(&[0x10, 0, 0, 2]) {
+        38_692
+    } else {
+        30_500
+    };
+    if bytes.len() % 4 != 0 || bytes.len() < 36 || bytes.len() > most {
         return refuse(4, 0);
     }
     let word = |chunk: &[u8]| u32::from_be_bytes([chunk[0], chunk[1], chunk[2], chunk[3]]);
     let words: Vec<u32> = bytes.chunks(4).map(word).collect();
-    let floats = |at: usize| -> [f64; 3] {
-        std::array::from_fn(|i| {
-            let high = u64::from(words[at + 1 + 2 * i]);
-            let low = u64::from(words[at + 2 + 2 * i]);
-            f64::from_bits(high << 32 | low)
-        })
+    let float = |at: usize| f64::from_bits(u64::from(words[at]) << 32 | u64::from(words[at + 1]));
+    let floats = |at: usize| -> [f64; 3] { std::array::from_fn(|i| float(at + 1 + 2 * i)) };
+    let edition = match words[0] {
+        0x1000_0001 => 1,
+        0x1000_0002 => 2,
+        _ => return refuse(5, 0),
     };
-    if words[0] != 0x1000_0001 {
-        return refuse(5, 0);
-    }
     if words[1] != 0x2000_0000 {
         return refuse(5, 1);
     }
@@ -95,7 +138,7 @@ pub fn read(bytes: &[u8]) -> Result<Sheet, Refusal> {
                 });
                 at += 7;
             }
-            4 => {
+            4 | 6 => {
                 let Some(surface) = surfaces.last_mut() else {
                     return refuse(5, at);
                 };
@@ -103,11 +146,19 @@ pub fn read(bytes: &[u8]) -> Result<Sheet, Refusal> {
                 if surface.coating != 5 || full || payload != 0 || !floats_fit {
                     return refuse(5, at);
                 }
-                let [n, k, thickness_nm] = floats(at);
-                surface
-                    .layers
-                    .push((at, ThinFilmLayer { n, k, thickness_nm }));
-                at += 7;
+                if kind == 4 {
+                    let [n, k, thickness_nm] = floats(at);
+                    let film = ThinFilmLayer { n, k, thickness_nm };
+                    surface.layers.push((at, Layer::Fixed(film)));
+                    at += 7;
+                } else {
+                    if edition == 1 || at + 8 >= words.len() {
+                        return refuse(5, at);
+                    }
+                    let layer = Layer::Cauchy(floats(at), float(at + 7));
+                    surface.layers.push((at, layer));
+                    at += 9;
+                }
             }
             5 => {
                 if payload as usize != surfaces.len() {
@@ -129,7 +180,7 @@ pub fn read(bytes: &[u8]) -> Result<Sheet, Refusal> {
     })
 }
 
-/// Section 3: the first BEAM, SURFACE or LAYER outside the limits.
+/// Section 3: the first BEAM, SURFACE or layer outside the limits.
 pub fn limits(sheet: &Sheet) -> Result<(), Refusal> {
     let beam = within(sheet.wavelength, 100.0, 10_000.0)
         && within(sheet.s, 0.0, 1.0)
@@ -142,7 +193,7 @@ pub fn limits(sheet: &Sheet) -> Result<(), Refusal> {
             return refuse(6, surface.word);
         }
         for (word, layer) in &surface.layers {
-            if !layer_passes(surface, layer) {
+            if !layer.is_finite() || !layer_passes(surface, &layer.film(sheet.wavelength)) {
                 return refuse(6, *word);
             }
         }

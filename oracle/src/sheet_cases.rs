@@ -1,16 +1,22 @@
 // The fixed sheets: 01's edges, lengths, truncations, flipped bits, the floats on either side of each limit.
 
 use crate::section2::{abs, cos, sin, T};
-use crate::sheets::{example, largest, varied, Face, Plan};
+use crate::sheet::Layer;
+use crate::sheets::{example, largest, largest_of_two, mixed, plain, varied, Face, Plan};
 use crate::values::neighbour;
 
 /// All fixed sheets; only the last ones are long.
 pub fn cases() -> Vec<Vec<u8>> {
-    let mut list = vec![example().bytes(), varied().bytes(), empty().bytes()];
+    let mut list = vec![
+        example().bytes(),
+        varied().bytes(),
+        mixed().bytes(),
+        empty().bytes(),
+    ];
     list.extend(lengths());
     list.extend(truncations());
     list.extend(flips(&example().bytes()));
-    list.extend(flips(&varied().bytes()));
+    list.extend(flips(&mixed().bytes()));
     list.extend(edges());
     list.extend(
         limits()
@@ -25,6 +31,7 @@ pub fn cases() -> Vec<Vec<u8>> {
 /// No surfaces: 36 bytes, the shortest sheet.
 fn empty() -> Plan {
     Plan {
+        edition: 1,
         beam: [550.0, 1.0, 1.0],
         surfaces: Vec::new(),
     }
@@ -32,11 +39,12 @@ fn empty() -> Plan {
 
 fn one(payload: u32, numbers: [f64; 3], layers: &[[f64; 3]]) -> Plan {
     Plan {
+        edition: 1,
         beam: [550.0, 1.0, 0.5],
         surfaces: vec![Face {
             payload,
             numbers,
-            layers: layers.to_vec(),
+            layers: plain(layers),
         }],
     }
 }
@@ -48,11 +56,12 @@ fn lengths() -> Vec<Vec<u8>> {
     (0..=64).flat_map(both).collect()
 }
 
-/// A sheet with every kind of block, cut off at every byte.
+/// A sheet of either edition with every kind of block, cut off at every byte.
 fn truncations() -> Vec<Vec<u8>> {
-    let whole = varied().bytes();
-    (0..whole.len())
-        .map(|length| whole[..length].to_vec())
+    let cut = |whole: Vec<u8>| (0..whole.len()).map(move |length| whole[..length].to_vec());
+    [varied(), mixed()]
+        .into_iter()
+        .flat_map(|plan| cut(plan.bytes()))
         .collect()
 }
 
@@ -83,7 +92,18 @@ fn edges() -> Vec<Vec<u8>> {
         list.push(from_words(&words));
     }
     for layers in [0, 1, 15, 16, 17, 18] {
-        list.push(one(10, [1.0, 1.5, 0.0], &vec![[1.38, 0.0, 99.0]; layers]).bytes());
+        let mut plan = one(10, [1.0, 1.5, 0.0], &vec![[1.38, 0.0, 99.0]; layers]);
+        list.push(plan.bytes());
+        // Kinds 6 count to the 16 layers, alone and mixed with LAYERs; edition 1 has none.
+        for every in [1, 2, 3] {
+            for layer in plan.surfaces[0].layers.iter_mut().step_by(every) {
+                *layer = vec![1.38, 0.01, 0.0, 99.0];
+            }
+            for edition in 0..4 {
+                plan.edition = edition;
+                list.push(plan.bytes());
+            }
+        }
     }
     for surfaces in [0, 1, 63, 64, 65, 66] {
         let mut plan = example();
@@ -100,14 +120,15 @@ fn edges() -> Vec<Vec<u8>> {
         list.push(one(payload, [1.0, 1.5, 0.5], &[[1.38, 0.0, 99.0]]).bytes());
     }
     // Each word of a sheet replaced by each kind word.
-    let whole = varied().write();
-    let ends = [0, whole.words.len() - 1];
-    for place in whole.kinds.iter().chain(&ends) {
-        for kind in 0..16 {
-            for payload in [0, 3] {
-                let mut words = whole.words.clone();
-                words[*place] = kind << 28 | payload;
-                list.push(from_words(&words));
+    for whole in [varied().write(), mixed().write()] {
+        let ends = [0, whole.words.len() - 1];
+        for place in whole.kinds.iter().chain(&ends) {
+            for kind in 0..16 {
+                for payload in [0, 2, 3] {
+                    let mut words = whole.words.clone();
+                    words[*place] = kind << 28 | payload;
+                    list.push(from_words(&words));
+                }
             }
         }
     }
@@ -264,6 +285,41 @@ pub fn limits() -> Vec<(Vec<u8>, Vec<u8>)> {
             outside,
         ));
     }
+    // Kind 6: its index at 1 and at 4 by each coefficient, and its thickness.
+    let mut plan = one(10, [1.0, 1.5, 0.0], &[[1.38, 0.0, 99.0]; 16]);
+    plan.edition = 2;
+    for place in [0, 1, 15] {
+        for (field, ends) in [(0, [0.5, 4.5]), (1, [-0.3, 1.5]), (2, [-0.1, 0.5])] {
+            let glass = [1.8, 0.01, 0.001, 99.0];
+            let index = |x: f64| {
+                let mut coefficients = [glass[0], glass[1], glass[2]];
+                coefficients[field] = x;
+                Layer::Cauchy(coefficients, glass[3]).film(plan.beam[0]).n
+            };
+            for end in ends {
+                let (inside, outside) =
+                    boundary(glass[field], end, |x| (1.0..=4.0).contains(&index(x)));
+                let mut plan = plan.clone();
+                plan.surfaces[0].layers[place] = glass.to_vec();
+                list.push(pair(
+                    &plan,
+                    |plan| &mut plan.surfaces[0].layers[place][field],
+                    inside,
+                    outside,
+                ));
+            }
+        }
+        for (inside, outside) in [down(0.0), (-0.0, neighbour(0.0, -1)), up(100_000.0)] {
+            let mut plan = plan.clone();
+            plan.surfaces[0].layers[place] = vec![1.5, 0.01, 0.001, 99.0];
+            list.push(pair(
+                &plan,
+                |plan| &mut plan.surfaces[0].layers[place][3],
+                inside,
+                outside,
+            ));
+        }
+    }
     // LAYER: first, second and last.
     for place in [0, 1, 15] {
         let plan = one(10, [1.0, 1.5, 0.0], &[[1.38, 0.0, 99.0]; 16]);
@@ -300,28 +356,40 @@ const SPECIAL: [f64; 10] = [
     -1.0,
 ];
 
-/// Every field of a sheet with each special value.
+/// Every field of a sheet of either edition with each special value.
 fn fields() -> Vec<Vec<u8>> {
-    let whole = varied().write();
     let mut list = Vec::new();
-    for kind in &whole.kinds {
-        for field in 0..3 {
-            for x in SPECIAL {
-                let mut words = whole.words.clone();
-                words[kind + 1 + 2 * field] = (x.to_bits() >> 32) as u32;
-                words[kind + 2 + 2 * field] = x.to_bits() as u32;
-                list.push(from_words(&words));
+    for whole in [varied().write(), mixed().write()] {
+        for kind in &whole.kinds {
+            for field in 0..whole.floats(*kind) {
+                for x in SPECIAL {
+                    let mut words = whole.words.clone();
+                    words[kind + 1 + 2 * field] = (x.to_bits() >> 32) as u32;
+                    words[kind + 2 + 2 * field] = x.to_bits() as u32;
+                    list.push(from_words(&words));
+                }
             }
         }
     }
     list
 }
 
-/// The longest sheet, and a word less and more.
+/// The longest sheet of either edition, and a word less and more; the longest of edition 2 under other first words.
 fn long() -> Vec<Vec<u8>> {
-    let whole = largest().bytes();
-    assert!(whole.len() == 30_500);
-    let mut more = whole.clone();
-    more.extend([0, 0, 0, 0]);
-    vec![whole[..30_496].to_vec(), whole, more]
+    let mut list = Vec::new();
+    for (whole, length) in [
+        (largest().bytes(), 30_500),
+        (largest_of_two().bytes(), 38_692),
+    ] {
+        assert!(whole.len() == length);
+        list.push(whole[..length - 4].to_vec());
+        list.push([&whole[..], &[0; 4]].concat());
+        list.push(whole);
+    }
+    let mut other = largest_of_two().bytes();
+    for first in [[0x10, 0, 0, 1], [0x10, 0, 0, 3], [0x20, 0, 0, 2]] {
+        other[..4].copy_from_slice(&first);
+        list.push(other.clone());
+    }
+    list
 }

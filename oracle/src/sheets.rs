@@ -1,12 +1,13 @@
 // Sheets to try the gate and the train with: random ones, valid and damaged.
 
 use crate::section2::T;
-use crate::sheet::gate;
+use crate::sheet::{gate, Layer};
 use crate::values::{any, neighbour, Rng, CORE, LIMITS};
 
 /// A sheet before it is written.
 #[derive(Clone)]
 pub struct Plan {
+    pub edition: u32,
     /// Wavelength, s power, p power.
     pub beam: [f64; 3],
     pub surfaces: Vec<Face>,
@@ -17,8 +18,13 @@ pub struct Face {
     pub payload: u32,
     /// n_incident, n_substrate, angle.
     pub numbers: [f64; 3],
-    /// n, k, thickness.
-    pub layers: Vec<[f64; 3]>,
+    /// n, k, thickness of a LAYER; A, B, C, thickness of a kind 6.
+    pub layers: Vec<Vec<f64>>,
+}
+
+/// LAYERs.
+pub fn plain(layers: &[[f64; 3]]) -> Vec<Vec<f64>> {
+    layers.iter().map(|layer| layer.to_vec()).collect()
 }
 
 /// Written words, with the places of the kind words that floats follow.
@@ -28,13 +34,18 @@ pub struct Written {
 }
 
 impl Written {
-    fn block(&mut self, kind_word: u32, floats: [f64; 3]) {
+    fn block(&mut self, kind_word: u32, floats: &[f64]) {
         self.kinds.push(self.words.len());
         self.words.push(kind_word);
         for x in floats {
             let bits = x.to_bits();
             self.words.extend([(bits >> 32) as u32, bits as u32]);
         }
+    }
+
+    /// How many floats follow the kind word at a place.
+    pub fn floats(&self, place: usize) -> usize {
+        3 + usize::from(self.words[place] >> 28 == 6)
     }
 
     pub fn bytes(&self) -> Vec<u8> {
@@ -48,14 +59,15 @@ impl Written {
 impl Plan {
     pub fn write(&self) -> Written {
         let mut out = Written {
-            words: vec![0x1000_0001],
+            words: vec![0x1000_0000 | self.edition],
             kinds: Vec::new(),
         };
-        out.block(0x2000_0000, self.beam);
+        out.block(0x2000_0000, &self.beam);
         for face in &self.surfaces {
-            out.block(0x3000_0000 | face.payload, face.numbers);
+            out.block(0x3000_0000 | face.payload, &face.numbers);
             for layer in &face.layers {
-                out.block(0x4000_0000, *layer);
+                let kind = if layer.len() == 3 { 4 } else { 6 };
+                out.block(kind << 28, layer);
             }
         }
         out.words.push(0x5000_0000 | self.surfaces.len() as u32);
@@ -70,6 +82,7 @@ impl Plan {
 /// 01's example.
 pub fn example() -> Plan {
     Plan {
+        edition: 1,
         beam: [500.0, 0.5, 0.5],
         surfaces: vec![Face {
             payload: 0,
@@ -84,9 +97,10 @@ pub fn varied() -> Plan {
     let face = |payload, numbers, layers: &[[f64; 3]]| Face {
         payload,
         numbers,
-        layers: layers.to_vec(),
+        layers: plain(layers),
     };
     Plan {
+        edition: 1,
         beam: [550.0, 0.75, 0.5],
         surfaces: vec![
             face(10, [1.0, 1.5, 0.5], &[[1.38, 0.0, 100.0], [2.3, 0.0, 60.0]]),
@@ -96,18 +110,51 @@ pub fn varied() -> Plan {
     }
 }
 
-/// The largest sheet, 30,500 bytes: 64 surfaces with 16 layers each.
+/// The same in edition 2 with a kind 6 in place of two of its LAYERs.
+pub fn mixed() -> Plan {
+    let mut plan = varied();
+    plan.edition = 2;
+    plan.surfaces[0].layers[1] = vec![2.2, 0.03, 0.001, 60.0];
+    plan.surfaces[2].layers[0] = vec![1.45, 0.0035, 0.0, 0.0];
+    plan
+}
+
+/// The largest sheet of edition 1, 30,500 bytes: 64 surfaces with 16 LAYERs each.
 pub fn largest() -> Plan {
     even(64, 16)
+}
+
+/// The largest sheet of edition 2, 38,692 bytes: the same with kinds 6.
+pub fn largest_of_two() -> Plan {
+    glasses(64, 16)
+}
+
+/// So many surfaces with so many kinds 6 each.
+pub fn glasses(surfaces: usize, layers: usize) -> Plan {
+    let mut plan = even(surfaces, layers);
+    let mut rng = Rng::new(38_692);
+    plan.edition = 2;
+    for layer in plan.surfaces.iter_mut().flat_map(|face| &mut face.layers) {
+        // No smaller than it was, so that the light is bent no further.
+        let least = layer[0];
+        while layer.len() == 3 || !(least..=4.0).contains(&index_at(layer, plan.beam[0])) {
+            *layer = dispersed(
+                &mut rng,
+                &[least, 0.0, layer[layer.len() - 1]],
+                plan.beam[0],
+            );
+        }
+    }
+    plan
 }
 
 /// So many surfaces with so many layers each; without layers they are bare.
 pub fn even(surfaces: usize, layers: usize) -> Plan {
     let mut rng = Rng::new(30_500);
-    let mut plan = random_plan(&mut rng, 0, 0);
+    let mut plan = random_plan(&mut rng, 1, 0, 0);
     let payload = if layers == 0 { 0 } else { 10 };
     for _ in 0..surfaces {
-        let face = valid_face(&mut rng, payload, layers);
+        let face = valid_face(&mut rng, plan.edition, plan.beam[0], payload, layers);
         plan.surfaces.push(face);
     }
     plan
@@ -120,7 +167,7 @@ fn index(rng: &mut Rng) -> f64 {
     }
 }
 
-fn layer(rng: &mut Rng) -> [f64; 3] {
+fn layer(rng: &mut Rng) -> Vec<f64> {
     let n = index(rng);
     let k = rng.pick(&[0.0, 0.0, 0.0, -0.0]);
     let thickness = match rng.below(6) {
@@ -130,11 +177,34 @@ fn layer(rng: &mut Rng) -> [f64; 3] {
         3 => rng.log(-1074, 10),
         _ => rng.uniform(0.0, 500.0),
     };
-    [n, k, thickness]
+    vec![n, k, thickness]
 }
 
-/// A surface that passes the gate.
-fn valid_face(rng: &mut Rng, payload: u32, layers: usize) -> Face {
+/// A kind 6 that has about a LAYER's index at a wavelength, and its thickness.
+fn dispersed(rng: &mut Rng, layer: &[f64], wavelength: f64) -> Vec<f64> {
+    let square = (wavelength / 1000.0) * (wavelength / 1000.0);
+    let part = |rng: &mut Rng| match rng.below(4) {
+        0 => rng.pick(&[0.0, -0.0, f64::from_bits(1), 0.5]),
+        1 => rng.log(-60, 0),
+        _ => rng.uniform(0.0, 0.3),
+    };
+    let b = part(rng) * square;
+    let c = part(rng) * square * square;
+    let (b, c) = (rng.signed(b), rng.signed(c));
+    let a = layer[0] - (b + c / square) / square;
+    vec![a, b, c, layer[2]]
+}
+
+/// The index of a layer as it is written, at a wavelength.
+fn index_at(layer: &[f64], wavelength: f64) -> f64 {
+    match layer {
+        [a, b, c, thickness] => Layer::Cauchy([*a, *b, *c], *thickness).film(wavelength).n,
+        _ => layer[0],
+    }
+}
+
+/// A surface that passes the gate at a wavelength.
+fn valid_face(rng: &mut Rng, edition: u32, wavelength: f64, payload: u32, layers: usize) -> Face {
     let code = payload / 2;
     loop {
         let mut face = Face {
@@ -145,12 +215,17 @@ fn valid_face(rng: &mut Rng, payload: u32, layers: usize) -> Face {
         if code == 5 {
             face.layers.extend((0..layers).map(|_| layer(rng)));
         }
+        for layer in &mut face.layers {
+            if edition == 2 && rng.one_in(2) {
+                *layer = dispersed(rng, layer, wavelength);
+            }
+        }
         let preset = match code {
             2 => 1.38,
             3 | 4 => 1.46,
             _ => 4.0,
         };
-        let thinnest = face.layers.iter().map(|layer| layer[0]);
+        let thinnest = face.layers.iter().map(|layer| index_at(layer, wavelength));
         let least = thinnest.fold(face.numbers[1].min(preset), f64::min);
         let steepest = (0.875 * least / face.numbers[0]).min(0.968).asin();
         let share = rng.pick(&[0.0, 0.5, 0.9, 1.0]);
@@ -161,7 +236,8 @@ fn valid_face(rng: &mut Rng, payload: u32, layers: usize) -> Face {
             face.numbers[2] += turns as f64 * T;
         }
         let alone = Plan {
-            beam: [550.0, 1.0, 1.0],
+            edition,
+            beam: [wavelength, 1.0, 1.0],
             surfaces: vec![face.clone()],
         };
         if gate(&alone.bytes()).is_ok() {
@@ -170,8 +246,8 @@ fn valid_face(rng: &mut Rng, payload: u32, layers: usize) -> Face {
     }
 }
 
-/// A sheet that passes the gate, with so many surfaces and at most so many layers each.
-pub fn random_plan(rng: &mut Rng, surfaces: usize, layers: usize) -> Plan {
+/// A sheet of an edition that passes the gate, with so many surfaces and at most so many layers each.
+pub fn random_plan(rng: &mut Rng, edition: u32, surfaces: usize, layers: usize) -> Plan {
     let power = |rng: &mut Rng| match rng.below(4) {
         0 => rng.pick(&[0.0, -0.0, 1.0, 0.5, f64::from_bits(1)]),
         _ => rng.unit(),
@@ -190,30 +266,32 @@ pub fn random_plan(rng: &mut Rng, surfaces: usize, layers: usize) -> Plan {
             rng.below(16)
         };
         let count = rng.below(layers + 1);
-        list.push(valid_face(rng, payload as u32, count));
+        list.push(valid_face(rng, edition, wavelength, payload as u32, count));
     }
     Plan {
+        edition,
         beam,
         surfaces: list,
     }
 }
 
-/// A sheet that passes the gate: most are short, a few as long as they may be.
+/// A sheet of either edition that passes the gate: most are short, a few as long as they may be.
 pub fn valid(rng: &mut Rng) -> Plan {
+    let edition = 1 + rng.below(2) as u32;
     let layers = rng.pick(&[0, 2, 3, 3, 5, 8, 16]);
     match rng.below(60) {
-        0 => random_plan(rng, 64, 16),
+        0 => random_plan(rng, edition, 64, 16),
         1 | 2 => {
             let surfaces = rng.below(65);
-            random_plan(rng, surfaces, 3)
+            random_plan(rng, edition, surfaces, 3)
         }
         3..=12 => {
             let surfaces = rng.below(12);
-            random_plan(rng, surfaces, layers)
+            random_plan(rng, edition, surfaces, layers)
         }
         _ => {
             let surfaces = rng.below(4);
-            random_plan(rng, surfaces, layers)
+            random_plan(rng, edition, surfaces, layers)
         }
     }
 }
@@ -221,7 +299,7 @@ pub fn valid(rng: &mut Rng) -> Plan {
 /// Kind words, right and wrong.
 fn kind_word(rng: &mut Rng) -> u32 {
     let payload = rng.pick(&[0, 1, 2, 3, 10, 11, 15, 16, 17, 64, 0x0100_000A, 0x0FFF_FFFF]);
-    let kind = rng.pick(&[0, 1, 2, 3, 3, 4, 4, 5, 5, 6, 7, 15]);
+    let kind = rng.pick(&[0, 1, 2, 3, 3, 4, 4, 5, 5, 6, 6, 7, 15]);
     kind << 28 | payload
 }
 
@@ -231,7 +309,7 @@ pub fn damaged(rng: &mut Rng) -> Vec<u8> {
     let mut out = plan.write();
     let count = out.words.len();
     let at = rng.below(count);
-    match rng.below(14) {
+    match rng.below(16) {
         0 => {
             let mut bytes = out.bytes();
             bytes.truncate(rng.below(count * 4));
@@ -254,12 +332,14 @@ pub fn damaged(rng: &mut Rng) -> Vec<u8> {
         10 => {
             let block = rng.pick(&out.kinds);
             let into = rng.pick(&out.kinds);
-            let copy = out.words[block..block + 7].to_vec();
+            let end = block + 1 + 2 * out.floats(block);
+            let copy = out.words[block..end].to_vec();
             out.words.splice(into..into, copy);
         }
+        11 => out.words[0] = 0x1000_0000 | rng.below(4) as u32,
         _ => {
             let kind = rng.pick(&out.kinds);
-            let field = kind + 1 + 2 * rng.below(3);
+            let field = kind + 1 + 2 * rng.below(out.floats(kind));
             let x = match rng.below(3) {
                 0 => rng.pick(&CORE),
                 1 => neighbour(rng.pick(&LIMITS[..8]), rng.below(3) as i64 - 1),

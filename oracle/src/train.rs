@@ -38,14 +38,8 @@ pub struct Answers {
     pub mueller: [MuellerMatrix; 2],
 }
 
-fn coating(surface: &Surface) -> Option<SurfaceCoating> {
-    let layers = || {
-        surface
-            .layers
-            .iter()
-            .map(|(_, film)| film.clone())
-            .collect()
-    };
+fn coating(surface: &Surface, wavelength: f64) -> Option<SurfaceCoating> {
+    let layers = || surface.films(wavelength);
     Some(match surface.coating {
         0 => return None,
         1 => SurfaceCoating::IdealAr,
@@ -64,7 +58,7 @@ fn coating(surface: &Surface) -> Option<SurfaceCoating> {
 /// The answers of a surface of an admitted sheet: the Rust refuses none of these.
 fn light(surface: &Surface, wavelength: f64) -> Light {
     let (n_incident, n_substrate, angle) = (surface.n_incident, surface.n_substrate, surface.angle);
-    match coating(surface) {
+    match coating(surface, wavelength) {
         None => {
             let (rs, rp) = fresnel_dielectric(cos(angle), n_incident, n_substrate);
             Light::Bare(Powers {

@@ -14,7 +14,7 @@ fn agrees(f: usize, a: &[u8], want: &[u8], first: bool) -> bool {
 
 // The same of a record's words, all of which were read.
 fn body_agrees(h: Header, body: &[u8], first: bool) -> bool {
-    if h.args > 4096 {
+    if h.args > 5120 {
         return false;
     }
     if h.results > 256 {
@@ -30,7 +30,7 @@ fn body_agrees(h: Header, body: &[u8], first: bool) -> bool {
 
 // Reads a record's words; whether they were all there.
 fn read_body(h: Header, body: &mut [u8]) -> bool {
-    if h.args > 4096 {
+    if h.args > 5120 {
         return false;
     }
     if h.results > 256 {
@@ -44,7 +44,7 @@ fn read_body(h: Header, body: &mut [u8]) -> bool {
 }
 
 // One record: whether there was one.
-fn replay(all: &mut [u32; 256], agreed: &mut [u32; 256], body: &mut [u8; 34816]) -> bool {
+fn replay(all: &mut [u32; 256], agreed: &mut [u32; 256], body: &mut [u8; 43008]) -> bool {
     let mut header = [0u8; 8];
     if io::read_full(0, &mut header) != 8 {
         return false;
@@ -65,7 +65,7 @@ fn replay(all: &mut [u32; 256], agreed: &mut [u32; 256], body: &mut [u8; 34816])
 fn main() {
     let mut all = [0u32; 256];
     let mut agreed = [0u32; 256];
-    let mut body = [0u8; 34816];
+    let mut body = [0u8; 43008];
     for _ in 0..0xffff_ffffu32 {
         if !replay(&mut all, &mut agreed, &mut body) {
             break;

@@ -6,7 +6,7 @@ use crate::functions::Function;
 use crate::record::Words;
 use crate::sheet::{gate, Refusal};
 use crate::sheet_cases::cases;
-use crate::sheets::{largest, sheet, valid, varied};
+use crate::sheets::{largest, largest_of_two, mixed, sheet, valid, varied};
 use crate::train::{answers, run, start, step, steps, Light, State};
 use crate::values::{any, Rng};
 
@@ -222,11 +222,12 @@ pub fn sheet_cases() -> Vec<Vec<u64>> {
     byte_cases(&cases())
 }
 
-/// One fixed sheet of eight, and the longest one.
+/// One fixed sheet of eight, and the longest one of either edition.
 fn few_cases() -> Vec<Vec<u8>> {
     let mut list: Vec<Vec<u8>> = cases().into_iter().step_by(8).collect();
     list.retain(|bytes| bytes.len() < 2000);
     list.push(largest().bytes());
+    list.push(largest_of_two().bytes());
     list
 }
 
@@ -245,7 +246,7 @@ pub fn step_cases() -> Vec<Vec<u64>> {
     // Each surface of a sheet, and steps past its end.
     for done in [0, 1, 2, 3, 4, 64, u64::from(u32::MAX)] {
         let mut words = vec![done, 0.5_f64.to_bits(), 1.0_f64.to_bits()];
-        push(&varied().bytes(), &mut words);
+        push(&mixed().bytes(), &mut words);
         list.push(words);
     }
     list
@@ -261,7 +262,7 @@ pub fn run_cases() -> Vec<Vec<u64>> {
     }
     for room in 0..=8 {
         let mut words = vec![room];
-        push(&varied().bytes(), &mut words);
+        push(&mixed().bytes(), &mut words);
         list.push(words);
     }
     list
@@ -269,15 +270,20 @@ pub fn run_cases() -> Vec<Vec<u64>> {
 
 pub fn answers_cases() -> Vec<Vec<u64>> {
     let mut list = Vec::new();
-    let varied = varied().bytes();
+    let (varied, mixed) = (varied().bytes(), mixed().bytes());
     for (number, bytes) in [
         (0, &varied),
         (1, &varied),
         (2, &varied),
         (3, &varied),
         (u64::from(u32::MAX), &varied),
+        (0, &mixed),
+        (1, &mixed),
+        (2, &mixed),
+        (3, &mixed),
         (63, &largest().bytes()),
         (64, &largest().bytes()),
+        (63, &largest_of_two().bytes()),
     ] {
         let mut words = vec![number];
         push(bytes, &mut words);
@@ -290,7 +296,7 @@ pub fn steps_cases() -> Vec<Vec<u64>> {
     let mut list = Vec::new();
     for count in 0..=6 {
         let mut words = vec![count];
-        push(&varied().bytes(), &mut words);
+        push(&mixed().bytes(), &mut words);
         list.push(words);
     }
     for count in [63, 64, 65] {

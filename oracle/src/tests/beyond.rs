@@ -5,7 +5,7 @@ use crate::reference::thin_film::{
     evaluate_tmm_multilayer, CoatingResponse, SurfaceCoating, ThinFilmLayer,
 };
 use crate::section2::{cos, PI};
-use crate::sheet::{limits, Refusal, Sheet, Surface};
+use crate::sheet::{limits, Layer, Refusal, Sheet, Surface};
 use crate::train::answers;
 
 fn sheet(wavelength: f64, ends: [f64; 3], layers: &[[f64; 3]]) -> Sheet {
@@ -26,18 +26,17 @@ fn sheet(wavelength: f64, ends: [f64; 3], layers: &[[f64; 3]]) -> Sheet {
             n_incident,
             n_substrate,
             angle,
-            layers: layers.iter().map(|layer| (15, film(layer))).collect(),
+            layers: layers
+                .iter()
+                .map(|layer| (15, Layer::Fixed(film(layer))))
+                .collect(),
         }],
     }
 }
 
 fn solve(wavelength: f64, ends: [f64; 3], layers: &[[f64; 3]]) -> CoatingResponse {
     let sheet = sheet(wavelength, ends, layers);
-    let films: Vec<ThinFilmLayer> = sheet.surfaces[0]
-        .layers
-        .iter()
-        .map(|(_, layer)| layer.clone())
-        .collect();
+    let films = sheet.surfaces[0].films(wavelength);
     evaluate_tmm_multilayer(ends[0], ends[1], ends[2], wavelength, &films).expect("solved")
 }
 

@@ -22,7 +22,7 @@ fn surfaces_of_every_kind_are_admitted() {
         let order = surface.n_incident.total_cmp(&surface.n_substrate);
         orders[(order as i8 + 1) as usize] += 1;
         large += usize::from(surface.angle.abs() > 1e100);
-        for (_, layer) in &surface.layers {
+        for layer in surface.films(sheet.wavelength) {
             zeros[usize::from(layer.k.is_sign_negative())] += 1;
         }
     }

@@ -1,9 +1,9 @@
 // 01's example and edges, each limit of the gate, and the train over random sheets.
 
 use crate::examples::examples;
-use crate::sheet::{gate, Refusal};
+use crate::sheet::{gate, Layer, Refusal};
 use crate::sheet_cases::{cases, limits};
-use crate::sheets::{damaged, example, largest, sheet, valid, varied};
+use crate::sheets::{damaged, example, largest, largest_of_two, mixed, sheet, valid, varied};
 use crate::train::{program, run, start, step, steps, State};
 use crate::values::Rng;
 
@@ -45,7 +45,7 @@ fn edges() {
     let with_layers = |count: usize| {
         let mut plan = example();
         plan.surfaces[0].payload = 10;
-        plan.surfaces[0].layers = vec![[1.5, 0.0, 10.0]; count];
+        plan.surfaces[0].layers = vec![vec![1.5, 0.0, 10.0]; count];
         refused(&plan.bytes())
     };
     assert_eq!(with_layers(16), (0, 1));
@@ -73,6 +73,81 @@ fn lengths() {
     assert_eq!(refused(&whole[..37]), (4, 0));
 }
 
+/// Every length about the two limits, under first words that are OPEN of an edition or not.
+#[test]
+fn lengths_by_the_first_word() {
+    let whole = largest_of_two().bytes();
+    assert_eq!(whole.len(), 38_692);
+    assert_eq!(refused(&whole), (0, 64));
+    for first in [0x1000_0001, 0x1000_0002, 0x1000_0003, 0x2000_0002, 2, 0] {
+        let most = if first == 0x1000_0002_u32 {
+            38_692
+        } else {
+            30_500
+        };
+        for length in (30_490..=30_510).chain(38_680..=38_700) {
+            let mut bytes = whole.clone();
+            bytes.resize(length, 0);
+            bytes[..4].copy_from_slice(&first.to_be_bytes());
+            let four = length % 4 != 0 || length > most;
+            assert_eq!(refused(&bytes) == (4, 0), four, "{first:x} {length}");
+        }
+    }
+}
+
+/// Slip 3's grammar and gate.
+#[test]
+fn kind_6() {
+    let plan = mixed();
+    assert_eq!(refused(&plan.bytes()), (0, 3));
+    for (edition, told) in [(0, (5, 0)), (1, (5, 22)), (3, (5, 0))] {
+        let mut plan = plan.clone();
+        plan.edition = edition;
+        assert_eq!(refused(&plan.bytes()), told);
+    }
+    // Its raw words past the end; a payload; a bare surface before it.
+    let words = plan.write().words;
+    assert_eq!(refused(&bytes(&words[..30])), (5, 22));
+    assert_eq!(refused(&bytes(&words[..31])), (5, 31));
+    let changed = |place: usize, word: u32| {
+        let mut words = words.clone();
+        words[place] = word;
+        refused(&bytes(&words))
+    };
+    assert_eq!(changed(22, 0x6000_0001), (5, 22));
+    assert_eq!(changed(8, 0x3000_0000), (5, 15));
+    // 17 layers of either kind.
+    let with_layers = |count: usize, every: usize| {
+        let mut plan = plan.clone();
+        let layers = &mut plan.surfaces[0].layers;
+        *layers = vec![vec![1.5, 0.0, 10.0]; count];
+        for layer in layers.iter_mut().step_by(every) {
+            *layer = vec![1.5, 0.01, 0.0, 10.0];
+        }
+        refused(&plan.bytes())
+    };
+    assert_eq!(with_layers(16, 1), (0, 3));
+    assert_eq!(with_layers(16, 2), (0, 3));
+    assert_eq!(with_layers(17, 1), (5, 8 + 7 + 16 * 9));
+    assert_eq!(with_layers(17, 2), (5, 8 + 7 + 8 * 9 + 8 * 7));
+    // 6 at its own word.
+    for field in 0..4 {
+        for x in [f64::NAN, f64::INFINITY, -1e9] {
+            let mut plan = plan.clone();
+            plan.surfaces[0].layers[1][field] = x;
+            assert_eq!(refused(&plan.bytes()), (6, 22));
+        }
+    }
+}
+
+/// Its index, by hand: at 500 nm u2 is 0.25, so that A + (B + C/u2)/u2 is A + 4·B + 16·C.
+#[test]
+fn the_index_of_a_kind_6() {
+    let film = Layer::Cauchy([1.5, 0.0625, 0.015625], 80.0).film(500.0);
+    assert_eq!((film.n, film.thickness_nm), (2.0, 80.0));
+    assert_eq!(film.k.to_bits(), 0);
+}
+
 #[test]
 fn grammar() {
     let changed = |place: usize, word: u32| {
@@ -81,9 +156,10 @@ fn grammar() {
         refused(&bytes(&words))
     };
     // OPEN and BEAM.
-    for word in [0, 0x1000_0000, 0x1000_0002, 0x2000_0001] {
+    for word in [0, 0x1000_0000, 0x1000_0003, 0x2000_0001, 0x2000_0002] {
         assert_eq!(changed(0, word), (5, 0));
     }
+    assert_eq!(changed(0, 0x1000_0002), (0, 1));
     for word in [0, 0x2000_0001, 0x3000_0000, 0x5000_0000] {
         assert_eq!(changed(1, word), (5, 1));
     }
@@ -209,7 +285,7 @@ fn the_examples_have_their_refusals() {
     }
     names.sort();
     names.dedup();
-    assert_eq!(names.len(), 54);
+    assert_eq!(names.len(), 67);
 }
 
 #[test]
