@@ -65,7 +65,7 @@ fn cauchy_passes(wavelength_nm: f64, snell: f64, glass: Cauchy) -> bool
 fn judge(src: &[u8], at: usize, wavelength_nm: f64, snell: f64) -> Judgement
     ensures { λ r. ⌜ r ≡ judgement-at (now (src .entry)) at «wavelength_nm» snell ⌝ }
 {
-    let kind = sheet::word_from(src, at) / 0x1000_0000;
+    let kind = sheet::kind_at(src, at);
     if kind == 2 {
         let beam = sheet_values::beam_at(src, at);
         return Judgement {

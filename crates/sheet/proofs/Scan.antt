@@ -10,14 +10,14 @@ use native.Mathlib.Omega.{arith}
 use lib.Dec.{eqb, leb}
 use lib.ListN.{length, getD, take, drop, length-drop, drop-of-length-le}
 use lib.Seq.{drop-cons, drop-drop}
-use borrow.Author.Tests.{le-leb, lt-leb, eqb-true, ne-eqb, not-true, not-false}
+use borrow.Author.Tests.{lt-ltb, le-leb, lt-leb, eqb-true, ne-eqb, not-true, not-false}
 use Rattle.refusal.specs.Outcome.{Outcome, answer, refusal, map}
 use Rattle.sheet.specs.Words.{word, count, kind, words-of}
 use Rattle.sheet.specs.Blocks.{Block, Grammar, Result, read, fault, mapped, blocks-from}
 use Rattle.sheet.specs.Sheet.{kind-word}
 use Rattle.sheet.specs.Read.{Standing, at-open, at-beam, among, ended, layer-kind, may, after, may-end, raws, sheet-grammar, Rest, put, gathered, sheet-of, decode, graded, surfaces-of, grammar}
 use Rattle.sheet.proofs.Measure.{words-of-length, words-of-at}
-use Rattle.sheet.specs.Internal.{counted}
+use Rattle.sheet.specs.Internal.{counted, next-place}
 use Rattle.sheet.proofs.KindWords.{either, Comes, comes-surface, comes-layer, comes-cauchy, comes-end, comes, after-surface, after-layer, after-end}
 
 -- ---- SURFACEs among blocks
@@ -118,12 +118,22 @@ module _ (src : List ℕ) (s : Standing) (at n : ℕ) (o : Outcome ℕ) (inv : g
     pub stop-kind : not r ≡ true → refusal 5 at ≡ o
     stop-kind e = sym (ap (λ (r : Result ℕ). graded (tally n r)) (not-here src s at w lt is (sym can ∙ not-true r e))) ∙ inv
 
-    module _ (e : not r ≡ false) (k : ℕ) (size : k ≡ raws w) where
-      pub stop-raw : count src - at ≤ k → refusal 5 at ≡ o
-      stop-raw le = sym (ap (λ (r : Result ℕ). graded (tally n r)) (past-end src s at w lt is (sym can ∙ not-false r e) (omega arith))) ∙ inv
+    module _ (e : not r ≡ false) (next : ℕ) (next-is : next ≡ next-place src at) where
+      size : next ≡ at + (raws w + 1)
+      unfolding next-place
+      size = next-is ∙ rw (lt-ltb at (count src) lt, ← is) (one at (raws w))
+        where
+          one : (a b : ℕ) → a + suc b ≡ a + (b + 1)
+          one a b = omega arith
 
-      pub go-on : k < count src - at → (t : Standing) → t ≡ after s w → (n′ : ℕ) → n′ ≡ counted w n → graded (tally n′ (left src t (at + (k + 1)))) ≡ o
-      go-on lt′ t q n′ c = rw (q, size, c) (sym (ap graded (onward src s at w lt is n (sym can ∙ not-false r e) (omega arith))) ∙ inv)
+      pub stop-raw : count src < next → refusal 5 at ≡ o
+      stop-raw h = sym (ap (λ (r : Result ℕ). graded (tally n r)) (past-end src s at w lt is (sym can ∙ not-false r e) (omega (arith, size)))) ∙ inv
+
+      pub nearer : next ≤ count src → at < next
+      nearer h = omega (arith, size)
+
+      pub go-on : next ≤ count src → (t : Standing) → t ≡ after s w → (n′ : ℕ) → n′ ≡ counted w n → graded (tally n′ (left src t next)) ≡ o
+      go-on h t q n′ c = rw (q, size, c) (sym (ap graded (onward src s at w lt is n (sym can ∙ not-false r e) (omega (arith, size)))) ∙ inv)
 
   module _ (le : count src ≤ at) (r : Bool) (ends : r ≡ may-end s) where
     pub end-whole : r ≡ true → answer n ≡ o

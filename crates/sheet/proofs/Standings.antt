@@ -15,20 +15,12 @@ use Rattle.sheet.specs.Internal.{standing-of, next-place, layer-follows,
 use Rattle.sheet.specs.declared.Standing.{Standing}
 use Rattle.sheet.specs.declared.Standing.the-variants as S
 
--- ---- raw words
-pub raws-at : (w k : ℕ) → kind w ≡ k → 2 * floats-after k ≡ raws w
-unfolding raws
-raws-at w k e = ap (λ (n : ℕ). 2 * floats-after n) (sym e)
-
-pub raws-none : (w : ℕ) → (kind w ≡ 2 → ⊥) → (kind w ≡ 3 → ⊥) → (kind w ≡ 4 → ⊥) → (kind w ≡ 6 → ⊥) → 0 ≡ raws w
-unfolding raws floats-after
-raws-none w a b c d = simp (ne-eqb (kind w) 2 a, ne-eqb (kind w) 3 b, ne-eqb (kind w) 4 c, ne-eqb (kind w) 6 d)
-
-pub raws-few : (w : ℕ) → raws w ≤ 8
-unfolding raws floats-after
-raws-few w = by (eqb (kind w) 2 || (eqb (kind w) 3 || eqb (kind w) 4)) (eqb (kind w) 6)
+-- ---- floats
+pub floats-few : (k : ℕ) → floats-after k ≤ 4
+unfolding floats-after
+floats-few k = by (eqb k 2 || (eqb k 3 || eqb k 4)) (eqb k 6)
   where
-    by : (t u : Bool) → 2 * cond t 3 (cond u 4 0) ≤ 8
+    by : (t u : Bool) → cond t 3 (cond u 4 0) ≤ 4
     by true u = omega arith
     by false true = omega arith
     by false false = omega arith

@@ -1,9 +1,9 @@
 // Sheets of document 01, section 1, and of document 02, slip 3: the reader of their words, and the grammar.
 ghost use mathlib.Core.Path.{_≡_};
 ghost use mathlib.Core.Bool.{true};
-ghost use Prim.Native.Nat.{_<_};
+ghost use Prim.Native.Nat.{_/_, _<_};
 ghost use lib.Ieee.{binary64, ofBits};
-ghost use Rattle.sheet.specs.Words.{big-endian, word as wordOf, float};
+ghost use Rattle.sheet.specs.Words.{big-endian, word as wordOf, kind, float};
 ghost use Rattle.sheet.specs.Read as Read;
 ghost use Rattle.sheet.specs.Read.{outcome, grammar};
 ghost use Rattle.sheet.specs.Internal.{standing-of, counted, next-place, place-on, layer-run, place};
@@ -35,35 +35,56 @@ fn word_at(src: &[u8], at: usize) -> u32
     }
 }
 
-// How many raw words follow a kind word.
-fn raws(w: u32) -> usize
-    ensures { λ r. ⌜ r ≡ Read.raws w ⌝ }
+// The top four bits of a byte.
+fn high_half(b: u8) -> u32
+    ensures { λ r. ⌜ r ≡ b / 16 ⌝ }
 {
-    let k = w / 0x1000_0000;
-    if k == 2 {
-        return 6;
+    b as u32 / 16
+}
+
+// The kind of the word at a place, which stands in its first byte; past the last word it is 0.
+pub fn kind_at(src: &[u8], at: usize) -> u32
+    ensures { λ r. ⌜ r ≡ kind (wordOf (now (src .entry)) at) ⌝ }
+{
+    if at < src.len() / 4 {
+        high_half(src[4 * at])
+    } else {
+        0
     }
-    if k == 3 {
-        return 6;
+}
+
+// How many floats follow a kind word.
+fn floats_after(kind: u32) -> usize
+    ensures { λ r. ⌜ r ≡ Read.floats-after kind ⌝ }
+{
+    if kind == 2 {
+        return 3;
     }
-    if k == 4 {
-        return 6;
+    if kind == 3 {
+        return 3;
     }
-    if k == 6 {
-        return 8;
+    if kind == 4 {
+        return 3;
+    }
+    if kind == 6 {
+        return 4;
     }
     0
 }
 
-// The place after the block at a place; past the last word the place itself.
+// The place after the block at a place, two raw words to a float; past the last word the place itself.
 pub fn next_place(src: &[u8], at: usize) -> usize
     ensures { λ r. ⌜ r ≡ next-place (now (src .entry)) at ⌝ }
 {
-    if at < src.len() / 4 {
-        at + raws(word_at(src, at)) + 1
-    } else {
-        at
+    if at >= src.len() / 4 {
+        return at;
     }
+    let kind = kind_at(src, at);
+    // Most blocks are LAYERs, and what is foreseen is not waited for.
+    if kind == 4 {
+        return at + 7;
+    }
+    at + 2 * floats_after(kind) + 1
 }
 
 // A reader at a word.
@@ -263,13 +284,13 @@ pub fn grammar(src: &[u8]) -> Verdict
         if !may(s, w) {
             return Verdict::Fault(at);
         }
-        let n = raws(w);
-        if total - at <= n {
+        let next = next_place(src, at);
+        if total < next {
             return Verdict::Fault(at);
         }
         count = counted(w, count);
         s = after(s, w);
-        at += n + 1;
+        at = next;
     }
     if has_ended(s) {
         Verdict::Whole(count)

@@ -134,7 +134,7 @@ pub fn cauchy_film(wavelength_nm: f64, glass: Cauchy) -> ThinFilmLayer
 pub fn layer_at(src: &[u8], at: usize, wavelength_nm: f64) -> ThinFilmLayer
     ensures { λ r. ⌜ r ≡ film «wavelength_nm» (layer-at (now (src .entry)) at) ⌝ }
 {
-    if sheet::word_from(src, at) / 0x1000_0000 == 6 {
+    if sheet::kind_at(src, at) == 6 {
         return cauchy_film(wavelength_nm, cauchy_at(src, at));
     }
     plain_at(src, at)

@@ -9,7 +9,7 @@ use borrow.Author.Tests.{not-true, not-false}
 use Rattle.sheet.specs.Words.{count}
 use Rattle.sheet.specs.Read.{Standing, may, after, graded, grammar}
 use Rattle.sheet.specs.Internal.{standing-of, counted}
-use Rattle.sheet.proofs.Scan.{left, tally, whole, stop-kind, stop-raw, go-on, end-whole, end-missing, Counts, counts-few, counts-on}
+use Rattle.sheet.proofs.Scan.{left, tally, whole, stop-kind, stop-raw, nearer, go-on, end-whole, end-missing, Counts, counts-few, counts-on}
 use Rattle.sheet.proofs.grammar.Statement.{statement}
 use Rattle.sheet.proofs.grammar.Tie as tie
 
@@ -28,11 +28,8 @@ counts-again s t w n n′ r c m e q k = rw (q, k) (counts-on w n s c (sym m ∙ 
 returns : tie.Need-returns Inv-loop μ-loop
 returns c = stop-kind _ _ _ _ _ (c .before .before .before .before .loop .inv .1 .1) _ (c .before .before .before .loop-test .taken) (c .before .before .word-from .ensures) _ (c .before .may .ensures) (c .if1 .taken)
 
-sub-if2 : tie.Need-sub-if2 Inv-loop μ-loop
-sub-if2 c = c .before .before .before .before .before .loop .inv .0
-
 returns-2 : tie.Need-returns-2 Inv-loop μ-loop
-returns-2 c = stop-raw _ _ _ _ _ (c .before .before .before .before .before .before .loop .inv .1 .1) _ (c .before .before .before .before .before .loop-test .taken) (c .before .before .before .before .word-from .ensures) _ (c .before .before .before .may .ensures) (c .before .before .if1 .left) _ (c .before .raws .ensures) (c .if2 .taken)
+returns-2 c = stop-raw _ _ _ _ _ (c .before .before .before .before .before .before .loop .inv .1 .1) _ (c .before .before .before .before .before .loop-test .taken) (c .before .before .before .before .word-from .ensures) _ (c .before .before .before .may .ensures) (c .before .before .if1 .left) _ (c .before .next-place .ensures) (c .if2 .taken)
 
 counted-requires : tie.Need-counted-requires Inv-loop μ-loop
 counted-requires c κs = few (standing-of (c .before .before .before .before .before .before .loop .s)) _ (c .before .before .before .before .before .before .loop .inv .1 .0)
@@ -40,21 +37,17 @@ counted-requires c κs = few (standing-of (c .before .before .before .before .be
 after-requires : tie.Need-after-requires Inv-loop μ-loop
 after-requires c κs = sym (c .before .before .before .before .may .ensures) ∙ not-false _ (c .before .before .before .if1 .left)
 
-add-at : tie.Need-add-at Inv-loop μ-loop
-add-at c = omega (arith, c .before .before .if2 .left, c .before .before .before .before .before .before .before .loop-test .taken)
-
-add-at-2 : tie.Need-add-at-2 Inv-loop μ-loop
-add-at-2 c = omega (arith, c .before .before .if2 .left, c .before .before .before .before .before .before .before .loop-test .taken)
-
 loop-less : tie.Need-loop-less Inv-loop μ-loop
-loop-less c = omega (arith, c .before .before .if2 .left, c .before .before .before .before .before .before .before .loop-test .taken)
+loop-less c =
+    let h = nearer _ _ _ _ _ (c .before .before .before .before .before .before .before .before .loop .inv .1 .1) _ (c .before .before .before .before .before .before .before .loop-test .taken) (c .before .before .before .before .before .before .word-from .ensures) _ (c .before .before .before .before .before .may .ensures) (c .before .before .before .before .if1 .left) _ (c .before .before .before .next-place .ensures) (c .before .before .if2 .left) in
+    omega (arith, h, c .before .before .if2 .left, c .before .before .before .before .before .before .before .loop-test .taken)
 
 loop-again : tie.Need-loop-again Inv-loop μ-loop
 loop-again c = (
-  omega (arith, c .before .before .if2 .left, c .before .before .before .before .before .before .before .loop-test .taken),
+  c .before .before .if2 .left,
   (
     counts-again (standing-of (c .before .before .before .before .before .before .before .before .loop .s)) _ _ _ _ _ (c .before .before .before .before .before .before .before .before .loop .inv .1 .0) (c .before .before .before .before .before .may .ensures) (c .before .before .before .before .if1 .left) (c .after .ensures) (c .before .counted .ensures),
-    go-on _ _ _ _ _ (c .before .before .before .before .before .before .before .before .loop .inv .1 .1) _ (c .before .before .before .before .before .before .before .loop-test .taken) (c .before .before .before .before .before .before .word-from .ensures) _ (c .before .before .before .before .before .may .ensures) (c .before .before .before .before .if1 .left) _ (c .before .before .before .raws .ensures) (c .before .before .if2 .left) _ (c .after .ensures) _ (c .before .counted .ensures),
+    go-on _ _ _ _ _ (c .before .before .before .before .before .before .before .before .loop .inv .1 .1) _ (c .before .before .before .before .before .before .before .loop-test .taken) (c .before .before .before .before .before .before .word-from .ensures) _ (c .before .before .before .before .before .may .ensures) (c .before .before .before .before .if1 .left) _ (c .before .before .before .next-place .ensures) (c .before .before .if2 .left) _ (c .after .ensures) _ (c .before .counted .ensures),
   ),
 )
 
@@ -65,4 +58,4 @@ returns-4 : tie.Need-returns-4 Inv-loop μ-loop
 returns-4 c = end-missing _ _ _ _ _ (c .before .before .before .loop .inv .1 .1) (c .before .before .loop-test .left) _ (c .before .has-ended .ensures) (c .if3 .left)
 
 pub grammar-spec : {M : Type 1} → statement M
-grammar-spec = tie.close (tie.spec Inv-loop μ-loop (λ c. (omega arith, (refl, whole _))) (λ c κs. search needs) (λ c κs. search needs) returns (λ c κs. search needs) sub-if2 returns-2 counted-requires after-requires add-at add-at-2 loop-less loop-again (λ c κs. search needs) returns-3 returns-4)
+grammar-spec = tie.close (tie.spec Inv-loop μ-loop (λ c. (omega arith, (refl, whole _))) (λ c κs. search needs) (λ c κs. search needs) returns (λ c κs. search needs) returns-2 counted-requires after-requires loop-less loop-again (λ c κs. search needs) returns-3 returns-4)
