@@ -8,7 +8,7 @@ use lib.Dec.{T, eqb, leb, leb→le}
 use lib.ListN.{length, getD, take, drop, length-append, length-drop}
 use lib.Ieee.Fits.{and-l, and-r}
 use borrow.Author.Tests.{leb-true}
-use Rattle.refusal.specs.Outcome.{Outcome}
+use Rattle.refusal.specs.Outcome.{Outcome, answer, refusal}
 use Rattle.sheet.specs.Words.{word, words-of}
 use Rattle.sheet.specs.Blocks.{Block, Grammar, flat, starts, Result, read, fault, mapped, blocks-from}
 use Rattle.sheet.specs.Sheet.{Sheet, WellFormed, kind-word, blocks, words, places}

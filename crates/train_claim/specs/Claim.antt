@@ -119,8 +119,8 @@ pub record TurnedBack (src : List ℕ) (number place : ℕ) : Type 0 where
   pub runs : (list : List Float) → run src list ≡ record { result = refusal number place; list = list }
   pub answered : (i : ℕ) → surface-answers src i ≡ refusal number place
 
--- ---- an admitted sheet of an edition that has every payload, a LAYER after one coating 5 and layers of these kinds after the other: no limit
--- refuses every coated surface
+-- ---- an admitted sheet of an edition that has every payload, a LAYER after one coating 5 and layers of these kinds after the other: no
+-- limit refuses every coated surface
 abbrev pub kinds-of : SheetSurface → List ℕ
 kinds-of y = map (λ (l : SheetLayer). kind (layer-block l .word)) (y .layers)
 

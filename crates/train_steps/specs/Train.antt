@@ -34,7 +34,8 @@ chosen-of reflected (refusal number place) = record { s = nan; p = nan }
 
 unfoldable pub chosen-powers : Float → SheetSurface → Chosen
 chosen-powers wavelength y =
-    chosen-of (surface-value y .reflected) (map (λ (a : Answers). a .powers) (answers wavelength (surface-value y) (films wavelength (y .layers))))
+    chosen-of (surface-value y .reflected)
+    (map (λ (a : Answers). a .powers) (answers wavelength (surface-value y) (films wavelength (y .layers))))
 
 -- ---- Start: 0 and the BEAM's powers; a train in that state is fresh
 abbrev pub fresh : Sheet → State
