@@ -18,9 +18,9 @@
  *   1  evaluate: the Rust's InvalidParameter, an unknown code, or a count of layers that is no multiple of 3;
  *      stack: an index or the design wavelength is not positive and finite
  *   3  evaluate: more than 64 layers, where the code is that of explicit layers (any other ignores them)
- *   4  the sheet's bytes are no multiple of 4, under 36 or over 30,500
+ *   4  the sheet's bytes are no multiple of 4, under 36 or over 30,500 (38,692 where the first word is 0x10000002)
  *   5  the word at this place is out of grammar
- *   6  the BEAM, SURFACE or LAYER at this place is outside the limits
+ *   6  the BEAM, SURFACE or layer at this place is outside the limits
  *   7  there is no such surface: it is the sheet's count or more
  *   8  the list is too short; after all other refusals
  *   9  stack: no text can have the byte at this place; the place is the count of bytes where the text stops early, and
@@ -132,7 +132,8 @@ DIHKELU_MUST_USE static inline int dihkelu_environment_ok(void) {
 #define DIHKELU_BARE 53
 #define DIHKELU_COATED 69
 
-/* The gate. Returns the count of surfaces; refuses with 4, 5, 6. */
+/* The gate. A sheet is of edition 1, or of edition 2, in which a layer may be of kind 6: a glass whose index changes with
+ * colour. Returns the count of surfaces; refuses with 4, 5, 6. */
 DIHKELU_MUST_USE uint64_t dihkelu_gate(const uint8_t *sheet, size_t sheet_count);
 
 /* A fresh train. Writes the BEAM's s and p, 2 doubles, and returns the count of surfaces; refuses with 4, 5, 6, 8. */

@@ -85,7 +85,7 @@ static void sheet_calls(const uint8_t *bytes, size_t size) {
     calls++;
     if (refused) refusals[refused < 9 ? refused : 0]++;
     if (refused && (refused < 4 || refused > 6)) wrong("gate", "a refusal that it has not", gate);
-    if (dihkelu_place(gate) > 7625 || surfaces > 64) wrong("gate", "a place or a count past the longest sheet", gate);
+    if (dihkelu_place(gate) > 9673 || surfaces > 64) wrong("gate", "a place or a count past the longest sheet", gate);
     unsigned may = refused ? BIT(refused) : 0;
 
     for (size_t n = 0; n <= 3; n++) {
@@ -151,18 +151,24 @@ static size_t put_double(uint8_t *b, size_t at, double x) {
     return put(b, at, v, 8);
 }
 
-/* Within the limits, of so many surfaces; a coating 5 has so many layers, or a random count. */
+/* Within the limits, of either edition, of so many surfaces; a coating 5 has so many layers, or a random count. In edition 2 they are of both kinds. */
 static size_t build(uint8_t *b, int surfaces, int layers) {
-    size_t at = put(b, put(b, 0, 0x10000001, 4), 0x20000000, 4);
-    at = put_double(b, put_double(b, put_double(b, at, 100.0 + (double)below(9901)), 0.5), (double)below(2));
+    unsigned edition = 1 + (unsigned)below(2);
+    double wavelength = 100.0 + (double)below(9901), u2 = wavelength / 1000 * (wavelength / 1000);
+    size_t at = put(b, put(b, 0, 0x10000000u + edition, 4), 0x20000000, 4);
+    at = put_double(b, put_double(b, put_double(b, at, wavelength), 0.5), (double)below(2));
     for (int i = 0; i < surfaces; i++) {
         unsigned payload = layers < 0 ? (unsigned)below(16) : 10 + (unsigned)below(2);
         at = put(b, at, 0x30000000u + payload, 4);
         at = put_double(b, put_double(b, put_double(b, at, 1.0 + (double)below(2) / 4), 1.5 + (double)below(3) / 2), (double)below(8) / 16);
         int n = payload / 2 != 5 ? 0 : layers < 0 ? (int)below(17) : layers;
         for (int j = 0; j < n; j++) {
-            at = put(b, at, 0x40000000, 4);
-            at = put_double(b, put_double(b, put_double(b, at, 1.25 + (double)below(9) / 4), 0.0), (double)below(1000));
+            double index = 1.25 + (double)below(9) / 4;
+            int glass = edition == 2 && below(2);
+            at = put(b, at, glass ? 0x60000000 : 0x40000000, 4);
+            at = put_double(b, put_double(b, at, index), glass ? u2 / 64 : 0.0);
+            if (glass) at = put_double(b, at, u2 * u2 / 64);
+            at = put_double(b, at, (double)below(1000));
         }
     }
     return put(b, at, 0x50000000u + (unsigned)surfaces, 4);
@@ -248,7 +254,7 @@ int main(int count, char **words) {
     uint64_t times = count > 2 ? strtoull(words[2], NULL, 10) : 100;
     static uint8_t bytes[40000];
     null_calls();
-    static const size_t sizes[] = {0, 1, 2, 3, 4, 35, 36, 37, 30499, 30500, 30501, 30502, 30503, 30504, 30505};
+    static const size_t sizes[] = {0, 1, 2, 3, 4, 35, 36, 37, 30499, 30500, 30501, 30504, 38691, 38692, 38693, 38696};
 
     for (size_t i = 0; i < sizeof sizes / sizeof sizes[0]; i++)
         for (int kind = 0; kind < 3; kind++) {

@@ -13,8 +13,8 @@ import sys
 from pathlib import Path
 
 ROOT = Path(__file__).resolve().parent.parent
-VERSION = "1.2 (sheets of edition 1)"
-MOST_BYTES = 10_000_000  # of a file; a sheet has 30,500 at most
+VERSION = "1.3 (sheets of editions 1 and 2)"
+MOST_BYTES = 10_000_000  # of a file; a sheet has 38,692 at most
 
 # payload / 2, document 01 section 1
 COATINGS = ["bare", "ideal-ar", "mgf2", "broadband-ar", "mirror", "custom", "ideal-beamsplitter", "ideal-mirror"]
@@ -24,9 +24,11 @@ PRESET_INDICES = {2: [1.38], 3: [1.46, 2.3], 4: [2.3, 1.46]}
 DIRECTIONS = ["transmitted", "reflected"]
 MOST_SURFACES, MOST_LAYERS = 64, 16
 
+EDITION_FORM = "edition 1|2"
 BEAM_FORM = "beam NUMBER nm s NUMBER p NUMBER"
 SURFACE_FORM = "surface COATING transmitted|reflected from NUMBER to NUMBER at NUMBER deg|rad"
 LAYER_FORM = "layer NUMBER thickness NUMBER nm [k NUMBER]"
+GLASS_FORM = "glass a NUMBER b NUMBER c NUMBER thickness NUMBER nm"
 STACK_FORM = "stack TEXT with H NUMBER L NUMBER [M NUMBER] at NUMBER nm"
 MOST_STACK_NUMBERS = 192
 
@@ -39,9 +41,15 @@ class Sheet:
     """A beam, its surfaces, and for each block the place of its kind word."""
 
     def __init__(self):
+        self.given = None  # its edition, where it is said
         self.beam = None
         self.surfaces = []
         self.lines = {}  # place of a kind word: the text's line
+
+    def edition(self):
+        """As it is said; else 2 where a glass needs it."""
+        glasses = any(is_glass(layer) for surface in self.surfaces for layer in surface["layers"])
+        return self.given or (2 if glasses else 1)
 
     def words(self):
         """The words of the sheet; fills `lines` from the blocks' own lines."""
@@ -54,17 +62,36 @@ class Sheet:
                 bits = struct.unpack(">Q", struct.pack(">d", x))[0]
                 out.extend([bits >> 32, bits & 0xFFFFFFFF])
 
-        block(1, 1, [], None)
+        block(1, self.edition(), [], None)
         block(2, 0, self.beam["floats"], self.beam["line"])
         for surface in self.surfaces:
             block(3, 2 * surface["coating"] + surface["reflected"], surface["floats"], surface["line"])
             for layer in surface["layers"]:
-                block(4, 0, layer["floats"], layer["line"])
+                block(6 if is_glass(layer) else 4, 0, layer["floats"], layer["line"])
         block(5, len(self.surfaces), [], None)
         return out
 
     def bytes(self):
         return b"".join(word.to_bytes(4, "big") for word in self.words())
+
+
+def is_glass(layer):
+    """A, B, C and thickness, kind 6; a LAYER has n, k and thickness."""
+    return len(layer["floats"]) == 4
+
+
+def index_at(layer, wavelength):
+    """The index of a layer at a wavelength: that of a glass is A + (B + C/u2)/u2 (document 02, slip 3)."""
+    if not is_glass(layer):
+        return layer["floats"][0]
+    a, b, c, _ = layer["floats"]
+    u2 = (wavelength / 1000) * (wavelength / 1000)
+    return a + (b + c / u2) / u2 if u2 else math.nan
+
+
+def most_bytes(data):
+    """Of a sheet that begins so."""
+    return 38692 if data[:4] == bytes.fromhex("10000002") else 30500
 
 
 # ---- text to sheet
@@ -101,7 +128,7 @@ def match(tokens, form):
             found.append(choice(token, COATINGS, "coating"))
         elif "|" in want:
             names = want.split("|")
-            found.append(choice(token, names, "direction" if names == DIRECTIONS else "unit"))
+            found.append(choice(token, names, {"transmitted": "direction", "1": "edition"}.get(names[0], "unit")))
         elif token.lower() != want:
             raise Wrong(f"'{token}' stands where '{want}' should: {form}")
     if len(tokens) > len(wanted):
@@ -165,7 +192,7 @@ def stack_line(content):
 
 
 def add_layers(sheet, layers, line):
-    """Puts layers, n, k and thickness of each, under the last surface."""
+    """Puts layers, the floats of each, under the last surface."""
     if not sheet.surfaces or sheet.surfaces[-1]["coating"] != CUSTOM:
         raise Wrong("a layer stands only under a surface whose coating is custom")
     held = sheet.surfaces[-1]["layers"]
@@ -177,7 +204,11 @@ def add_layers(sheet, layers, line):
 def add_line(sheet, content, line):
     tokens = content.split()
     head = tokens[0].lower()
-    if head == "beam":
+    if head == "edition":
+        if sheet.beam or sheet.given:
+            raise Wrong("an edition stands once, before the beam")
+        sheet.given = 1 + match(tokens, EDITION_FORM)[0]
+    elif head == "beam":
         if sheet.beam:
             raise Wrong(f"a second beam; the first is in line {sheet.beam['line']}")
         sheet.beam = {"floats": match(tokens, BEAM_FORM), "line": line}
@@ -193,10 +224,14 @@ def add_line(sheet, content, line):
     elif head == "layer":
         n, thickness, k = (match(tokens, LAYER_FORM) + [0.0])[:3]
         add_layers(sheet, [[n, k, thickness]], line)
+    elif head == "glass":
+        if sheet.given == 1:
+            raise Wrong("a glass stands only in a sheet of edition 2")
+        add_layers(sheet, [match(tokens, GLASS_FORM)], line)
     elif head == "stack":
         add_layers(sheet, stack_line(content), line)
     else:
-        raise Wrong(f"'{tokens[0]}' begins no line; a line begins with beam, surface, layer, stack or #")
+        raise Wrong(f"'{tokens[0]}' begins no line; a line begins with edition, beam, surface, layer, glass, stack or #")
 
 
 UTF_16 = "the text is in UTF-16; save it as UTF-8"
@@ -244,24 +279,26 @@ def from_text(data):
 # ---- sheet to text
 
 def from_bytes(data):
-    """Reads a sheet by document 01's section 1; the numbers may be any."""
-    if len(data) % 4 != 0 or not 36 <= len(data) <= 30500:
+    """Reads a sheet by document 01's section 1 and document 02's slip 3; the numbers may be any."""
+    if len(data) % 4 != 0 or not 36 <= len(data) <= most_bytes(data):
         raise Wrong(f"refused 4 0: {explain(4, 0, None, data)}")
     words = [word for (word,) in struct.iter_unpack(">I", data)]
 
     def fault(place, what):
         raise Wrong(f"refused 5 {place}: {what}")
 
-    def floats(place):
-        if place + 6 >= len(words):
+    def floats(place, count=3):
+        if place + 2 * count >= len(words):
             fault(place, f"the numbers of word {place} go past the end")
-        return list(struct.unpack(">3d", data[4 * place + 4:4 * place + 28]))
+        return list(struct.unpack(f">{count}d", data[4 * place + 4:4 * place + 4 + 8 * count]))
 
-    if words[0] != 0x10000001:
-        fault(0, f"word 0 is {words[0]:08X}, not OPEN of edition 1")
+    if words[0] not in (0x10000001, 0x10000002):
+        fault(0, f"word 0 is {words[0]:08X}, not OPEN of edition 1 or 2")
     if words[1] != 0x20000000:
         fault(1, f"word 1 is {words[1]:08X}, not BEAM")
     sheet = Sheet()
+    sheet.given = words[0] % 16
+    layer_kinds = [4, 6] if sheet.given == 2 else [4]
     sheet.beam = {"floats": floats(1), "line": None}
     at = 8
     while True:
@@ -271,9 +308,10 @@ def from_bytes(data):
         if kind == 3 and payload <= 15 and len(sheet.surfaces) < MOST_SURFACES:
             sheet.surfaces.append({"coating": payload // 2, "reflected": payload % 2, "floats": floats(at), "layers": [], "line": None})
             at += 7
-        elif kind == 4 and payload == 0 and sheet.surfaces and sheet.surfaces[-1]["coating"] == CUSTOM and len(sheet.surfaces[-1]["layers"]) < MOST_LAYERS:
-            sheet.surfaces[-1]["layers"].append({"floats": floats(at), "line": None})
-            at += 7
+        elif kind in layer_kinds and payload == 0 and sheet.surfaces and sheet.surfaces[-1]["coating"] == CUSTOM and len(sheet.surfaces[-1]["layers"]) < MOST_LAYERS:
+            count = 4 if kind == 6 else 3
+            sheet.surfaces[-1]["layers"].append({"floats": floats(at, count), "line": None})
+            at += 1 + 2 * count
         elif kind == 5 and payload == len(sheet.surfaces):
             if at + 1 < len(words):
                 fault(at + 1, f"word {at + 1} stands after END")
@@ -292,13 +330,19 @@ def written(x):
 
 def to_text(sheet):
     wavelength, s, p = map(written, sheet.beam["floats"])
-    lines = [f"beam {wavelength} nm s {s} p {p}"]
+    lines = ["edition 2"] if sheet.edition() == 2 else []
+    lines += [f"beam {wavelength} nm s {s} p {p}"]
     for place, surface in enumerate(sheet.surfaces, 1):
         n0, n1, angle = map(written, surface["floats"])
         degrees = f"{math.degrees(surface['floats'][2]):.4f} deg"
         name, direction = COATINGS[surface["coating"]], DIRECTIONS[surface["reflected"]]
         lines.append(f"surface {name} {direction} from {n0} to {n1} at {angle} rad  # {place}: {degrees}")
         for layer in surface["layers"]:
+            if is_glass(layer):
+                a, b, c, thickness = map(written, layer["floats"])
+                n = index_at(layer, sheet.beam["floats"][0])
+                lines.append(f"  glass a {a} b {b} c {c} thickness {thickness} nm  # n {n:.6g}")
+                continue
             n, k, thickness = map(written, layer["floats"])
             lossless = layer["floats"][1] == 0 and math.copysign(1, layer["floats"][1]) > 0
             lines.append(f"  layer {n} thickness {thickness} nm" + ("" if lossless else f" k {k}"))
@@ -307,7 +351,7 @@ def to_text(sheet):
 
 # ---- refusals in words, document 01's table
 
-def outside(block, surface, is_beam):
+def outside(block, surface, wavelength):
     """Which limits of section 3 the numbers miss; the gate itself decides."""
     said = []
 
@@ -321,7 +365,7 @@ def outside(block, surface, is_beam):
             bent, most = n0 * abs(math.sin(angle)), 0.875 * n
             said.append(f"n_incident times sin is {written(bent)}, more than 0.875 of {name} {written(n)}, {written(most)}")
 
-    if is_beam:
+    if surface is None:
         wavelength, s, p = block["floats"]
         within("the wavelength", wavelength, 100, 10000)
         within("the s power", s, 0, 1)
@@ -338,10 +382,14 @@ def outside(block, surface, is_beam):
         for n in PRESET_INDICES.get(block["coating"], []):
             bends("the coating's index", n)
     else:
-        n, k, thickness = block["floats"]
-        within("n", n, 1, 4)
-        if k != 0:
-            said.append(f"k is {written(k)}, not zero")
+        n, thickness = index_at(block, wavelength), block["floats"][-1]
+        if is_glass(block):
+            said.extend(f"{name} is not finite" for name, x in zip("ABC", block["floats"]) if not math.isfinite(x))
+            within(f"its index at {written(wavelength)} nm", n, 1, 4)
+        else:
+            within("n", n, 1, 4)
+            if block["floats"][1] != 0:
+                said.append(f"k is {written(block['floats'][1])}, not zero")
         within("the thickness", thickness, 0, 100000)
         bends("n", n)
     return "; ".join(said) or "it is outside the limits by less than these figures show"
@@ -349,7 +397,7 @@ def outside(block, surface, is_beam):
 
 def explain(refusal, place, sheet, data):
     if refusal == 4:
-        return f"a sheet has a multiple of 4 bytes, from 36 to 30500; this has {len(data)}"
+        return f"a sheet has a multiple of 4 bytes, from 36 to {most_bytes(data)}; this has {len(data)}"
     if refusal == 5:
         return f"word {place} is not what may stand there, or its numbers go past the end, or END is missing or not the last"
     if refusal == 6 and sheet:
@@ -357,13 +405,14 @@ def explain(refusal, place, sheet, data):
         named = {1: ("the beam", sheet.beam, None)}
         for count, surface in enumerate(sheet.surfaces, 1):
             named[at] = (f"surface {count}", surface, surface)
+            at += 7
             for number_, layer in enumerate(surface["layers"], 1):
-                named[at + 7 * number_] = (f"layer {number_} of surface {count}", layer, surface)
-            at += 7 + 7 * len(surface["layers"])
+                named[at] = (f"layer {number_} of surface {count}", layer, surface)
+                at += 1 + 2 * len(layer["floats"])
         if place in named:
             name, block, surface = named[place]
             where = f" (line {block['line']})" if block["line"] else ""
-            return f"{name}{where} is outside the gate: {outside(block, surface, place == 1)}"
+            return f"{name}{where} is outside the gate: {outside(block, surface, sheet.beam['floats'][0])}"
     return {
         6: f"the block at word {place} is outside the gate",
         7: "the train has no further surface",

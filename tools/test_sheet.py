@@ -47,12 +47,13 @@ KNOWN_SHEET = bytes.fromhex(
 BEAM = "beam 500 nm s 0.5 p 0.5\n"
 CUSTOM = "surface custom transmitted from 1 to 1.5 at 0 rad\n"
 LAYER = "layer 1.38 thickness 99 nm\n"
+GLASS = "glass A 1.5046 B 0.0042 C 0 thickness 80 nm\n"
 
 # a text, and what is said of it
 BAD_TEXTS = [
     ("", "line 1: the text ends without a beam: beam NUMBER nm s NUMBER p NUMBER"),
     ("# nothing\n", "line 2: the text ends without a beam: beam NUMBER nm s NUMBER p NUMBER"),
-    (BEAM + "\nlens 3\n", "line 3: 'lens' begins no line; a line begins with beam, surface, layer, stack or #"),
+    (BEAM + "\nlens 3\n", "line 3: 'lens' begins no line; a line begins with edition, beam, surface, layer, glass, stack or #"),
     ("beam 500 nm s half p 0.5\n", "line 1: 'half' is no number"),
     ("beam 500 s 0.5 p 0.5\n", "line 1: 's' stands where 'nm' should: beam NUMBER nm s NUMBER p NUMBER"),
     ("beam 500 nm s 0.5\n", "line 1: the line ends where p should stand: beam NUMBER nm s NUMBER p NUMBER"),
@@ -66,6 +67,13 @@ BAD_TEXTS = [
     (BEAM + "surface mgf2 transmitted from 1 to 2 at 0 rad\n" + LAYER, "line 3: a layer stands only under a surface whose coating is custom"),
     (BEAM + CUSTOM + 17 * LAYER, "line 19: a surface has at most 16 layers"),
     (BEAM + 65 * CUSTOM, "line 66: a sheet has at most 64 surfaces"),
+    (BEAM + GLASS, "line 2: a layer stands only under a surface whose coating is custom"),
+    (BEAM + CUSTOM + 8 * (LAYER + GLASS) + GLASS, "line 19: a surface has at most 16 layers"),
+    (BEAM + CUSTOM + "glass a 1.5 b 0 thickness 80 nm\n", "line 3: 'thickness' stands where 'c' should: glass a NUMBER b NUMBER c NUMBER thickness NUMBER nm"),
+    ("edition 3\n", "line 1: there is no edition '3'; there are 1, 2"),
+    (BEAM + "edition 2\n", "line 2: an edition stands once, before the beam"),
+    ("edition 2\nedition 2\n", "line 2: an edition stands once, before the beam"),
+    ("edition 1\n" + BEAM + CUSTOM + GLASS, "line 4: a glass stands only in a sheet of edition 2"),
     (BEAM + CUSTOM + "layer 1.38 thickness 99 nm k\n", "line 3: the line ends where NUMBER should stand: layer NUMBER thickness NUMBER nm [k NUMBER]"),
 ]
 
@@ -93,6 +101,8 @@ REFUSED = [
     (BEAM + "surface bare transmitted from 1 to 2 at 80 deg\n", "refused 6 8: surface 1 (line 2) is outside the gate: the angle's cosine is 0.17364817766693041, less than 0.25"),
     (BEAM + "surface mgf2 transmitted from 2 to 4 at 45 deg\n", "refused 6 8: surface 1 (line 2) is outside the gate: n_incident times sin is 1.414213562373095, more than 0.875 of the coating's index 1.38, 1.2075"),
     (BEAM + CUSTOM + LAYER + "layer 1.38 thickness 99 nm k 0.1\n", "refused 6 22: layer 2 of surface 1 (line 4) is outside the gate: k is 0.1, not zero"),
+    (BEAM + CUSTOM + GLASS + "glass a 1.5 b 1 c 0 thickness 80 nm\n", "refused 6 24: layer 2 of surface 1 (line 4) is outside the gate: its index at 500 nm is 5.5, not from 1 to 4"),
+    (BEAM + CUSTOM + GLASS + "glass a 1.5 b 0x7FF0000000000000 c 0 thickness 80 nm\n", "refused 6 24: layer 2 of surface 1 (line 4) is outside the gate: B is not finite; its index at 500 nm is 0x7FF0000000000000, not from 1 to 4"),
 ]
 
 
@@ -130,6 +140,35 @@ class Stacks(unittest.TestCase):
     def test_the_example(self):
         given = EXAMPLES / "fold_mirror.txt"
         self.assertEqual(tool("losses", str(given), "--program", PROGRAM), (0, (EXAMPLES / "fold_mirror.losses").read_bytes(), ""))
+
+
+class Glasses(unittest.TestCase):
+    """Glasses that change with colour: kind 6 in a sheet of edition 2."""
+
+    def test_words(self):
+        _, sheet, _ = tool("write", "-", given=BEAM + CUSTOM + GLASS + LAYER)
+        words = [word for (word,) in struct.iter_unpack(">I", sheet)]
+        self.assertEqual((words[0], words[15], words[24], words[31], len(words)), (0x10000002, 0x60000000, 0x40000000, 0x50000001, 32))
+        self.assertEqual(struct.unpack(">4d", sheet[64:96]), (1.5046, 0.0042, 0.0, 80.0))
+
+    def test_shown_and_written_again(self):
+        for text in [BEAM + CUSTOM + GLASS + LAYER, "edition 2\n" + BEAM + CUSTOM + LAYER, "edition 1\n" + BEAM]:
+            _, sheet, _ = tool("write", "-", given=text)
+            status, shown, _ = tool("show", "-", given=sheet)
+            self.assertEqual((status, b"edition 2" in shown), (0, sheet[3] == 2))
+            self.assertEqual(tool("write", "-", given=shown), (0, sheet, ""))
+
+    def test_index(self):
+        """At 500 nm u2 is 0.25, so that the index is A + 4 B + 16 C: the losses are those of a LAYER with it."""
+        glass = losses(BEAM + CUSTOM + "glass a 1.5 b 0.0625 c 0.015625 thickness 80 nm\n")
+        self.assertEqual(glass, losses(BEAM + CUSTOM + "layer 2 thickness 80 nm\n"))
+        self.assertEqual(glass[0], 0)
+        _, sheet, _ = tool("write", "-", given=BEAM + CUSTOM + "glass a 1.5 b 0.0625 c 0.015625 thickness 80 nm\n")
+        self.assertIn(b"  glass a 1.5 b 0.0625 c 0.015625 thickness 80 nm  # n 2\n", tool("show", "-", given=sheet)[1])
+
+    def test_the_example(self):
+        given = EXAMPLES / "glasses.txt"
+        self.assertEqual(tool("losses", str(given), "--program", PROGRAM), (0, (EXAMPLES / "glasses.losses").read_bytes(), ""))
 
 
 class Examples(unittest.TestCase):

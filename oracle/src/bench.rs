@@ -131,7 +131,7 @@ side!(authors, f64::cos);
 side!(reference, crate::section2::cos);
 
 /// The workloads, with the number of calls in each.
-pub const WORKS: [(&str, usize); 18] = [
+pub const WORKS: [(&str, usize); 20] = [
     ("bare surface, the two powers alone", 64),
     ("MgF2", 64),
     ("15-layer mirror", 64),
