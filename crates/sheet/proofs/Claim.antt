@@ -18,6 +18,7 @@ use Rattle.sheet.proofs.Lists.{Same, starts-length}
 use Rattle.sheet.proofs.AnyGrammar.{Agree, Out, Cut, Outcome, whole, out, cut, walk, complete, starts-same}
 use Rattle.sheet.proofs.Forward.{In, sheet-in, Live, live-after, finish, sheet-of-blocks}
 use Rattle.sheet.proofs.Back.{Formed, formed}
+use Rattle.sheet.proofs.Longest.{longest-one, longest-two}
 use Rattle.sheet.proofs.Measure.{words-of-length, words-of-at, words-of-good, words-of-bytes, bytes-words-of, flat-good, fits-count, encode-fits}
 
 -- ---- sheets and blocks agree alike
@@ -130,6 +131,8 @@ grammar-claim = record {
   );
   only = λ x y hx hy e. let r : read x ≡ read y = sym (encode-decodes x hx) ∙ ap decode e ∙ encode-decodes y hy in cc;
   fits = encode-fits;
+  longest-one = longest-one;
+  longest-two = longest-two;
   faults = λ src bs t place. (
     λ e. (λ x h q. let z : _≡_ {A = ℕ} 0 1 = cc (encode-decodes x h) in omega arith, fault-fault src bs t place (subst (Decoded src) e (decoded src bs t))),
     λ h. where-fault src bs t place (h .0) (h .1) (decoded src bs t),

@@ -6,6 +6,7 @@ pub mod KindWords
 pub mod Forward
 pub mod Back
 pub mod Measure
+pub mod Longest
 pub mod Claim
 pub mod Stands
 pub mod Standings

@@ -104,18 +104,22 @@ fits-count src t =
 count-fits : (src : List ℕ) (n : ℕ) → length src ≡ 4 * n → 9 ≤ n → 4 * n ≤ longest src → T (length-fits src)
 count-fits src n e h l = rw (eq-eqb (length src % 4) 0 (omega arith), le-leb 36 (length src) (omega arith), le-leb (length src) (longest src) (omega arith)) tt
 
+-- a sheet begins with OPEN of its edition
+pub first-word : (x : Sheet) → WellFormed x → word (encode x) 0 ≡ kind-word 1 (x .edition)
+unfolding encode
+first-word x h = word-bytes (words x) (flat-good at-open (blocks x) (sheet-in x h)) 0 ∙ opens
+  where
+    opens : getD (words x) 0 0 ≡ kind-word 1 (x .edition)
+    opens = unfold blocks flat in refl
+
 pub encode-fits : (x : Sheet) → WellFormed x → T (length-fits (encode x)) × Bytes (encode x)
 unfolding encode
 encode-fits x h =
     let ws = words x in
     let l = length-limits x h in
     let g : All Word ws = flat-good at-open (blocks x) (sheet-in x h) in
-    let first : word (bytes ws) 0 ≡ kind-word 1 (x .edition) = word-bytes ws g 0 ∙ opens in
-    (count-fits (bytes ws) (length ws) (length-bytes ws) (l .0) (rw first (under (x .edition) (h .edition) (length ws) (l .1 .0) (l .1 .1))), bytes-bytes ws g)
+    (count-fits (bytes ws) (length ws) (length-bytes ws) (l .0) (rw (first-word x h) (under (x .edition) (h .edition) (length ws) (l .1 .0) (l .1 .1))), bytes-bytes ws g)
   where
-    opens : getD (words x) 0 0 ≡ kind-word 1 (x .edition)
-    opens = unfold blocks flat in refl
-
     under : (edition : ℕ) → (edition ≡ 1) ⊎ (edition ≡ 2) → (n : ℕ) → n ≤ 9673 → (edition ≡ 1 → n ≤ 7625) → 4 * n ≤ cond (eqb (kind-word 1 edition) (kind-word 1 2)) 38692 30500
     under edition (inl e) n a b = rw e (omega (arith, b e))
     under edition (inr e) n a b = rw e (omega arith)

@@ -57,6 +57,13 @@ pub record CutOff (src : List ℕ) (place : ℕ) : Type 0 where
 abbrev pub Fault : List ℕ → ℕ → Type 0
 Fault src place = OutOfGrammar src place ⊎ CutOff src place
 
+-- ---- a longest sheet of an edition
+pub record Longest (edition : ℕ) : Type 0 where
+  pub sheet : Sheet
+  pub formed : WellFormed sheet
+  pub edition-is : sheet .edition ≡ edition
+  pub reaches : length (encode sheet) ≡ longest (encode sheet)
+
 -- ---- the claim
 pub record GrammarClaim : Type 0 where
   -- read exactly when the bytes are the encoding of a well-formed sheet
@@ -64,6 +71,9 @@ pub record GrammarClaim : Type 0 where
   -- which is the only one, and whose length fits
   pub only : (x y : Sheet) → WellFormed x → WellFormed y → encode x ≡ encode y → x ≡ y
   pub fits : (x : Sheet) → WellFormed x → T (length-fits (encode x)) × Bytes (encode x)
+  -- and some sheet of either edition is as long as one may be
+  pub longest-one : Longest 1
+  pub longest-two : Longest 2
   -- at fault exactly when no well-formed sheet encodes to the bytes, and where
   pub faults : (src : List ℕ) → Bytes src → T (length-fits src) → (place : ℕ) →
       (decode src ≡ fault place) ⇔ (((x : Sheet) → WellFormed x → encode x ≡ src → ⊥) × Fault src place)
