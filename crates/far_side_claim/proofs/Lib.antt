@@ -1,0 +1,2 @@
+-- Layers from the far side: the claim's proof.
+pub mod Claim

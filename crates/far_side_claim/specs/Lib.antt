@@ -1,0 +1,2 @@
+-- Layers from the far side.
+pub mod Claim
