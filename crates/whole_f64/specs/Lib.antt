@@ -1,0 +1,2 @@
+-- f64 that are whole numbers, and their exact operations.
+pub mod Whole
