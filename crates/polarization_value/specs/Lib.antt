@@ -1,0 +1,3 @@
+-- Equality in value.
+pub mod Value
+pub mod Known
