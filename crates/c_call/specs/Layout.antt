@@ -50,6 +50,10 @@ mueller-numbers m =
     ∷ Mueller.entry m 8 ∷ Mueller.entry m 9 ∷ Mueller.entry m 10 ∷ Mueller.entry m 11
     ∷ Mueller.entry m 12 ∷ Mueller.entry m 13 ∷ Mueller.entry m 14 ∷ Mueller.entry m 15 ∷ []
 
+-- dihkelu_to_mueller, dihkelu_mueller_born_wolf: 16 numbers
+abbrev pub rows : MuellerMatrix → Reply
+rows m = counted (mueller-numbers m)
+
 -- whether the surface is coated, 1 or 0, and R_s, R_p, T_s, T_p
 abbrev pub head : Answers → List Float
 head a = cond (a .coated) one zero-f ∷ powers-numbers (a .powers)

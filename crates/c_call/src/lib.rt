@@ -5,7 +5,7 @@ ghost use mathlib.Core.List.{_++_};
 ghost use Prim.Native.Nat.{_+_, _%_, _^_, _≤_};
 ghost use lib.ListN.{length, take, drop};
 ghost use Rattle.c_call.specs.Call.{done, packed, reply, written};
-ghost use Rattle.c_call.specs.Layout.{response-numbers, jones-numbers, mueller-numbers, head, common, both, evaluated, surface-answered};
+ghost use Rattle.c_call.specs.Layout.{response-numbers, jones-numbers, mueller-numbers, rows, head, common, both, evaluated, surface-answered};
 use polarization_mueller::JonesMatrix;
 use polarization_mueller::MuellerMatrix;
 use refusal::Refusal;
@@ -122,6 +122,14 @@ fn mueller(m: MuellerMatrix) -> [f64; 16]
         e[14],
         e[15],
     ]
+}
+
+// A Mueller matrix by its numbers, row after row.
+pub fn put_mueller(m: MuellerMatrix, list: &mut [f64]) -> u64
+    ensures { λ n. ⌜ done n (now (list .exit)) ≡ written (rows m) (now (list .entry)) ⌝ }
+{
+    let numbers = mueller(m);
+    put(16, &numbers, list)
 }
 
 // Whether there is a coating, and the powers.

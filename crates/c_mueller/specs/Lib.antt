@@ -1,0 +1,2 @@
+-- Mueller matrices of a Jones matrix that was lent by its numbers.
+pub mod Mueller
