@@ -1,6 +1,6 @@
 // Arguments of the recorded functions: what each may be, and random choices.
 
-use crate::functions::{exports, names, shorthand, train};
+use crate::functions::{born_wolf, exports, names, shorthand, train};
 use crate::section2::{PI, T};
 use crate::values::{any, multiple, neighbour, optical, short, square, subnormal, Rng, CORE};
 
@@ -67,6 +67,8 @@ pub enum Arg {
     StackRoom,
     /// Any code of a coating, also one that stands for none.
     AnyCode,
+    /// A part that is whole and at most 1,024 in size.
+    Whole,
     /// Layers as a count of numbers, then n, k and thickness one after the other; the last layer may be cut off.
     Flat,
 }
@@ -200,6 +202,7 @@ impl Arg {
             Arg::StackRoom => words.push(rng.pick(&exports::STACK_ROOMS)),
             Arg::AnyCode if rng.one_in(10) => words.push(rng.pick(&[0, 9, u64::from(u32::MAX)])),
             Arg::AnyCode => Arg::Code.push(rng, style, words),
+            Arg::Whole => words.push(born_wolf::whole(rng).to_bits()),
             Arg::Flat => exports::push_flat(rng, style, words),
             _ => words.push(self.float(rng, style).to_bits()),
         }

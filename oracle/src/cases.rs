@@ -1,7 +1,7 @@
 // The fixed cases of the recorded functions: special values in every argument, and usual ones together.
 
 use crate::arguments::{Arg, Style};
-use crate::functions::{exports, names, shorthand, train};
+use crate::functions::{born_wolf, exports, names, shorthand, train};
 use crate::section2::PI;
 use crate::values::{neighbour, specials, Rng, CORE};
 
@@ -53,6 +53,7 @@ impl Arg {
             Arg::Room => single(&exports::ROOMS),
             Arg::StackRoom => single(&exports::STACK_ROOMS),
             Arg::AnyCode => single(&[0, 1, 2, 3, 4, 5, 6, 7, 8, 9, u64::from(u32::MAX)]),
+            Arg::Whole => born_wolf::wholes().map(|x| vec![x.to_bits()]).to_vec(),
             Arg::Flat => exports::flat_cases(),
             _ => CORE.iter().map(|x| vec![x.to_bits()]).collect(),
         }

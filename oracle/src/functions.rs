@@ -5,6 +5,7 @@ use crate::cases::cases;
 use crate::record::{Arguments, Record, Words};
 use crate::values::Rng;
 
+pub mod born_wolf;
 pub mod complex;
 pub mod exports;
 pub mod names;
@@ -15,7 +16,7 @@ pub mod thin_film;
 pub mod train;
 
 /// The groups, in the order of their numbers.
-pub const GROUPS: [&str; 11] = [
+pub const GROUPS: [&str; 12] = [
     "ieee",
     "elementary",
     "complex",
@@ -24,6 +25,7 @@ pub const GROUPS: [&str; 11] = [
     "polarization",
     "names",
     "shorthand",
+    "born_wolf",
     "sheet",
     "train",
     "exports",
@@ -76,6 +78,7 @@ pub fn table() -> Vec<Function> {
     all.extend(polarization::table());
     all.extend(names::table());
     all.extend(shorthand::table());
+    all.extend(born_wolf::table());
     all.extend(train::table());
     all.extend(exports::table());
     all

@@ -19,7 +19,7 @@ oracle findings
 oracle bench [--runs N]
 oracle compare [--seed S] [--count N] [--spoil I]
 oracle measure [--seed S] [--count N]
-groups: ieee elementary complex thin_film fresnel polarization names sheet train exports shorthand";
+groups: ieee elementary complex thin_film fresnel polarization names sheet train exports shorthand born_wolf";
 
 /// The options of all commands.
 #[derive(Default)]

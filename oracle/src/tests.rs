@@ -1,6 +1,7 @@
 // Unit tests: section 2's edges, 01's known answers, sheets and trains, records, programs fed with them, exports, measured surfaces, findings, what lies beyond the limits.
 
 mod beyond;
+mod born_wolf;
 #[cfg(feature = "proved")]
 mod exports;
 mod feed;
