@@ -22,11 +22,13 @@ use Rattle.sheet_surfaces.specs.Surfaces.{surface-answers}
 use Rattle.c_layers.specs.Evaluate.{evaluate}
 use Rattle.c_layers.proofs.Plain.{of-code}
 use Rattle.c_call.specs.Call.{done, packed, returned, Reply, answered}
-use Rattle.c_call.specs.Layout.{response-numbers, common, evaluated, surface-answered}
+use Rattle.c_call.specs.Layout.{response-numbers, common, evaluated, surface-answered, rows}
 use Rattle.thin_film_solver.specs.declared.ThinFilmLayer.{ThinFilmLayer}
 use Rattle.thin_film_shorthand.specs.Stack.{stack}
 use Rattle.c_stack.specs.Stack.{stacked}
 use Rattle.c_stack.proofs.Flat.{flat-length}
+use Rattle.c_mueller.specs.Mueller.{converted}
+use Rattle.c_mueller.proofs.Answered.{converted-sound}
 use Rattle.c_stack.proofs.Stacked.{Few, few-layers, few-sound}
 use Rattle.dihkelu.specs.Train.{start-layout, step-layout, run-done}
 use Rattle.dihkelu.specs.Numbers.{Tells, said, Numbers}
@@ -155,4 +157,5 @@ numbers = record {
       let o = stack text n-h n-l n-m design in
       let few = few-layers text n-h n-l n-m design in
       tells stacked o (few-sound o few) (stack-small o few) list;
+  of-mueller = λ conversion numbers list. tells rows (converted conversion numbers) (converted-sound conversion numbers list) (λ m e. lit< tt) list;
 }

@@ -16,8 +16,11 @@ use Rattle.sheet_surfaces.specs.Surfaces.{surface-answers}
 use Rattle.c_layers.specs.Evaluate.{evaluate}
 use Rattle.thin_film_shorthand.specs.Stack.{stack}
 use Rattle.c_stack.specs.Stack.{stacked}
+use Rattle.polarization_mueller.specs.declared.JonesMatrix.{JonesMatrix}
+use Rattle.polarization_mueller.specs.declared.MuellerMatrix.{MuellerMatrix}
+use Rattle.c_mueller.specs.Mueller.{converted}
 use Rattle.c_call.specs.Call.{Reply, returned, answered}
-use Rattle.c_call.specs.Layout.{evaluated, surface-answered}
+use Rattle.c_call.specs.Layout.{evaluated, surface-answered, rows}
 use Rattle.dihkelu.specs.Train.{start-layout, step-layout, run-done}
 
 -- For an answer the high 32 bits are 0 and the low 32 bits the call's own number; for a refusal they are its number, which is not 0, and
@@ -47,3 +50,6 @@ pub record Numbers : Type 0 where
       (answered evaluated (evaluate code design n-incident n-substrate angle wavelength flat) list .returned)
   pub of-stack : (text : List ℕ) (n-h n-l n-m design : Float) (list : List Float)
       → Tells (said stacked (stack text n-h n-l n-m design) list) (answered stacked (stack text n-h n-l n-m design) list .returned)
+  -- dihkelu_to_mueller and dihkelu_mueller_born_wolf: whatever the conversion
+  pub of-mueller : (conversion : JonesMatrix → MuellerMatrix) (numbers list : List Float)
+      → Tells (said rows (converted conversion numbers) list) (answered rows (converted conversion numbers) list .returned)

@@ -6,9 +6,12 @@ ghost use Rattle.gate.specs.Gate as Gate;
 ghost use Rattle.gate.specs.Gate.{gated, gate};
 ghost use Rattle.c_layers.specs.Evaluate.{evaluate};
 ghost use Rattle.c_call.specs.Call.{done, Apart, returned, answered};
-ghost use Rattle.c_call.specs.Layout.{evaluated, surface-answered};
+ghost use Rattle.c_call.specs.Layout.{evaluated, surface-answered, rows};
 ghost use Rattle.thin_film_shorthand.specs.Stack.{stack};
 ghost use Rattle.c_stack.specs.Stack.{stacked};
+ghost use Rattle.polarization_mueller.specs.Mueller.{to-mueller};
+ghost use Rattle.polarization_born_wolf.specs.Conversion.{to-mueller-born-wolf};
+ghost use Rattle.c_mueller.specs.Mueller.{converted};
 ghost use Rattle.train_steps.specs.Train.{step, run};
 ghost use Rattle.sheet_surfaces.specs.Surfaces.{surface-answers};
 ghost use Rattle.dihkelu.specs.Train.{start-layout, step-layout, run-done};
@@ -76,6 +79,25 @@ pub extern "C" fn dihkelu_stack(
     ensures { λ r. ⌜ done r (now (list .exit)) ≡ answered stacked (stack (now (text .entry)) «n_h» «n_l» «n_m» «design_wavelength_nm») (now (list .entry)) ⌝ }
 {
     c_stack::stack(text, n_h, n_l, n_m, design_wavelength_nm, list)
+}
+
+// ---- Mueller matrices
+
+// JonesMatrix::to_mueller of a Jones matrix by its 8 numbers, m00, m01, m10, m11, each as re, im: writes
+// the matrix row after row and returns 16; or a refusal: 1 where there are not 8 numbers, then 8.
+#[no_mangle]
+pub extern "C" fn dihkelu_to_mueller(jones: &[f64], list: &mut [f64]) -> u64
+    ensures { λ r. ⌜ done r (now (list .exit)) ≡ answered rows (converted to-mueller (now (jones .entry))) (now (list .entry)) ⌝ }
+{
+    c_mueller::to_mueller(jones, list)
+}
+
+// The same over Stokes vectors with S3 = 2 Im(Ex* Ey), after Born and Wolf: to_mueller_born_wolf.
+#[no_mangle]
+pub extern "C" fn dihkelu_mueller_born_wolf(jones: &[f64], list: &mut [f64]) -> u64
+    ensures { λ r. ⌜ done r (now (list .exit)) ≡ answered rows (converted to-mueller-born-wolf (now (jones .entry))) (now (list .entry)) ⌝ }
+{
+    c_mueller::mueller_born_wolf(jones, list)
 }
 
 // ---- the gate and the train
