@@ -16,7 +16,8 @@
  * place, a word of the sheet or a byte of the text counted from 0; the place is 0 where the documents give none.
  *
  *   1  evaluate: the Rust's InvalidParameter, an unknown code, or a count of layers that is no multiple of 3;
- *      stack: an index or the design wavelength is not positive and finite
+ *      stack: an index or the design wavelength is not positive and finite; to_mueller, mueller_born_wolf: there are
+ *      not 8 numbers
  *   3  evaluate: more than 64 layers, where the code is that of explicit layers (any other ignores them)
  *   4  the sheet's bytes are no multiple of 4, under 36 or over 30,500 (38,692 where the first word is 0x10000002)
  *   5  the word at this place is out of grammar
@@ -35,11 +36,12 @@
  * Link with libdihkelu.a and the C library's mathematics (-lm): its fmod is called. The library is for x86-64.
  *
  * WHAT THE CALLER OWES, since no callee can check it:
- *   - A sheet, a text, a list of layers and a list that is written are each passed as a pointer and a count of elements (bytes
- *     or doubles), two arguments one after the other. So many elements are there, readable, and writable in the list;
- *     a pointer to doubles is aligned for them. Where the count is 0 the pointer may be anything, null too: nothing is
- *     read or written through it.
- *   - The list overlaps neither the sheet nor the text nor the layers, and no other thread writes any of them meanwhile.
+ *   - A sheet, a text, a list of layers, a Jones matrix and a list that is written are each passed as a pointer and a
+ *     count of elements (bytes or doubles), two arguments one after the other. So many elements are there, readable, and
+ *     writable in the list; a pointer to doubles is aligned for them. Where the count is 0 the pointer may be anything,
+ *     null too: nothing is read or written through it.
+ *   - The list overlaps neither the sheet nor the text nor the layers nor the Jones matrix, and no other thread writes
+ *     any of them meanwhile.
  *   - The floating-point environment is the one that a C program starts with: rounding to nearest, subnormal numbers
  *     kept, no exception trapped. A program LINKED WITH -ffast-math or -Ofast starts with subnormals flushed to zero, and
  *     the gate then admits k = 2^-1074 and a power of -2^-1074; another rounding mode changes the last bits of every
@@ -183,6 +185,17 @@ DIHKELU_MUST_USE uint64_t dihkelu_evaluate(uint32_t code, double design_waveleng
  * indices must be positive and finite, also those of letters that do not occur. */
 DIHKELU_MUST_USE uint64_t dihkelu_stack(const uint8_t *text, size_t text_count, double n_h, double n_l, double n_m,
                                         double design_wavelength_nm, double *list, size_t list_count);
+
+/* How many doubles a Mueller matrix is. */
+#define DIHKELU_MUELLER 16
+
+/* The Mueller matrix of a Jones matrix of 8 doubles: m00, m01, m10, m11, each re, im. Writes it row after row, 16
+ * doubles, and returns 16; refuses with 1, 8. The first is the Rust's JonesMatrix::to_mueller, as dihkelu_answers has it:
+ * its fourth column is the response to circular_right, (1, -i), so that empty space has -1 in its last place. The second
+ * is over Stokes vectors with S3 = 2 Im(Ex* Ey), as Born and Wolf have them, and empty space has the identity. */
+DIHKELU_MUST_USE uint64_t dihkelu_to_mueller(const double *jones, size_t jones_count, double *list, size_t list_count);
+DIHKELU_MUST_USE uint64_t dihkelu_mueller_born_wolf(const double *jones, size_t jones_count, double *list,
+                                                    size_t list_count);
 
 #ifdef __cplusplus
 }

@@ -51,6 +51,18 @@ extern "C" {
         list: *mut f64,
         list_count: usize,
     ) -> u64;
+    fn dihkelu_to_mueller(
+        jones: *const f64,
+        jones_count: usize,
+        list: *mut f64,
+        list_count: usize,
+    ) -> u64;
+    fn dihkelu_mueller_born_wolf(
+        jones: *const f64,
+        jones_count: usize,
+        list: *mut f64,
+        list_count: usize,
+    ) -> u64;
 }
 
 /// The version that these declarations are of: major × 2^16 + minor.
@@ -68,6 +80,9 @@ pub const COATED: usize = 69;
 
 /// The most numbers that `stack` writes: 64 layers of 3.
 pub const STACK: usize = 192;
+
+/// How many numbers a Mueller matrix is.
+pub const MUELLER: usize = 16;
 
 /// A refusal of the documents.
 #[derive(Clone, Copy, Debug, PartialEq)]
@@ -163,6 +178,19 @@ pub fn stack(
             count,
         )
     })
+}
+
+/// The Mueller matrix of a Jones matrix of 8 numbers, m00, m01, m10, m11, each re, im, as the Rust's to_mueller gives
+/// it: writes it row after row, gives 16.
+pub fn to_mueller(jones: &[f64], list: &mut [f64]) -> Result<u32, Refusal> {
+    let (at, count) = (list.as_mut_ptr(), list.len());
+    outcome(unsafe { dihkelu_to_mueller(jones.as_ptr(), jones.len(), at, count) })
+}
+
+/// The same over Stokes vectors with S3 = 2 Im(Ex* Ey), after Born and Wolf.
+pub fn mueller_born_wolf(jones: &[f64], list: &mut [f64]) -> Result<u32, Refusal> {
+    let (at, count) = (list.as_mut_ptr(), list.len());
+    outcome(unsafe { dihkelu_mueller_born_wolf(jones.as_ptr(), jones.len(), at, count) })
 }
 
 /// Whether subnormals are kept and rounding is to nearest, as dihkelu_environment_ok of the header finds out. A Rust

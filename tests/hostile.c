@@ -215,6 +215,21 @@ static void stack_calls(void) {
     free(text);
 }
 
+/* Numbers of a Jones matrix, mostly 8 of them, by both conversions. */
+static void mueller_calls(void) {
+    typedef uint64_t Call(const double *, size_t, double *, size_t);
+    static Call *const calls_of[] = {dihkelu_to_mueller, dihkelu_mueller_born_wolf};
+    static const size_t around[] = {0, 15, 16, 17, 40};
+    size_t n = below(4) ? 8 : below(20);
+    double *jones = block(8 * n);
+    for (size_t i = 0; i < n; i++) jones[i] = any();
+    List l = lend(around[below(5)]);
+    uint64_t r = calls_of[below(2)](jones, n, (double *)l.now, l.count);
+    if (r != (n != 8 ? 1ull << 32 : l.count < DIHKELU_MUELLER ? 8ull << 32 : DIHKELU_MUELLER)) wrong("mueller", "another number", r);
+    leave("mueller", l, r, BIT(1) | BIT(8), DIHKELU_MUELLER);
+    free(jones);
+}
+
 static void expect(const char *call, uint64_t returned, uint64_t expected) {
     calls++;
     if (returned != expected) wrong(call, "another number for a null of count 0", returned);
@@ -243,6 +258,9 @@ static void null_calls(void) {
     expect("stack", dihkelu_stack(NULL, 0, 2.3, 1.46, 1.8, 550.0, NULL, 0), 9ull << 32);
     expect("stack", dihkelu_stack(NULL, 0, 0.0, 1.46, 1.8, 550.0, NULL, 0), 1ull << 32);
     expect("stack", dihkelu_stack((const uint8_t *)"H", 1, 2.3, 1.46, 1.8, 550.0, NULL, 0), eight);
+    expect("to_mueller", dihkelu_to_mueller(NULL, 0, NULL, 0), 1ull << 32);
+    expect("mueller_born_wolf", dihkelu_mueller_born_wolf(NULL, 0, NULL, 0), 1ull << 32);
+    expect("mueller_born_wolf", dihkelu_mueller_born_wolf(list, 8, NULL, 0), eight);
     for (uint32_t code = 1; code <= 8; code++) {
         expect("evaluate", dihkelu_evaluate(code, 550.0, 1.0, 1.5, 0.3, 550.0, NULL, 0, list, DIHKELU_RESPONSE), DIHKELU_RESPONSE);
         expect("evaluate", dihkelu_evaluate(code, 550.0, 1.0, 1.5, 0.3, 550.0, NULL, 0, NULL, 0), eight);
@@ -293,6 +311,7 @@ int main(int count, char **words) {
         sheet_calls(bytes, size);
         for (int i = 0; i < 16; i++) evaluate_calls();
         for (int i = 0; i < 16; i++) stack_calls();
+        for (int i = 0; i < 16; i++) mueller_calls();
     }
     /* one sheet cut off at every byte */
     size_t size = build(bytes, 2, 3);

@@ -71,7 +71,7 @@ class Compare(unittest.TestCase):
         return run(ORACLE, "feed", "--seed", "1", "--count", "300", "--only", groups, *more, "--", "tools/run", program)
 
     def test_records(self):
-        for program, groups in [("test_replay", "elementary"), ("test_replay_films", "thin_film,names"), ("test_replay_shorthand", "shorthand"), ("test_replay_train", "sheet,train")]:
+        for program, groups in [("test_replay", "elementary"), ("test_replay_films", "thin_film,names"), ("test_replay_shorthand", "shorthand"), ("test_replay_born_wolf", "born_wolf"), ("test_replay_train", "sheet,train")]:
             with self.subTest(program):
                 self.assertEqual(self.feed(program, groups)[0], 0)
                 for spoiled in ["0", "150", "299"]:
@@ -95,7 +95,7 @@ class Compare(unittest.TestCase):
         self.assertEqual(run(ORACLE, "compare", "--count", "100")[0], 0)
         self.assertEqual(run(ORACLE, "compare", "--count", "0")[0], 1)
         status, out, _ = run(ORACLE, "compare", "--count", "100", "--spoil", "5")
-        self.assertEqual((status, out.count("99 of 100 agree"), out.count("9 of 10 sheets agree")), (1, 8, 1), out)
+        self.assertEqual((status, out.count("99 of 100 agree"), out.count("9 of 10 sheets agree")), (1, 11, 1), out)
 
     def test_counts(self):
         for words in [["x"], ["1", "many"], ["1", "9"], ["1", "0"]]:

@@ -1,4 +1,5 @@
-/* Document 01's sheet from C: gate, start, steps, the answers of its surface, a whole run; and a stack in shorthand. */
+/* Document 01's sheet from C: gate, start, steps, the answers of its surface, a whole run; a stack in shorthand;
+ * Mueller matrices of empty space. */
 #include <inttypes.h>
 #include <stdio.h>
 #include <stdlib.h>
@@ -77,6 +78,13 @@ int main(void) {
     answered("evaluate", dihkelu_evaluate(5, 0.0, 1.0, 1.52, 0.0, 1064.0, layers, numbers, response, DIHKELU_RESPONSE));
     printf("as a mirror R_s %g\n", response[8]);
     print_refusal("stack", dihkelu_stack((const uint8_t *)"H^32H", 5, 2.3, 1.46, 1.8, 1064.0, layers, DIHKELU_STACK));
+
+    static const double empty[8] = {1.0, 0.0, 0.0, 0.0, 0.0, 0.0, 1.0, 0.0};
+    double mueller[DIHKELU_MUELLER];
+    answered("to_mueller", dihkelu_to_mueller(empty, 8, mueller, DIHKELU_MUELLER));
+    printf("empty space: [3][3] %g by the Rust's signs", mueller[15]);
+    answered("mueller_born_wolf", dihkelu_mueller_born_wolf(empty, 8, mueller, DIHKELU_MUELLER));
+    printf(", %g by Born and Wolf's\n", mueller[15]);
 
     sheet[0] = 0;
     print_refusal("gate", dihkelu_gate(sheet, sizeof sheet));

@@ -1,10 +1,12 @@
-//! Document 01's sheet from Rust: gate, start, steps, the answers of its surface, a whole run; and a stack in shorthand.
+//! Document 01's sheet from Rust: gate, start, steps, the answers of its surface, a whole run; a stack in shorthand;
+//! Mueller matrices of empty space.
 
 #[path = "../../include/dihkelu.rs"]
 mod dihkelu;
 
 use dihkelu::{
-    answers, environment_ok, evaluate, gate, run, stack, start, step, version, Refusal, COATED, RESPONSE, STACK, VERSION,
+    answers, environment_ok, evaluate, gate, mueller_born_wolf, run, stack, start, step, to_mueller, version, Refusal, COATED,
+    MUELLER, RESPONSE, STACK, VERSION,
 };
 
 fn main() -> Result<(), Refusal> {
@@ -50,6 +52,12 @@ fn main() -> Result<(), Refusal> {
     if let Err(refusal) = stack(b"H^32H", [2.3, 1.46, 1.8], 1064.0, &mut layers) {
         println!("stack: refused {} {}", refusal.number, refusal.place);
     }
+
+    let empty = [1.0, 0.0, 0.0, 0.0, 0.0, 0.0, 1.0, 0.0];
+    let (mut rust, mut born_wolf) = ([0.0; MUELLER], [0.0; MUELLER]);
+    to_mueller(&empty, &mut rust)?;
+    mueller_born_wolf(&empty, &mut born_wolf)?;
+    println!("empty space: [3][3] {} by the Rust's signs, {} by Born and Wolf's", rust[15], born_wolf[15]);
 
     sheet[0] = 0;
     if let Err(refusal) = gate(&sheet) {

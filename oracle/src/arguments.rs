@@ -69,6 +69,10 @@ pub enum Arg {
     AnyCode,
     /// A part that is whole and at most 1,024 in size.
     Whole,
+    /// The length of a list that holds a Mueller matrix.
+    MatrixRoom,
+    /// A Jones matrix as a count of numbers and the numbers, seldom other than 8.
+    Matrix,
     /// Layers as a count of numbers, then n, k and thickness one after the other; the last layer may be cut off.
     Flat,
 }
@@ -202,6 +206,8 @@ impl Arg {
             Arg::StackRoom => words.push(rng.pick(&exports::STACK_ROOMS)),
             Arg::AnyCode if rng.one_in(10) => words.push(rng.pick(&[0, 9, u64::from(u32::MAX)])),
             Arg::AnyCode => Arg::Code.push(rng, style, words),
+            Arg::MatrixRoom => words.push(rng.pick(&exports::MATRIX_ROOMS)),
+            Arg::Matrix => exports::push_matrix(rng, style, words),
             Arg::Whole => words.push(born_wolf::whole(rng).to_bits()),
             Arg::Flat => exports::push_flat(rng, style, words),
             _ => words.push(self.float(rng, style).to_bits()),

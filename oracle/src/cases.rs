@@ -53,6 +53,8 @@ impl Arg {
             Arg::Room => single(&exports::ROOMS),
             Arg::StackRoom => single(&exports::STACK_ROOMS),
             Arg::AnyCode => single(&[0, 1, 2, 3, 4, 5, 6, 7, 8, 9, u64::from(u32::MAX)]),
+            Arg::MatrixRoom => single(&exports::MATRIX_ROOMS),
+            Arg::Matrix => exports::matrix_cases(),
             Arg::Whole => born_wolf::wholes().map(|x| vec![x.to_bits()]).to_vec(),
             Arg::Flat => exports::flat_cases(),
             _ => CORE.iter().map(|x| vec![x.to_bits()]).collect(),

@@ -1,11 +1,13 @@
 // The train through the static library `dihkelu`: gate, start, step, whole run and answers, held against `sheet` and
 // `train`, with what a refusal leaves in the lent list.
 
-use crate::arguments::random;
+use crate::arguments::{random, Arg};
 use crate::dihkelu;
-use crate::functions::exports::stack;
+use crate::functions::born_wolf::to_mueller_born_wolf;
+use crate::functions::exports::{mueller, stack};
 use crate::progress::Progress;
 use crate::record::{bits, numbers, Arguments};
+use crate::reference::polarization::JonesMatrix;
 use crate::sheet::{gate, Refusal};
 use crate::sheets::sheet;
 use crate::train::{answers, run, start, step, Light, State};
@@ -48,6 +50,14 @@ pub fn linked_evaluate(
 /// `n` is the index of H, of L and of M.
 pub fn linked_stack(text: &[u8], n: [f64; 3], design: f64, list: &mut [f64]) -> u64 {
     returned(dihkelu::stack(text, n, design, list))
+}
+
+/// Both conversions, the Rust's first.
+pub fn linked_muellers() -> [fn(&[f64], &mut [f64]) -> u64; 2] {
+    [
+        |jones, list| returned(dihkelu::to_mueller(jones, list)),
+        |jones, list| returned(dihkelu::mueller_born_wolf(jones, list)),
+    ]
 }
 
 fn returned(outcome: Result<u32, dihkelu::Refusal>) -> u64 {
@@ -249,6 +259,35 @@ pub fn compare_stacks(seed: u64, count: u64, spoiled: Option<u64>) -> u64 {
                 println!("stack: {text:02X?}, arguments {words:X?}, returned {returned:X}, not {number:X}");
             }
             different += 1;
+        }
+        progress.step();
+    }
+    different
+}
+
+/// Holds `dihkelu_to_mueller` against the Rust and `dihkelu_mueller_born_wolf` against 02 slip 8 on `count` Jones matrices,
+/// some of which have not 8 numbers. Returns how many of each differ.
+pub fn compare_muellers(seed: u64, count: u64, spoiled: Option<u64>) -> [u64; 2] {
+    let conversions = [|j: &JonesMatrix| j.to_mueller(), to_mueller_born_wolf];
+    let linked = linked_muellers();
+    let mut rng = Rng::new(seed);
+    let mut progress = Progress::new("Mueller matrices", count);
+    let mut different = [0; 2];
+    for made in 0..count {
+        let words = random(&[Arg::Matrix], &mut rng);
+        let numbers: Vec<f64> = words[1..].iter().map(|w| f64::from_bits(*w)).collect();
+        for (i, conversion) in conversions.into_iter().enumerate() {
+            let room = rng.pick(&[0, 15, 16, 16, 16, 20]);
+            let mut list = filled(room);
+            let returned = linked[i](&numbers, &mut list);
+            let (number, written) = expected(mueller(&numbers, conversion), room);
+            let number = number ^ u64::from(spoiled == Some(made));
+            if !left(returned, number, &list, &written) {
+                if different[i] == 0 {
+                    println!("Mueller matrix: {words:X?}, returned {returned:X}, not {number:X}");
+                }
+                different[i] += 1;
+            }
         }
         progress.step();
     }

@@ -154,8 +154,9 @@ fn agree(name: &str, count: u64, different: u64, what: &str) -> bool {
 }
 
 /// Holds the library against section 2 on `count` arguments for each function, against `SurfaceCoating::evaluate` on
-/// as many, against the stack shorthand on as many, and against the train on a tenth as many sheets. Returns whether all agree. What is expected of call
-/// number `spoiled` of each is wrong, so that the comparison can be tried itself.
+/// as many, against the stack shorthand and both Mueller matrices on as many, and against the train on a tenth as many
+/// sheets. Returns whether all agree. What is expected of call number `spoiled` of each is wrong, so that the comparison
+/// can be tried itself.
 pub fn compare(seed: u64, count: u64, spoiled: Option<u64>) -> Option<bool> {
     use crate::arguments::{random, Arg};
     use crate::record::bits;
@@ -199,6 +200,9 @@ pub fn compare(seed: u64, count: u64, spoiled: Option<u64>) -> Option<bool> {
         all_agree &= agree("evaluate", count, different, "");
         let different = crate::exports::compare_stacks(seed, count, spoiled);
         all_agree &= agree("stack", count, different, "");
+        let [rust, born_wolf] = crate::exports::compare_muellers(seed, count, spoiled);
+        all_agree &= agree("to_mueller", count, rust, "");
+        all_agree &= agree("mueller_born_wolf", count, born_wolf, "");
         let sheets = (count / 10).max(count.min(1));
         let (calls, different) = crate::exports::compare_trains(seed, sheets, spoiled);
         all_agree &= agree(

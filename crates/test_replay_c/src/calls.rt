@@ -99,6 +99,48 @@ fn stack_call(n: usize, a: &[u8], out: &mut [u64; 256]) -> usize {
     returned(out, number, &list, n)
 }
 
+// Ten numbers, the first of which is the third of the record.
+fn numbers_at(a: &[u8]) -> [f64; 10] {
+    [
+        test_records::float_at(a, 2),
+        test_records::float_at(a, 3),
+        test_records::float_at(a, 4),
+        test_records::float_at(a, 5),
+        test_records::float_at(a, 6),
+        test_records::float_at(a, 7),
+        test_records::float_at(a, 8),
+        test_records::float_at(a, 9),
+        test_records::float_at(a, 10),
+        test_records::float_at(a, 11),
+    ]
+}
+
+fn to_mueller_call(n: usize, count: usize, a: &[u8], out: &mut [u64; 256]) -> usize {
+    let mut list = [-7.25f64; 200];
+    let numbers = numbers_at(a);
+    if n > 200 {
+        return 0;
+    }
+    if count > 10 {
+        return 0;
+    }
+    let number = dihkelu::dihkelu_to_mueller(&numbers[..count], &mut list[..n]);
+    returned(out, number, &list, n)
+}
+
+fn born_wolf_call(n: usize, count: usize, a: &[u8], out: &mut [u64; 256]) -> usize {
+    let mut list = [-7.25f64; 200];
+    let numbers = numbers_at(a);
+    if n > 200 {
+        return 0;
+    }
+    if count > 10 {
+        return 0;
+    }
+    let number = dihkelu::dihkelu_mueller_born_wolf(&numbers[..count], &mut list[..n]);
+    returned(out, number, &list, n)
+}
+
 fn float_out(out: &mut [u64; 256], x: f64) -> usize {
     out[0] = test_records::bits(x);
     1
@@ -120,6 +162,8 @@ pub fn call(f: usize, a: &[u8], out: &mut [u64; 256]) -> usize {
         184 => answers_call(n, done, test_records::bytes_at(a, 2), out),
         185 => evaluate_call(n, a, out),
         186 => stack_call(n, a, out),
+        187 => to_mueller_call(n, done as usize, a, out),
+        188 => born_wolf_call(n, done as usize, a, out),
         190 => float_out(out, c_scalars::dihkelu_sqrt(x)),
         191 => float_out(out, c_scalars::dihkelu_sin(x)),
         192 => float_out(out, c_scalars::dihkelu_cos(x)),

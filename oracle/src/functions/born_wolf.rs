@@ -21,7 +21,10 @@ const COLUMNS: [Column; 4] = [
 ];
 
 fn conjugate(z: Complex) -> Complex {
-    Complex { re: z.re, im: -z.im }
+    Complex {
+        re: z.re,
+        im: -z.im,
+    }
 }
 
 /// S0 = |Ex|² + |Ey|², S1 = |Ex|² - |Ey|², S2 = 2·Re(Ex·Ey*), S3 = 2·Im(Ex*·Ey).

@@ -3,9 +3,11 @@
 
 use crate::arguments::Arg::{self, *};
 use crate::arguments::Style;
+use crate::functions::born_wolf::to_mueller_born_wolf;
 use crate::functions::thin_film::surface_coating;
 use crate::functions::{shorthand, Function};
 use crate::record::{absorptance, Arguments, Words};
+use crate::reference::polarization::{JonesMatrix, MuellerMatrix};
 use crate::reference::thin_film::{CoatingResponse, ThinFilmLayer};
 use crate::section2;
 use crate::sheet::{gate, Refusal};
@@ -125,6 +127,24 @@ pub fn stack(text: &[u8], n: [f64; 3], design: f64) -> Result<(u64, Vec<f64>), R
     Ok((list.len() as u64, list))
 }
 
+/// A count, then so many numbers.
+fn floats(a: &mut Arguments) -> Vec<f64> {
+    (0..a.int()).map(|_| a.float()).collect()
+}
+
+/// The Mueller matrix of a Jones matrix by its numbers, row after row; 1 where there are not 8.
+pub fn mueller(
+    numbers: &[f64],
+    conversion: fn(&JonesMatrix) -> MuellerMatrix,
+) -> Result<(u64, Vec<f64>), Refusal> {
+    let words: Vec<u64> = numbers.iter().map(|x| x.to_bits()).collect();
+    if words.len() != 8 {
+        return Err(refused(1));
+    }
+    let jones = Arguments::new(&words).jones();
+    Ok((16, conversion(&jones).m.concat()))
+}
+
 pub fn table() -> Vec<Function> {
     let export = |number, name, args: &'static [Arg], weight, call: Call| Function {
         number,
@@ -173,8 +193,7 @@ pub fn table() -> Vec<Function> {
             |a, r| {
                 let (room, code, design) = (a.int(), a.int(), a.float());
                 let at = a.floats();
-                let flat: Vec<f64> = (0..a.int()).map(|_| a.float()).collect();
-                leave(r, room, evaluate(code, design, at, &flat));
+                leave(r, room, evaluate(code, design, at, &floats(a)));
             },
         ),
         export(
@@ -185,6 +204,26 @@ pub fn table() -> Vec<Function> {
             |a, r| {
                 let (room, [h, l, m, design]) = (a.int(), a.floats());
                 leave(r, room, stack(&a.bytes(), [h, l, m], design));
+            },
+        ),
+        export(
+            187,
+            "dihkelu_to_mueller",
+            &[MatrixRoom, Matrix],
+            1,
+            |a, r| {
+                let (room, numbers) = (a.int(), floats(a));
+                leave(r, room, mueller(&numbers, |jones| jones.to_mueller()));
+            },
+        ),
+        export(
+            188,
+            "dihkelu_mueller_born_wolf",
+            &[MatrixRoom, Matrix],
+            1,
+            |a, r| {
+                let (room, numbers) = (a.int(), floats(a));
+                leave(r, room, mueller(&numbers, to_mueller_born_wolf));
             },
         ),
         export(190, "dihkelu_sqrt", &[Square], 4, |a, r| {
@@ -209,6 +248,25 @@ pub fn table() -> Vec<Function> {
             r.float(section2::atan2(a.float(), a.float()));
         }),
     ]
+}
+
+/// Lengths of a list at the ends of what a Mueller matrix needs.
+pub const MATRIX_ROOMS: [u64; 6] = [0, 15, 16, 16, 17, 20];
+
+/// The numbers of a Jones matrix behind their count; one in eight has too few or too many.
+pub fn push_matrix(rng: &mut Rng, style: Style, words: &mut Vec<u64>) {
+    let count = if rng.one_in(8) { rng.below(11) } else { 8 };
+    words.push(count as u64);
+    for _ in 0..count {
+        Part.push(rng, style, words);
+    }
+}
+
+/// Every count up to 10.
+pub fn matrix_cases() -> Vec<Vec<u64>> {
+    let numbers = |count: u64| (1..=count).map(|i| (i as f64 / 4.0).to_bits());
+    let case = |count: u64| std::iter::once(count).chain(numbers(count)).collect();
+    (0..=10).map(case).collect()
 }
 
 /// Layers in a flat list; one in eight has its last layer cut off.
