@@ -1,0 +1,5 @@
+-- Commuting operations, sums with zeros, and the two laws.
+pub mod Commute
+pub mod Keeps
+pub mod Order
+pub mod Sharp

@@ -1,0 +1,3 @@
+-- The order of two plates, and the identity.
+pub mod Order
+pub mod Sharp
