@@ -14,6 +14,7 @@ pub mod exports;
 pub mod feed;
 pub mod findings;
 pub mod functions;
+pub mod laws;
 pub mod measure;
 pub mod progress;
 pub mod proved;

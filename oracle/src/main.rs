@@ -1,6 +1,8 @@
 // The commands of the oracle: see README.md.
 
-use oracle::{bench, examples, feed, findings, functions, measure, proved, sheets, train, values};
+use oracle::{
+    bench, examples, feed, findings, functions, laws, measure, proved, sheets, train, values,
+};
 use std::fs;
 use std::io::{self, BufReader, Read, Write};
 use std::path::Path;
@@ -19,6 +21,7 @@ oracle findings
 oracle bench [--runs N]
 oracle compare [--seed S] [--count N] [--spoil I]
 oracle measure [--seed S] [--count N]
+oracle laws [--seed S] [--count N] [--spoil I]
 groups: ieee elementary complex thin_film fresnel polarization names sheet train exports shorthand born_wolf";
 
 /// The options of all commands.
@@ -154,6 +157,11 @@ fn execute(command: &str, options: &Options) -> Result<bool, String> {
             let found = measure::measure(seed, options.count.unwrap_or(1_000_000));
             print!("{}", found.table());
             Ok(found.sound())
+        }
+        "laws" => {
+            let seen = laws::laws(seed, options.count.unwrap_or(1_000_000), options.spoiled);
+            print!("{}", seen.table());
+            Ok(seen.hold())
         }
         "compare" => proved::compare(seed, options.count.unwrap_or(1_000_000), options.spoiled)
             .ok_or("compare needs a build with the feature `proved`".to_string()),

@@ -7,6 +7,7 @@ mod exports;
 mod feed;
 mod findings;
 mod known;
+mod laws;
 mod measure;
 mod records;
 mod scalar;
