@@ -212,6 +212,20 @@ fn jones_and_stokes() -> Vec<Finding> {
     let all = format!("{}, {}, {}, {}", large.s0, large.s1, large.s2, large.s3);
     let degree = |s0: f64, s1: f64| StokesVector::new(s0, s1, 0.0, 0.0).degree_of_polarization();
     let zero = MuellerMatrix::identity().apply(StokesVector::new(1.0, -0.0, 0.0, 0.0));
+    let both = |x: f64| Complex::new(x, x);
+    let orders = |a: JonesMatrix, b: JonesMatrix| [a.mul(&b).m[0][1], b.mul(&a).m[0][1]];
+    let diagonal = |x: Complex, y: Complex| JonesMatrix::diattenuator(x, y);
+    let plates = orders(
+        diagonal(both(-1.0), both(1.0)),
+        diagonal(both(1.0), both(-1.0)),
+    );
+    let (one, none) = (Complex::real(1.0), Complex::zero());
+    let turn = JonesMatrix {
+        m: [[none, one], [none, none]],
+    };
+    let turned = orders(diagonal(one, none), turn);
+    let endless_plate =
+        JonesMatrix::identity().mul(&diagonal(Complex::real(f64::INFINITY), none));
     let [_, rp, ..] = bare([1.0, 1.5, 2.0]);
     let endless = surface_fresnel_jones(1.0, 1.5, f64::INFINITY).is_err();
     vec![
@@ -285,6 +299,21 @@ fn jones_and_stokes() -> Vec<Finding> {
             "the Mueller identity's S1 of -0",
             hex(zero.s1),
             "0x0000000000000000",
+        ),
+        finding(
+            "diag(-1 - i, 1 + i) and diag(1 + i, -1 - i) in either order, [0][1], imaginary",
+            format!("{} and {:+}", plates[0].im, plates[1].im),
+            "-0 and +0",
+        ),
+        finding(
+            "diag(1, 0) and [[0, 1], [0, 0]] in either order, [0][1]",
+            format!("{} and {}", turned[0].re, turned[1].re),
+            "1 and 0",
+        ),
+        finding(
+            "identity times diag(∞, 0), [0][0], imaginary",
+            endless_plate.m[0][0].im,
+            "NaN",
         ),
         finding(
             "rp, 1 to 1.5 at 2, Fresnel",
