@@ -7,7 +7,7 @@ use lib.Dec.{eqb, lit<}
 use lib.ListN.{length}
 use lib.Ieee.{Float}
 use borrow.Author.Tests.{eq-eqb, ne-eqb}
-use Rattle.refusal.specs.Outcome.{Outcome, answer, invalid-parameter}
+use Rattle.refusal.specs.Outcome.{answer, invalid-parameter}
 use Rattle.polarization_mueller.specs.declared.JonesMatrix.{JonesMatrix}
 use Rattle.polarization_mueller.specs.declared.MuellerMatrix.{MuellerMatrix}
 use Rattle.c_call.specs.Call.{Done, done, packed, written, answered}

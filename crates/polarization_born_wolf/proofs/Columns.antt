@@ -1,133 +1,254 @@
--- The four columns of a diagonal matrix with whole parts. Assumes nothing.
-use mathlib.Core.Path.{_≡_, refl, sym, subst}
-use mathlib.Core.List.{[], _∷_}
-use Prim.Native.Nat.{ℕ, _^_}
-use lib.Dec.{T, lit≤, lit<}
-use lib.IntN.{ℤ, pos, negsuc}
-use lib.Ieee.{Float, nan, ofBits}
+-- The four columns of a diagonal matrix. Assumes nothing.
+use mathlib.Core.Path.{_≡_, refl, sym, ap, ap₂, _∙_, subst}
+use Prim.Native.Nat.{ℕ}
+use lib.Dec.{T, lit≤}
+use lib.Ieee.{Float, nan, neg, fits, ofBits}
 use Rattle.ieee.specs.Operators.{_⊕_, _⊖_, _⊗_}
-use Rattle.ieee.specs.Functions.{zero-f}
+use Rattle.ieee.specs.Functions.{zero-f, one, two, half, quarter}
+use Rattle.ieee.specs.Range.{Pow}
+use Rattle.ieee.proofs.Range.Laws.{sub-is}
+use Rattle.ieee.proofs.Range.Constants.{zero-mag}
+use Rattle.ieee.proofs.Range.Zero.{zero-mul-mag, sub-self-mag}
+use Rattle.ieee.proofs.Range.Powers.{of-pow, pow-up, neg-pow}
+use Rattle.math_trig.proofs.Opposites.{neg-neg, mul-neg, square-neg, add-neg, sub-neg, sub-opposite}
 use Rattle.thin_film_complex.specs.declared.Complex.{Complex}
 use Rattle.thin_film_complex.specs.Complex as C
-use Rattle.polarization_stokes.specs.BornWolf.{Arithmetic, Number, Parameters, modulus-squared, exact}
-use Rattle.polarization_mueller.specs.Jones as J
-use Rattle.polarization_mueller.specs.Mueller as M
+use Rattle.polarization_stokes.specs.declared.StokesVector.{StokesVector}
 use Rattle.polarization_value.specs.Value.{same, SameMueller}
-use Rattle.polarization_value.proofs.Laws.{of-eq, more, nil, each-at}
-use Rattle.whole_ring.proofs.Solver.{Ex, con, opp, identity, left, eval}
-use Rattle.whole_f64.proofs.Bounds.{Within, within-add, within-sub, within-mul, within-neg, within-equal, wider, finer}
-use Rattle.polarization_born_wolf.specs.Conversion.{from-six, to-mueller-born-wolf}
-use Rattle.polarization_born_wolf.specs.Claim.{Whole, WholeMatrix, diagonal}
-use Rattle.polarization_born_wolf.proofs.Identity as I
-use Rattle.polarization_born_wolf.proofs.Identity.{written}
-use Rattle.polarization_born_wolf.proofs.Parts.{Both, whole-both, is-zero, zero-quarters}
-use Rattle.polarization_born_wolf.proofs.Exact.{mean-is, half-gap-is, quarter-gap-is, six}
+use Rattle.polarization_value.proofs.Laws.{more, nil, each-at}
+use Rattle.polarization_mueller.specs.Jones.{diattenuator}
+use Rattle.polarization_value.proofs.Commute.{product-comm, sum-comm-f}
+use Rattle.polarization_value.proofs.Keeps.{Zero, zero-sum, zero-difference, Keeps, kept, zeros, keeps-sum, keeps-difference, keeps-same, same-zeros}
+use Rattle.polarization_born_wolf.specs.Conversion.{complex, transformed, from-six, to-mueller-born-wolf}
+use Rattle.polarization_born_wolf.specs.Claim.{Moderate, diagonal}
+use Rattle.polarization_born_wolf.proofs.Near.{Near, itself, retarget, keeps-opposite, near-add, near-sub, near-mul, near-neg}
+use Rattle.polarization_born_wolf.proofs.Fourfold.{fourfold}
+use Rattle.polarization_born_wolf.proofs.Beams.{two-held, two-pow, norm, cosine, sine, NearStokes, after-zero, less-after-zero, of-x, of-y, of-plus, of-minus, of-plus-i, of-minus-i}
 
--- ---- the entries of a row and what they come to, in any arithmetic
-module _ {A : Type 0} (K : Arithmetic A) (unit : ℤ → A) (p s : Number A) where
-  abbrev to : ℤ → ℤ → ℤ → ℤ → Parameters A
-  to a b c d = I.response K unit p (I.number K unit (pos 0) (pos 0)) (I.number K unit (pos 0) (pos 0)) s (I.number K unit a b) (I.number K unit c d)
+-- ---- the constants
+half-near : Near 0 half half
+unfolding ofBits fits
+half-near = record { held = tt; size = record { fine = tt; most = lit≤ tt }; keeps = kept }
 
-  abbrev first : (Parameters A → A) → A
-  first f = I.once K unit (K .plus (f (to (pos 1) (pos 0) (pos 0) (pos 0))) (f (to (pos 0) (pos 0) (pos 1) (pos 0))))
+quarter-near : Near 0 quarter quarter
+unfolding ofBits fits
+quarter-near = record { held = tt; size = record { fine = tt; most = lit≤ tt }; keeps = kept }
 
-  abbrev second : (Parameters A → A) → A
-  second f = I.once K unit (K .minus (f (to (pos 1) (pos 0) (pos 0) (pos 0))) (f (to (pos 0) (pos 0) (pos 1) (pos 0))))
+-- ---- products with an opposite
+neg-right : (x y : Float) → x ⊗ neg y ≡ neg (x ⊗ y)
+neg-right x y = product-comm x (neg y) ∙ mul-neg y x ∙ ap neg (product-comm y x)
 
-  abbrev third : (Parameters A → A) → A
-  third f = I.once K unit (K .minus (f (to (pos 1) (pos 0) (pos 1) (pos 0))) (f (to (pos 1) (pos 0) (negsuc 0) (pos 0))))
+keeps-zero : {x r : Float} → Zero x → Keeps x r → Zero r
+keeps-zero p kept = p
+keeps-zero p (zeros q q') = q'
 
-  abbrev fourth : (Parameters A → A) → A
-  fourth f = I.once K unit (K .minus (f (to (pos 1) (pos 0) (pos 0) (pos 1))) (f (to (pos 1) (pos 0) (pos 0) (negsuc 0))))
+-- ---- the entries of a row
+half-sum : {x y p q : Float} → Near 1002 x p → Near 1002 y q → Keeps (half ⊗ (x ⊕ y)) (half ⊗ (p ⊕ q))
+half-sum h g = near-mul half-near (near-add h g (lit≤ tt)) (lit≤ tt) .keeps
 
-  abbrev sum : A
-  sum = I.once K unit (K .plus (modulus-squared K p) (modulus-squared K s))
+half-difference : {x y p q : Float} → Near 1002 x p → Near 1002 y q → Keeps (half ⊗ (x ⊖ y)) (half ⊗ (p ⊖ q))
+half-difference h g = near-mul half-near (near-sub h g (lit≤ tt)) (lit≤ tt) .keeps
 
-  abbrev gap : A
-  gap = I.once K unit (K .minus (modulus-squared K p) (modulus-squared K s))
+half-nothing : {p q : Float} → Zero p → Zero q → Zero (half ⊗ (p ⊕ q)) × Zero (half ⊗ (p ⊖ q))
+half-nothing {p} {q} h g = (halved (zero-sum h g), halved (zero-difference h g))
+  where
+    halved : {x : Float} → Zero x → Zero (half ⊗ x)
+    halved {x} h = subst Zero (product-comm x half) (zero-mul-mag h (of-pow (half-near .size)))
 
-  -- Re and Im of p*·s
-  abbrev cosine : A
-  cosine = K .plus (K .times (p .re) (s .re)) (K .times (p .im) (s .im))
+nothing-left : {x p q : Float} → Near 1002 x p → Near 1002 x q → Zero (quarter ⊗ (p ⊖ q))
+nothing-left {x} h g =
+    let d = near-sub h g (lit≤ tt) in
+    near-zero (near-mul quarter-near d (lit≤ tt)) (subst Zero (product-comm (x ⊖ x) quarter) (zero-mul-mag (sub-self-mag x (h .size .fine)) (of-pow (quarter-near .size))))
+  where
+    near-zero : {k : ℕ} {y r : Float} → Near k y r → Zero y → Zero r
+    near-zero h p = keeps-zero p (h .keeps)
 
-  abbrev sine : A
-  sine = K .minus (K .times (p .re) (s .im)) (K .times (p .im) (s .re))
+fourth-of : (y : Float) {p q : Float} → Near 1001 y y → Near 1002 (two ⊗ y) p → Near 1002 (neg (two ⊗ y)) q → Keeps y (quarter ⊗ (p ⊖ q))
+fourth-of y {p} {q} s h g =
+    let d = subst (λ (x : Float). Near 1003 x (p ⊖ q)) (sub-opposite (two ⊗ y) (two ⊗ y)) (near-sub h g (lit≤ tt)) in
+    subst (λ (x : Float). Keeps x (quarter ⊗ (p ⊖ q))) (fourfold y (record { fine = s .size .fine; held = s .held }) (pow-up (s .size) (lit≤ tt))) (near-mul quarter-near d (lit≤ tt) .keeps)
 
-  abbrev in-quarters : A → A
-  in-quarters x = K .times x (unit (pos 4))
+-- twice what is the opposite of y, up to the sign of a zero
+doubled : (y : Float) {e r : Float} → Near 1001 y y → Keeps (neg y) e → Near 1002 (two ⊗ e) r → Near 1002 (neg (two ⊗ y)) r
+doubled y {e} {r} s k h =
+    let n : Near 1001 (neg y) e = record { held = near-neg s .held; size = near-neg s .size; keeps = k } in
+    let t = subst (λ (x : Float). Near 1002 x (two ⊗ e)) (neg-right two y) (near-mul (itself two-held two-pow) n (lit≤ tt)) in
+    retarget h (t .held) (t .size) (t .keeps)
 
--- ---- as expressions in four variables
-abbrev P : Number Ex
-P = I.at 0 1
+-- ---- the matrix
+module _ (tx ty : Complex) (h : Moderate tx) (g : Moderate ty) where
+  na : Near 500 (tx .re) (tx .re)
+  na = itself (h .finite .re .held) (h .re)
 
-abbrev S : Number Ex
-S = I.at 2 3
+  nb : Near 500 (tx .im) (tx .im)
+  nb = itself (h .finite .im .held) (h .im)
 
-abbrev same-z : ℤ → ℤ
-same-z x = x
+  nc : Near 500 (ty .re) (ty .re)
+  nc = itself (g .finite .re .held) (g .re)
 
-law : (p s : Number ℤ) (a b : Ex) → T (left a b) → eval (p .re ∷ p .im ∷ s .re ∷ s .im ∷ []) a ≡ eval (p .re ∷ p .im ∷ s .re ∷ s .im ∷ []) b
-law p s a b t = identity a b t (p .re ∷ p .im ∷ s .re ∷ s .im ∷ [])
+  nd : Near 500 (ty .im) (ty .im)
+  nd = itself (g .finite .im .held) (g .im)
 
-agree : {k b c : ℕ} {x y : Float} {z w : ℤ} → Within k b x z → Within k c y w → z ≡ w → T (same x y)
-agree {k} {b} {c} {x} {y} h g e = of-eq x y (within-equal h (subst (λ (v : ℤ). Within k c y v) (sym e) g))
+  X : Near 1001 (norm tx) (norm tx)
+  X = near-add (near-mul na na (lit≤ tt)) (near-mul nb nb (lit≤ tt)) (lit≤ tt)
 
-abbrev none : Number ℤ
-none = record { re = pos 0; im = pos 0 }
+  Y : Near 1001 (norm ty) (norm ty)
+  Y = near-add (near-mul nc nc (lit≤ tt)) (near-mul nd nd (lit≤ tt)) (lit≤ tt)
 
-zero-halves : Within 1 0 zero-f (pos 0)
-unfolding ofBits
-zero-halves = record { is = record { fine = tt; size = refl; sign = refl }; most = lit≤ tt }
+  Cos : Near 1001 (cosine tx ty) (cosine tx ty)
+  Cos = near-add (near-mul na nc (lit≤ tt)) (near-mul nb nd (lit≤ tt)) (lit≤ tt)
 
-module _ (tx ty : Complex) (p s : Number ℤ) (h : Whole tx p) (g : Whole ty s) where
-  whole-zero : Whole C.zero none
-  whole-zero = record { re = is-zero .is; im = is-zero .is; re-most = lit≤ tt; im-most = lit≤ tt }
+  Sin : Near 1001 (sine tx ty) (sine tx ty)
+  Sin = near-sub (near-mul na nd (lit≤ tt)) (near-mul nb nc (lit≤ tt)) (lit≤ tt)
 
-  matrix : WholeMatrix (J.diattenuator tx ty) p none none s
-  unfolding J.diattenuator
-  matrix = record { m00 = h; m01 = whole-zero; m10 = whole-zero; m11 = g }
+  wide : {x : Float} → Near 1001 x x → Pow 1002 x
+  wide n = pow-up (n .size) (lit≤ tt)
 
-  H : Both 1024 tx p
-  H = whole-both h
+  -- (1, 0) and (0, 1)
+  no-norm : Zero (norm C.zero)
+  no-norm = zero-sum (zero-mul-mag zero-mag zero-mag) (zero-mul-mag zero-mag zero-mag)
 
-  G : Both 1024 ty s
-  G = whole-both g
+  x0 : Near 1002 (norm tx) (transformed (diattenuator tx ty) (complex one zero-f) (complex zero-f zero-f) .s0)
+  x0 = retarget (of-x tx ty h g .s0) (X .held) (wide X) (keeps-sum (norm tx) (norm C.zero) (X .held) no-norm)
 
-  norm-is : {z : Complex} {w : Number ℤ} → Both 1024 z w → Within 0 (2 ^ 26) (C.norm-sq z) (modulus-squared exact w)
-  unfolding C.norm-sq
-  norm-is b = wider (within-add (within-mul (b .re) (b .re) (lit< tt) (lit≤ tt)) (within-mul (b .im) (b .im) (lit< tt) (lit≤ tt)) (lit< tt) (lit≤ tt)) (lit≤ tt)
+  x1 : Near 1002 (norm tx) (transformed (diattenuator tx ty) (complex one zero-f) (complex zero-f zero-f) .s1)
+  x1 = retarget (of-x tx ty h g .s1) (X .held) (wide X) (keeps-difference (X .held) no-norm)
 
-  sum-is : Within 1 (2 ^ 27) (M.mean (C.norm-sq tx) (C.norm-sq ty)) (sum exact same-z p s)
-  sum-is = mean-is (norm-is H) (norm-is G)
+  y0 : Near 1002 (norm ty) (transformed (diattenuator tx ty) (complex zero-f zero-f) (complex one zero-f) .s0)
+  y0 = retarget (of-y tx ty h g .s0) (Y .held) (wide Y) (after-zero (Y .held) no-norm)
 
-  gap-is : Within 1 (2 ^ 27) (M.half-gap (C.norm-sq tx) (C.norm-sq ty)) (gap exact same-z p s)
-  gap-is = half-gap-is (norm-is H) (norm-is G)
+  y1 : Near 1002 (neg (norm ty)) (transformed (diattenuator tx ty) (complex zero-f zero-f) (complex one zero-f) .s1)
+  y1 = retarget (of-y tx ty h g .s1) (near-neg Y .held) (neg-pow (wide Y)) (less-after-zero (norm ty) (Y .held) no-norm)
 
-  cosine-is : Within 0 (2 ^ 21) (tx .re ⊗ ty .re ⊕ tx .im ⊗ ty .im) (cosine exact same-z p s)
-  cosine-is = within-add (within-mul (H .re) (G .re) (lit< tt) (lit≤ tt)) (within-mul (H .im) (G .im) (lit< tt) (lit≤ tt)) (lit< tt) (lit≤ tt)
+  -- ---- zeros
+  right-zero : {x : Float} → Near 500 x x → Zero (x ⊗ zero-f)
+  right-zero {x} n = subst Zero (product-comm zero-f x) (zero-mul-mag zero-mag (of-pow (n .size)))
 
-  sine-is : Within 0 (2 ^ 21) (tx .re ⊗ ty .im ⊖ tx .im ⊗ ty .re) (sine exact same-z p s)
-  sine-is = within-sub (within-mul (H .re) (G .im) (lit< tt) (lit≤ tt)) (within-mul (H .im) (G .re) (lit< tt) (lit≤ tt)) (lit< tt) (lit≤ tt)
+  left-zero : {x : Float} → Near 500 x x → Zero (zero-f ⊗ x)
+  left-zero n = zero-mul-mag zero-mag (of-pow (n .size))
 
-  pub columns : SameMueller (to-mueller-born-wolf (J.diattenuator tx ty)) (diagonal tx ty)
-  unfolding to-mueller-born-wolf from-six diagonal
+  twice-zero : {x : Float} → Zero x → Zero (two ⊗ x)
+  twice-zero {x} p = subst Zero (product-comm x two) (zero-mul-mag p (of-pow two-pow))
+
+  x2 : Zero (transformed (diattenuator tx ty) (complex one zero-f) (complex zero-f zero-f) .s2)
+  x2 = keeps-zero (twice-zero (zero-sum (right-zero na) (right-zero nb))) (of-x tx ty h g .s2 .keeps)
+
+  x3 : Zero (transformed (diattenuator tx ty) (complex one zero-f) (complex zero-f zero-f) .s3)
+  x3 = keeps-zero (twice-zero (zero-difference (right-zero na) (right-zero nb))) (of-x tx ty h g .s3 .keeps)
+
+  y2 : Zero (transformed (diattenuator tx ty) (complex zero-f zero-f) (complex one zero-f) .s2)
+  y2 = keeps-zero (twice-zero (zero-sum (left-zero nc) (left-zero nd))) (of-y tx ty h g .s2 .keeps)
+
+  y3 : Zero (transformed (diattenuator tx ty) (complex zero-f zero-f) (complex one zero-f) .s3)
+  y3 = keeps-zero (twice-zero (zero-difference (left-zero nd) (left-zero nc))) (of-y tx ty h g .s3 .keeps)
+
+  -- ---- the other four: the squares
+  minus-norm : norm (complex (neg (ty .re)) (neg (ty .im))) ≡ norm ty
+  minus-norm = ap₂ _⊕_ (square-neg (ty .re)) (square-neg (ty .im))
+
+  plus-i-norm : norm (complex (neg (ty .im)) (ty .re)) ≡ norm ty
+  plus-i-norm = ap (λ (z : Float). z ⊕ ty .re ⊗ ty .re) (square-neg (ty .im)) ∙ sum-comm-f (ty .im ⊗ ty .im) (ty .re ⊗ ty .re)
+
+  minus-i-norm : norm (complex (ty .im) (neg (ty .re))) ≡ norm ty
+  minus-i-norm = ap (λ (z : Float). ty .im ⊗ ty .im ⊕ z) (square-neg (ty .re)) ∙ sum-comm-f (ty .im ⊗ ty .im) (ty .re ⊗ ty .re)
+
+  module _ {v : Complex} {s : StokesVector} (n : NearStokes tx v s) (e : norm v ≡ norm ty) where
+    sum-of : Near 1002 (norm tx ⊕ norm ty) (s .s0)
+    sum-of = subst (λ (z : Float). Near 1002 (norm tx ⊕ z) (s .s0)) e (n .s0)
+
+    gap-of : Near 1002 (norm tx ⊖ norm ty) (s .s1)
+    gap-of = subst (λ (z : Float). Near 1002 (norm tx ⊖ z) (s .s1)) e (n .s1)
+
+  -- ---- the products
+  abbrev ac : Float
+  ac = tx .re ⊗ ty .re
+
+  abbrev bd : Float
+  bd = tx .im ⊗ ty .im
+
+  abbrev ad : Float
+  ad = tx .re ⊗ ty .im
+
+  abbrev bc : Float
+  bc = tx .im ⊗ ty .re
+
+  minus-cosine : Keeps (neg (cosine tx ty)) (cosine tx (complex (neg (ty .re)) (neg (ty .im))))
+  minus-cosine = subst (λ (z : Float). Keeps (neg (cosine tx ty)) z) (sym (ap₂ _⊕_ (neg-right (tx .re) (ty .re)) (neg-right (tx .im) (ty .im)))) (keeps-opposite (add-neg ac bd))
+
+  minus-sine : Keeps (neg (sine tx ty)) (sine tx (complex (neg (ty .re)) (neg (ty .im))))
+  minus-sine = subst (λ (z : Float). Keeps (neg (sine tx ty)) z) (sym (ap₂ _⊖_ (neg-right (tx .re) (ty .im)) (neg-right (tx .im) (ty .re)))) (keeps-opposite (sub-neg ad bc))
+
+  plus-i-cosine : Keeps (neg (sine tx ty)) (cosine tx (complex (neg (ty .im)) (ty .re)))
+  plus-i-cosine =
+      subst (λ (z : Float). Keeps (neg (sine tx ty)) z) (ap₂ _⊕_ (sym (neg-right (tx .re) (ty .im))) (neg-neg bc))
+      (subst (λ (z : Float). Keeps (neg z) (neg ad ⊕ neg (neg bc))) (sym (sub-is ad bc)) (keeps-opposite (add-neg ad (neg bc))))
+
+  plus-i-sine : sine tx (complex (neg (ty .im)) (ty .re)) ≡ cosine tx ty
+  plus-i-sine = ap (λ (z : Float). ac ⊖ z) (neg-right (tx .im) (ty .im)) ∙ sub-opposite ac bd
+
+  minus-i-cosine : cosine tx (complex (ty .im) (neg (ty .re))) ≡ sine tx ty
+  minus-i-cosine = ap (λ (z : Float). ad ⊕ z) (neg-right (tx .im) (ty .re)) ∙ sym (sub-is ad bc)
+
+  minus-i-sine : Keeps (neg (cosine tx ty)) (sine tx (complex (ty .im) (neg (ty .re))))
+  minus-i-sine =
+      subst (λ (z : Float). Keeps (neg (cosine tx ty)) z) (sym (ap (λ (z : Float). z ⊖ bd) (neg-right (tx .re) (ty .re)) ∙ sub-is (neg ac) bd)) (keeps-opposite (add-neg ac bd))
+
+  -- ---- columns three and four, in their last two rows
+  p : NearStokes tx ty (transformed (diattenuator tx ty) (complex one zero-f) (complex one zero-f))
+  p = of-plus tx ty h g
+
+  m : NearStokes tx (complex (neg (ty .re)) (neg (ty .im))) (transformed (diattenuator tx ty) (complex one zero-f) (complex (neg one) zero-f))
+  m = of-minus tx ty h g
+
+  pi : NearStokes tx (complex (neg (ty .im)) (ty .re)) (transformed (diattenuator tx ty) (complex one zero-f) (complex zero-f one))
+  pi = of-plus-i tx ty h g
+
+  mi : NearStokes tx (complex (ty .im) (neg (ty .re))) (transformed (diattenuator tx ty) (complex one zero-f) (complex zero-f (neg one)))
+  mi = of-minus-i tx ty h g
+
+  entry-10 : Keeps (cosine tx ty) (quarter ⊗ (transformed (diattenuator tx ty) (complex one zero-f) (complex one zero-f) .s2 ⊖ transformed (diattenuator tx ty) (complex one zero-f) (complex (neg one) zero-f) .s2))
+  entry-10 = fourth-of (cosine tx ty) Cos (p .s2) (doubled (cosine tx ty) Cos minus-cosine (m .s2))
+
+  entry-14 : Keeps (sine tx ty) (quarter ⊗ (transformed (diattenuator tx ty) (complex one zero-f) (complex one zero-f) .s3 ⊖ transformed (diattenuator tx ty) (complex one zero-f) (complex (neg one) zero-f) .s3))
+  entry-14 = fourth-of (sine tx ty) Sin (p .s3) (doubled (sine tx ty) Sin minus-sine (m .s3))
+
+  entry-15 : Keeps (cosine tx ty) (quarter ⊗ (transformed (diattenuator tx ty) (complex one zero-f) (complex zero-f one) .s3 ⊖ transformed (diattenuator tx ty) (complex one zero-f) (complex zero-f (neg one)) .s3))
+  entry-15 = fourth-of (cosine tx ty) Cos (subst (λ (z : Float). Near 1002 (two ⊗ z) (transformed (diattenuator tx ty) (complex one zero-f) (complex zero-f one) .s3)) plus-i-sine (pi .s3)) (doubled (cosine tx ty) Cos minus-i-sine (mi .s3))
+
+  entry-11 : Keeps (neg (sine tx ty)) (quarter ⊗ (transformed (diattenuator tx ty) (complex one zero-f) (complex zero-f one) .s2 ⊖ transformed (diattenuator tx ty) (complex one zero-f) (complex zero-f (neg one)) .s2))
+  entry-11 =
+      fourth-of (neg (sine tx ty)) (near-neg Sin)
+      (subst (λ (z : Float). Near 1002 z (transformed (diattenuator tx ty) (complex one zero-f) (complex zero-f one) .s2)) (sym (neg-right two (sine tx ty))) (doubled (sine tx ty) Sin plus-i-cosine (pi .s2)))
+      (subst (λ (z : Float). Near 1002 z (transformed (diattenuator tx ty) (complex one zero-f) (complex zero-f (neg one)) .s2)) (sym (ap neg (neg-right two (sine tx ty)) ∙ neg-neg (two ⊗ sine tx ty)))
+      (subst (λ (z : Float). Near 1002 (two ⊗ z) (transformed (diattenuator tx ty) (complex one zero-f) (complex zero-f (neg one)) .s2)) minus-i-cosine (mi .s2)))
+
+  entry-4 : Keeps (half ⊗ (norm tx ⊖ norm ty)) (half ⊗ (transformed (diattenuator tx ty) (complex one zero-f) (complex zero-f zero-f) .s1 ⊕ transformed (diattenuator tx ty) (complex zero-f zero-f) (complex one zero-f) .s1))
+  entry-4 = subst (λ (z : Float). Keeps (half ⊗ z) (half ⊗ (transformed (diattenuator tx ty) (complex one zero-f) (complex zero-f zero-f) .s1 ⊕ transformed (diattenuator tx ty) (complex zero-f zero-f) (complex one zero-f) .s1))) (sym (sub-is (norm tx) (norm ty))) (half-sum x1 y1)
+
+  entry-5 : Keeps (half ⊗ (norm tx ⊕ norm ty)) (half ⊗ (transformed (diattenuator tx ty) (complex one zero-f) (complex zero-f zero-f) .s1 ⊖ transformed (diattenuator tx ty) (complex zero-f zero-f) (complex one zero-f) .s1))
+  entry-5 = subst (λ (z : Float). Keeps (half ⊗ z) (half ⊗ (transformed (diattenuator tx ty) (complex one zero-f) (complex zero-f zero-f) .s1 ⊖ transformed (diattenuator tx ty) (complex zero-f zero-f) (complex one zero-f) .s1))) (sub-opposite (norm tx) (norm ty)) (half-difference x1 y1)
+
+  nought : {r : Float} → Zero r → T (same r zero-f)
+  nought z = same-zeros z zero-mag
+
+  pub columns : SameMueller (to-mueller-born-wolf (diattenuator tx ty)) (diagonal tx ty)
+  unfolding to-mueller-born-wolf from-six diagonal C.norm-sq
   columns i l =
-      let b = six (J.diattenuator tx ty) p none none s matrix in
       each-at nan
-      (more (agree (mean-is (b .x .s0) (b .y .s0)) sum-is (law p s (first written con P S (λ w. w .s0)) (sum written con P S) tt))
-      (more (agree (half-gap-is (b .x .s0) (b .y .s0)) gap-is (law p s (second written con P S (λ w. w .s0)) (gap written con P S) tt))
-      (more (agree (quarter-gap-is (b .plus .s0) (b .minus .s0)) zero-quarters (law p s (third written con P S (λ w. w .s0)) (con (pos 0)) tt))
-      (more (agree (quarter-gap-is (b .plus-i .s0) (b .minus-i .s0)) zero-quarters (law p s (fourth written con P S (λ w. w .s0)) (con (pos 0)) tt))
-      (more (agree (mean-is (b .x .s1) (b .y .s1)) gap-is (law p s (first written con P S (λ w. w .s1)) (gap written con P S) tt))
-      (more (agree (half-gap-is (b .x .s1) (b .y .s1)) sum-is (law p s (second written con P S (λ w. w .s1)) (sum written con P S) tt))
-      (more (agree (quarter-gap-is (b .plus .s1) (b .minus .s1)) zero-quarters (law p s (third written con P S (λ w. w .s1)) (con (pos 0)) tt))
-      (more (agree (quarter-gap-is (b .plus-i .s1) (b .minus-i .s1)) zero-quarters (law p s (fourth written con P S (λ w. w .s1)) (con (pos 0)) tt))
-      (more (agree (mean-is (b .x .s2) (b .y .s2)) zero-halves (law p s (first written con P S (λ w. w .s2)) (con (pos 0)) tt))
-      (more (agree (half-gap-is (b .x .s2) (b .y .s2)) zero-halves (law p s (second written con P S (λ w. w .s2)) (con (pos 0)) tt))
-      (more (agree (quarter-gap-is (b .plus .s2) (b .minus .s2)) (finer 2 cosine-is) (law p s (third written con P S (λ w. w .s2)) (in-quarters written con P S (cosine written con P S)) tt))
-      (more (agree (quarter-gap-is (b .plus-i .s2) (b .minus-i .s2)) (finer 2 (within-neg sine-is)) (law p s (fourth written con P S (λ w. w .s2)) (in-quarters written con P S (opp (sine written con P S))) tt))
-      (more (agree (mean-is (b .x .s3) (b .y .s3)) zero-halves (law p s (first written con P S (λ w. w .s3)) (con (pos 0)) tt))
-      (more (agree (half-gap-is (b .x .s3) (b .y .s3)) zero-halves (law p s (second written con P S (λ w. w .s3)) (con (pos 0)) tt))
-      (more (agree (quarter-gap-is (b .plus .s3) (b .minus .s3)) (finer 2 sine-is) (law p s (third written con P S (λ w. w .s3)) (in-quarters written con P S (sine written con P S)) tt))
-      (more (agree (quarter-gap-is (b .plus-i .s3) (b .minus-i .s3)) (finer 2 cosine-is) (law p s (fourth written con P S (λ w. w .s3)) (in-quarters written con P S (cosine written con P S)) tt))
+      (more (keeps-same (half-sum x0 y0))
+      (more (keeps-same (half-difference x0 y0))
+      (more (nought (nothing-left (sum-of p refl) (sum-of m minus-norm)))
+      (more (nought (nothing-left (sum-of pi plus-i-norm) (sum-of mi minus-i-norm)))
+      (more (keeps-same entry-4)
+      (more (keeps-same entry-5)
+      (more (nought (nothing-left (gap-of p refl) (gap-of m minus-norm)))
+      (more (nought (nothing-left (gap-of pi plus-i-norm) (gap-of mi minus-i-norm)))
+      (more (nought (half-nothing x2 y2 .0))
+      (more (nought (half-nothing x2 y2 .1))
+      (more (keeps-same entry-10)
+      (more (keeps-same entry-11)
+      (more (nought (half-nothing x3 y3 .0))
+      (more (nought (half-nothing x3 y3 .1))
+      (more (keeps-same entry-14)
+      (more (keeps-same entry-15)
       nil)))))))))))))))) i l

@@ -45,10 +45,10 @@ module _ {A : Type 0} (K : Arithmetic A) (unit : ℤ → A) where
     after f = K .times (f (response p q r s x y)) (unit (pos 4))
 
 -- ---- as expressions in twelve variables
-abbrev pub written : Arithmetic Ex
+abbrev written : Arithmetic Ex
 written = record { plus = _:+_; minus = λ a b. a :+ opp b; times = _:*_; opposite = opp; two = con (pos 2) }
 
-abbrev pub at : ℕ → ℕ → Number Ex
+abbrev at : ℕ → ℕ → Number Ex
 at i j = record { re = var i; im = var j }
 
 abbrev left-of : (Parameters Ex → Ex) → Ex

@@ -6,6 +6,7 @@ use lib.IntN.{ℤ, natAbs}
 use lib.Ieee.{binary64, neg, ofBits}
 use Rattle.ieee.specs.Operators.{_⊕_, _⊖_, _⊗_}
 use Rattle.ieee.specs.Functions.{zero-f}
+use Rattle.ieee.specs.Range.{Pow}
 use Rattle.thin_film_complex.specs.declared.Complex.{Complex}
 use Rattle.thin_film_complex.specs.Complex.{norm-sq}
 use Rattle.polarization_stokes.specs.declared.JonesVector.{JonesVector}
@@ -18,7 +19,7 @@ use Rattle.polarization_mueller.specs.Jones as Jones
 use Rattle.polarization_mueller.specs.Jones.{entry, apply, diattenuator}
 use Rattle.polarization_mueller.specs.Mueller as Mueller
 use Rattle.polarization_mueller.specs.Mueller.{apply-mueller, mean, half-gap, to-mueller}
-use Rattle.polarization_value.specs.Value.{SameStokes, SameMueller}
+use Rattle.polarization_value.specs.Value.{FiniteParts, SameStokes, SameMueller}
 use Rattle.whole_f64.specs.Whole.{Is}
 use Rattle.polarization_born_wolf.specs.Conversion.{to-mueller-born-wolf}
 
@@ -72,6 +73,12 @@ diagonal tx ty =
           ∷ zero-f ∷ zero-f ∷ s ∷ c ∷ [];
     }
 
+-- both parts are f64 of at most 2^500 in size, so that nothing overflows
+pub record Moderate (z : Complex) : Type 0 where
+  pub finite : FiniteParts z
+  pub re : Pow 500 (z .re)
+  pub im : Pow 500 (z .im)
+
 -- ---- the claim
 pub record BornWolfClaim : Type 0 where
   -- "its matrix applied to the Stokes vector equals the Stokes vector of the transformed beam exactly, zeros of both signs being equal"
@@ -84,6 +91,5 @@ pub record BornWolfClaim : Type 0 where
   pub empty-space : to-mueller-born-wolf Jones.identity ≡ Mueller.identity
   -- "to_mueller is held to the Rust as before": there the fourth column has the other sign. Of empty space [3][3] is -(1 + 2^-52)
   pub turned : Mueller.entry (to-mueller Jones.identity) 15 ≡ ofBits binary64 0xBFF0_0000_0000_0001
-  -- of a diagonal matrix
-  pub columns : (tx ty : Complex) (p s : Number ℤ) → Whole tx p → Whole ty s →
-      SameMueller (to-mueller-born-wolf (diattenuator tx ty)) (diagonal tx ty)
+  -- of a diagonal matrix, for all f64 that do not overflow
+  pub columns : (tx ty : Complex) → Moderate tx → Moderate ty → SameMueller (to-mueller-born-wolf (diattenuator tx ty)) (diagonal tx ty)

@@ -1,5 +1,3 @@
--- Commuting operations, sums with zeros, and the two laws.
-pub mod Commute
-pub mod Keeps
+-- The two laws, and where they end.
 pub mod Order
 pub mod Sharp

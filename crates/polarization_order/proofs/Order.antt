@@ -13,10 +13,10 @@ use Rattle.thin_film_complex.specs.Complex as C
 use Rattle.thin_film_matrix.specs.Matrix.{dot}
 use Rattle.polarization_mueller.specs.declared.JonesMatrix.{JonesMatrix}
 use Rattle.polarization_mueller.specs.Jones.{entry, identity, diattenuator, mul}
-use Rattle.polarization_value.specs.Value.{SameComplex, SameJones}
-use Rattle.polarization_order.specs.Order.{FiniteParts, FiniteEntries, ZeroParts, Diagonal, OrderClaim}
-use Rattle.polarization_order.proofs.Commute.{complex-product-comm, complex-sum-comm}
-use Rattle.polarization_order.proofs.Keeps.{Zero, zero-from, zero-sum, zero-difference, zero-times, one-times, Keeps, keeps-sum, keeps-difference, keeps-more, same-zeros, keeps-same, both-same}
+use Rattle.polarization_value.specs.Value.{FiniteParts, SameComplex, SameJones}
+use Rattle.polarization_order.specs.Order.{FiniteEntries, ZeroParts, Diagonal, OrderClaim}
+use Rattle.polarization_value.proofs.Commute.{complex-product-comm, complex-sum-comm}
+use Rattle.polarization_value.proofs.Keeps.{Zero, zero-from, zero-sum, zero-difference, zero-times, one-times, Keeps, keeps-sum, keeps-difference, keeps-more, same-zeros, keeps-same, both-same}
 
 -- ---- complex numbers: zeros, and what is kept of one
 record Zeros (z : Complex) : Type 0 where

@@ -1,22 +1,11 @@
 -- Order of two plates (02, slip 10), over `mul` and `identity` of `JonesMatrix`. Definitions only; proofs/Order.antt has the proof.
 use Prim.Native.Nat.{ℕ, _<_}
 use lib.Dec.{T}
-use lib.Ieee.{Float, binary64, fits}
-use lib.Ieee.Scale.{finite}
 use Rattle.ieee.specs.Functions.{is-zero}
 use Rattle.thin_film_complex.specs.declared.Complex.{Complex}
 use Rattle.polarization_mueller.specs.declared.JonesMatrix.{JonesMatrix}
 use Rattle.polarization_mueller.specs.Jones.{entry, identity, diattenuator, mul}
-use Rattle.polarization_value.specs.Value.{SameJones}
-
--- a finite number that an f64 holds
-pub record Finite (x : Float) : Type 0 where
-  pub fine : T (finite x)
-  pub held : T (fits binary64 x)
-
-pub record FiniteParts (z : Complex) : Type 0 where
-  pub re : Finite (z .re)
-  pub im : Finite (z .im)
+use Rattle.polarization_value.specs.Value.{FiniteParts, SameJones}
 
 -- "with finite entries"
 abbrev pub FiniteEntries : JonesMatrix → Type 0

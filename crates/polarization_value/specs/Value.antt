@@ -2,7 +2,8 @@
 use Prim.Native.Nat.{ℕ, _<_}
 use mathlib.Core.Bool.{Bool, _&&_, _||_}
 use lib.Dec.{T}
-use lib.Ieee.{Float, eq, isNan}
+use lib.Ieee.{Float, binary64, eq, isNan, fits}
+use lib.Ieee.Scale.{finite}
 use Rattle.thin_film_complex.specs.declared.Complex.{Complex}
 use Rattle.polarization_stokes.specs.declared.StokesVector.{StokesVector}
 use Rattle.polarization_mueller.specs.declared.JonesMatrix.{JonesMatrix}
@@ -13,6 +14,15 @@ use Rattle.polarization_mueller.specs.Mueller as Mueller
 -- two floats: the language's ==, by which -0 is +0, or both are NaN
 abbrev pub same : Float → Float → Bool
 same x y = eq x y || isNan x && isNan y
+
+-- a finite number that an f64 holds
+pub record Finite (x : Float) : Type 0 where
+  pub fine : T (finite x)
+  pub held : T (fits binary64 x)
+
+pub record FiniteParts (z : Complex) : Type 0 where
+  pub re : Finite (z .re)
+  pub im : Finite (z .im)
 
 -- both parts of a complex number
 pub record SameComplex (z w : Complex) : Type 0 where

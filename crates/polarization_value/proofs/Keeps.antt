@@ -17,8 +17,7 @@ use Rattle.ieee.proofs.Range.Sums.{add-mag, sub-mag}
 use Rattle.ieee.proofs.Range.Constants.{zero-mag}
 use Rattle.ieee.proofs.Range.Zero.{zero-num, zero-mul-mag, add-zero-same}
 use Rattle.math_trig.proofs.Opposites.{neg-neg, add-neg}
-use Rattle.polarization_value.specs.Value.{same}
-use Rattle.polarization_order.specs.Order.{Finite}
+use Rattle.polarization_value.specs.Value.{same, Finite}
 
 -- ---- zeros of either sign
 abbrev pub Zero : Float → Type 0
