@@ -1,0 +1,3 @@
+-- Head-on, up to so many roundings, and the claim.
+pub mod HeadOn
+pub mod Claim

@@ -1,0 +1,2 @@
+-- What a bare surface reflects head-on.
+pub mod Claim
