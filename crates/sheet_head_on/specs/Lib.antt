@@ -1,0 +1,2 @@
+-- A sheet's surfaces without layers, met head-on.
+pub mod Claim
