@@ -8,12 +8,14 @@ pub mod cases;
 #[cfg(feature = "proved")]
 #[path = "../../include/dihkelu.rs"]
 pub mod dihkelu;
+pub mod exact;
 pub mod examples;
 #[cfg(feature = "proved")]
 pub mod exports;
 pub mod feed;
 pub mod findings;
 pub mod functions;
+pub mod head_on;
 pub mod laws;
 pub mod measure;
 pub mod progress;
