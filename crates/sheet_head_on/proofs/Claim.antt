@@ -72,7 +72,7 @@ module _ (src : List ℕ) (x : Sheet) (is-admitted : gated src ≡ answer x) (in
   unfolding surface-passes
   substrate = index (y .n-substrate) (and-l (within one four (value (y .n-substrate))) _ (and-r (within one four (value (y .n-incident))) _ good))
 
-  told : surface-answers src i ≡ answers w (surface-value y) (films (y .layers))
+  told : surface-answers src i ≡ answers w (surface-value y) (films w (y .layers))
   unfolding surface-answers
   told = ap (answers-to i) is-admitted ∙ rw (lt-ltb i (length (x .surfaces)) l)
 
@@ -83,8 +83,8 @@ module _ (src : List ℕ) (x : Sheet) (is-admitted : gated src ≡ answer x) (in
       record {
         answers = coated-answers (c .response);
         is =
-            told ∙ ap (λ (code : ℕ). answers-of (interface code) w (surface-value y) (films (y .layers))) five ∙ ap (λ (j : _). answers-of j w (surface-value y) (films (y .layers))) custom-is
-            ∙ ap (λ (ls : List SheetLayer). map coated-answers (evaluate-surface (S.Custom C.Multilayer) (films ls) (value (y .n-incident)) (value (y .n-substrate)) (value (y .angle)) w)) none ∙ ap (map coated-answers) (c .is);
+            told ∙ ap (λ (code : ℕ). answers-of (interface code) w (surface-value y) (films w (y .layers))) five ∙ ap (λ (j : _). answers-of j w (surface-value y) (films w (y .layers))) custom-is
+            ∙ ap (λ (ls : List SheetLayer). map coated-answers (evaluate-surface (S.Custom C.Multilayer) (films w ls) (value (y .n-incident)) (value (y .n-substrate)) (value (y .angle)) w)) none ∙ ap (map coated-answers) (c .is);
         response = c .holds;
         s = c .holds .s;
         p = c .holds .p;
@@ -101,7 +101,7 @@ module _ (src : List ℕ) (x : Sheet) (is-admitted : gated src ≡ answer x) (in
       record {
         answers = assembled false (bare-powers (surface-value y)) no-response (j .value);
         is =
-            told ∙ ap (λ (code : ℕ). answers-of (interface code) w (surface-value y) (films (y .layers))) zero-code ∙ ap (λ (j : _). answers-of j w (surface-value y) (films (y .layers))) bare-is
+            told ∙ ap (λ (code : ℕ). answers-of (interface code) w (surface-value y) (films w (y .layers))) zero-code ∙ ap (λ (j : _). answers-of j w (surface-value y) (films w (y .layers))) bare-is
             ∙ ap (map (assembled false (bare-powers (surface-value y)) no-response)) (j .is);
         s = r .s;
         p = r .p;

@@ -28,7 +28,8 @@ use Rattle.thin_film_complex.specs.Complex.{scale, norm-sq, add, sub, mul}
 use Rattle.thin_film_matrix.specs.Matrix.{identity}
 use Rattle.thin_film_solver.specs.declared.ThinFilmLayer.{ThinFilmLayer}
 use Rattle.thin_film_solver.specs.declared.CoatingResponse.{CoatingResponse}
-use Rattle.thin_film_solver.specs.Solve.{eta0-s, eta0-p, eta-sub-s, eta-sub-p, product-s, product-p, b-of, c-of, reflection, transmission, reflectance, transmittance, solve, respond, evaluate}
+use Rattle.thin_film_solver.specs.Solve.{eta0-s, eta0-p, eta-sub-s, eta-sub-p, product-s, product-p, b-of, c-of, reflection, transmission, reflectance, transmittance, solve, rust-respond, rust-evaluate, evaluate}
+use Rattle.thin_film_solver.specs.Absorptance.{with-absorptance}
 use Rattle.thin_film_valid.specs.Valid.{valid}
 use Rattle.thin_film_layers.specs.Evaluation.{ordered}
 use Rattle.thin_film_coating.specs.declared.Coating.the-variants as C
@@ -36,7 +37,7 @@ use Rattle.thin_film_coating.specs.Evaluate.{evaluate-coating}
 use Rattle.thin_film_coating.proofs.Answers.{solved}
 use Rattle.thin_film.specs.declared.SurfaceCoating.the-variants as S
 use Rattle.thin_film.specs.Coating.{layers-of}
-use Rattle.thin_film.specs.Evaluate.{evaluate-surface}
+use Rattle.thin_film.specs.Evaluate.{rust-evaluate-surface, evaluate-surface}
 use Rattle.thin_film_conserved.specs.Claim.{AddsUp, Conserves, asked, reached, product, Exact, EverySurface, LightInLightOut}
 use Rattle.thin_film_conserved.proofs.Sum.{squares, adds-up}
 use Rattle.thin_film_conserved.proofs.Powers.{near-R, near-T}
@@ -105,7 +106,7 @@ module _ (n0 ns : Float) (i0 : Index n0) (i1 : Index ns) where
     exact : Exact n0 ns r
 
   straight : (s : Bool) (wavelength : Float) → Solved (evaluate n0 ns (a-zero s) wavelength [])
-  unfolding evaluate respond product-s product-p
+  unfolding evaluate rust-evaluate rust-respond with-absorptance product-s product-p
   straight s wavelength =
       let e0 = eta0-s n0 (cos (a-zero s)) in
       let e1 = eta-sub-s (n0 ⊗ sin (a-zero s)) ns in
@@ -139,7 +140,7 @@ module _ (n0 ns : Float) (i0 : Index n0) (i1 : Index ns) where
   admitted angle w z e = simp (in-positive (index-in i0) tt, in-positive (index-in i1) tt, is-true (finite angle) (equals-zero angle z .fine), is-true (finite-positive w) e)
 
   answers : (angle w : Float) → T (eq angle zero-f) → T (finite-positive w) → evaluate-surface (S.Custom C.Multilayer) [] n0 ns angle w ≡ answer (evaluate n0 ns angle w [])
-  unfolding evaluate-surface layers-of
+  unfolding evaluate-surface rust-evaluate-surface evaluate-coating layers-of
   answers angle w z e =
       ap (λ (l : List ThinFilmLayer). evaluate-coating C.Multilayer l n0 ns angle w) (nothing-turned (lt ns n0))
       ∙ solved n0 ns angle w [] C.Multilayer refl (admitted angle w z e) (lit≤ tt)
