@@ -26,6 +26,9 @@ use Rattle.c_call.specs.Layout.{response-numbers, common, evaluated, surface-an
 use Rattle.thin_film_solver.specs.declared.ThinFilmLayer.{ThinFilmLayer}
 use Rattle.thin_film_shorthand.specs.Stack.{stack}
 use Rattle.c_stack.specs.Stack.{stacked}
+use Rattle.reflectance_range.specs.Range.{reflectance-range}
+use Rattle.c_range.specs.Range.{ranged}
+use Rattle.c_range.proofs.Sound.{sound}
 use Rattle.c_stack.proofs.Flat.{flat-length}
 use Rattle.c_mueller.specs.Mueller.{converted}
 use Rattle.c_mueller.proofs.Answered.{converted-sound}
@@ -158,4 +161,5 @@ numbers = record {
       let few = few-layers text n-h n-l n-m design in
       tells stacked o (few-sound o few) (stack-small o few) list;
   of-mueller = λ conversion numbers list. tells rows (converted conversion numbers) (converted-sound conversion numbers list) (λ m e. lit< tt) list;
+  of-reflectance-range = λ a b c d list. tells ranged (reflectance-range a b c d) (sound a b c d) (λ r e. lit< tt) list;
 }

@@ -19,6 +19,8 @@ use Rattle.c_stack.specs.Stack.{stacked}
 use Rattle.polarization_mueller.specs.declared.JonesMatrix.{JonesMatrix}
 use Rattle.polarization_mueller.specs.declared.MuellerMatrix.{MuellerMatrix}
 use Rattle.c_mueller.specs.Mueller.{converted}
+use Rattle.reflectance_range.specs.Range.{reflectance-range}
+use Rattle.c_range.specs.Range.{ranged}
 use Rattle.c_call.specs.Call.{Reply, returned, answered}
 use Rattle.c_call.specs.Layout.{evaluated, surface-answered, rows}
 use Rattle.dihkelu.specs.Train.{start-layout, step-layout, run-done}
@@ -53,3 +55,6 @@ pub record Numbers : Type 0 where
   -- dihkelu_to_mueller and dihkelu_mueller_born_wolf: whatever the conversion
   pub of-mueller : (conversion : JonesMatrix → MuellerMatrix) (numbers list : List Float)
       → Tells (said rows (converted conversion numbers) list) (answered rows (converted conversion numbers) list .returned)
+  pub of-reflectance-range : (n1-low n1-high n2-low n2-high : Float) (list : List Float)
+      → Tells (said ranged (reflectance-range n1-low n1-high n2-low n2-high) list)
+      (answered ranged (reflectance-range n1-low n1-high n2-low n2-high) list .returned)

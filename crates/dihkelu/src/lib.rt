@@ -12,6 +12,8 @@ ghost use Rattle.c_stack.specs.Stack.{stacked};
 ghost use Rattle.polarization_mueller.specs.Mueller.{to-mueller};
 ghost use Rattle.polarization_born_wolf.specs.Conversion.{to-mueller-born-wolf};
 ghost use Rattle.c_mueller.specs.Mueller.{converted};
+ghost use Rattle.reflectance_range.specs.Range.{reflectance-range};
+ghost use Rattle.c_range.specs.Range.{ranged};
 ghost use Rattle.train_steps.specs.Train.{step, run};
 ghost use Rattle.sheet_surfaces.specs.Surfaces.{surface-answers};
 ghost use Rattle.dihkelu.specs.Train.{start-layout, step-layout, run-done};
@@ -98,6 +100,23 @@ pub extern "C" fn dihkelu_mueller_born_wolf(jones: &[f64], list: &mut [f64]) -> 
     ensures { λ r. ⌜ done r (now (list .exit)) ≡ answered rows (converted to-mueller-born-wolf (now (jones .entry))) (now (list .entry)) ⌝ }
 {
     c_mueller::mueller_born_wolf(jones, list)
+}
+
+// ---- a bare surface
+
+// Met head-on, both indices known as ranges within 1 to 4: writes a low and a high reflectance, between
+// which every pair of indices within the ranges reflects, and returns 2; or a refusal: 13, then 8.
+#[no_mangle]
+pub extern "C" fn dihkelu_reflectance_range(
+    n1_low: f64,
+    n1_high: f64,
+    n2_low: f64,
+    n2_high: f64,
+    list: &mut [f64],
+) -> u64
+    ensures { λ r. ⌜ done r (now (list .exit)) ≡ answered ranged (reflectance-range «n1_low» «n1_high» «n2_low» «n2_high») (now (list .entry)) ⌝ }
+{
+    c_range::reflectance_range(n1_low, n1_high, n2_low, n2_high, list)
 }
 
 // ---- the gate and the train

@@ -1,6 +1,6 @@
 -- Demand 1. Assumes nothing.
 use mathlib.Core.Path.{_≡_, refl, sym, ap, _∙_, subst}
-use mathlib.Core.Bool.{Bool, true, false, _||_, cond}
+use mathlib.Core.Bool.{Bool, true, false, _&&_, _||_, cond}
 use mathlib.Core.Logic.{_⊎_, inl, ⊎-elim}
 use mathlib.Core.List.{List, [], _∷_, _++_, map as map-list}
 use Prim.Native.Nat.{ℕ, zero, suc, _*_, _≤_, _<_}
@@ -30,6 +30,7 @@ use Rattle.thin_film.specs.declared.SurfaceCoating.the-variants as S
 use Rattle.thin_film.specs.Coating.{coating-of, layers-of, to-coating}
 use Rattle.thin_film_grammar.specs.Claim as Gives
 use Rattle.thin_film_shorthand.specs.Stack.{stack}
+use Rattle.reflectance_range.specs.Range.{index-valid, range-valid, reflectance-range}
 use Rattle.thin_film_shorthand.specs.Claim as Shorthand
 use Rattle.thin_film_shorthand.proofs.Claim.{shorthand}
 use Rattle.thin_film.specs.Evaluate.{rust-evaluate-surface, evaluate-surface}
@@ -295,6 +296,14 @@ of-stack = record {
   each = (stack-each 1 (shorthand .a-1), (stack-each 9 (shorthand .a-9), (stack-each 10 (shorthand .a-10), tt)));
 }
 
+-- ---- ranges of indices
+of-reflectance-range : Refuses (λ (x : Numbers). at reflectance-range x) (13 ∷ [])
+unfolding reflectance-range range-valid index-valid Ieee.lt ofBits Ieee.le
+of-reflectance-range = record {
+  only = λ x. either (13 ∷ []) (range-valid (x .n-incident) (x .n-substrate) && range-valid (x .angle) (x .wavelength)) (answer _) (refusal 13 0) tt tt;
+  each = ((lit, (0, refl)), tt);
+}
+
 many : Layers
 many = record { items = []; count = 65 }
 
@@ -384,4 +393,5 @@ refusal-claim = record {
   of-bragg-mirror = of-bragg-mirror;
   of-to-coating = of-to-coating;
   of-stack = of-stack;
+  of-reflectance-range = of-reflectance-range;
 }

@@ -17,6 +17,7 @@ use Rattle.thin_film.specs.declared.SurfaceCoating.{SurfaceCoating}
 use Rattle.thin_film.specs.Coating.{to-coating}
 use Rattle.thin_film.specs.Evaluate.{evaluate-surface}
 use Rattle.thin_film_shorthand.specs.Stack.{stack}
+use Rattle.reflectance_range.specs.Range.{reflectance-range}
 use Rattle.polarization.specs.Surface.{surface-fresnel-jones}
 use Rattle.name_coating.specs.Name.{from-format-name}
 use Rattle.sheet.specs.Blocks.{All}
@@ -73,3 +74,4 @@ pub record RefusalClaim : Type 0 where
       (λ (x : Numbers × ℕ). Built.outcome (at (λ n-high n-low angle design. Built.bragg-mirror n-high n-low (x .1) design) (x .0))) (3 ∷ [])
   pub of-to-coating : Refuses (λ (x : SurfaceCoating × Layers). Built.outcome (to-coating (x .0) (x .1))) (3 ∷ [])
   pub of-stack : Refuses (λ (x : List ℕ × Numbers). at (stack (x .0)) (x .1)) (1 ∷ 9 ∷ 10 ∷ [])
+  pub of-reflectance-range : Refuses (λ (x : Numbers). at reflectance-range x) (13 ∷ [])

@@ -1,0 +1,2 @@
+-- The refusal of a range.
+pub mod Sound

@@ -1,0 +1,2 @@
+-- A low and a high reflectance by their numbers.
+pub mod Range
