@@ -1,6 +1,7 @@
 // Arguments of the recorded functions: what each may be, and random choices.
 
 use crate::functions::{born_wolf, exports, names, shorthand, train};
+use crate::ranges;
 use crate::section2::{PI, T};
 use crate::values::{any, multiple, neighbour, optical, short, square, subnormal, Rng, CORE};
 
@@ -65,6 +66,8 @@ pub enum Arg {
     Room,
     /// The length of a list for a stack.
     StackRoom,
+    /// Two ranges of indices by their four ends.
+    Ranges,
     /// Any code of a coating, also one that stands for none.
     AnyCode,
     /// A part that is whole and at most 1,024 in size.
@@ -204,6 +207,7 @@ impl Arg {
             Arg::Room => words.push(rng.pick(&exports::ROOMS)),
             Arg::StackRoom if rng.one_in(2) => words.push(200),
             Arg::StackRoom => words.push(rng.pick(&exports::STACK_ROOMS)),
+            Arg::Ranges => words.extend(ranges::random(rng).map(f64::to_bits)),
             Arg::AnyCode if rng.one_in(10) => words.push(rng.pick(&[0, 9, u64::from(u32::MAX)])),
             Arg::AnyCode => Arg::Code.push(rng, style, words),
             Arg::MatrixRoom => words.push(rng.pick(&exports::MATRIX_ROOMS)),

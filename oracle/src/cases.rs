@@ -52,6 +52,7 @@ impl Arg {
             Arg::Pair => single(&[0, 1, 2, 3]),
             Arg::Room => single(&exports::ROOMS),
             Arg::StackRoom => single(&exports::STACK_ROOMS),
+            Arg::Ranges => exports::range_cases(),
             Arg::AnyCode => single(&[0, 1, 2, 3, 4, 5, 6, 7, 8, 9, u64::from(u32::MAX)]),
             Arg::MatrixRoom => single(&exports::MATRIX_ROOMS),
             Arg::Matrix => exports::matrix_cases(),

@@ -4,8 +4,9 @@
 use crate::arguments::{random, Arg};
 use crate::dihkelu;
 use crate::functions::born_wolf::to_mueller_born_wolf;
-use crate::functions::exports::{mueller, stack};
+use crate::functions::exports::{mueller, reflectance_range, stack};
 use crate::progress::Progress;
+use crate::ranges;
 use crate::record::{bits, numbers, Arguments};
 use crate::reference::polarization::JonesMatrix;
 use crate::sheet::{gate, Refusal};
@@ -58,6 +59,11 @@ pub fn linked_muellers() -> [fn(&[f64], &mut [f64]) -> u64; 2] {
         |jones, list| returned(dihkelu::to_mueller(jones, list)),
         |jones, list| returned(dihkelu::mueller_born_wolf(jones, list)),
     ]
+}
+
+/// `ends` are n1 low, n1 high, n2 low, n2 high.
+pub fn linked_reflectance_range([a, b, c, d]: ranges::Ends, list: &mut [f64]) -> u64 {
+    returned(dihkelu::reflectance_range([a, b], [c, d], list))
 }
 
 fn returned(outcome: Result<u32, dihkelu::Refusal>) -> u64 {
@@ -292,4 +298,40 @@ pub fn compare_muellers(seed: u64, count: u64, spoiled: Option<u64>) -> [u64; 2]
         progress.step();
     }
     different
+}
+
+/// Holds `dihkelu_reflectance_range` against the original's `fresnel_dielectric` and against exact fractions, with 10 pairs of values
+/// in each, on `count` pairs of ranges. Returns how many differ, and the most that a gap exceeds the true spread by, in 2^-53.
+pub fn compare_ranges(seed: u64, count: u64, spoiled: Option<u64>) -> (u64, f64) {
+    let mut rng = Rng::new(seed);
+    let mut progress = Progress::new("ranges", count);
+    let (mut different, mut most) = (0, 0f64);
+    for made in 0..count {
+        let ends = ranges::random(&mut rng);
+        let room = rng.pick(&[0, 1, 2, 2, 2, 2, 3]);
+        let mut list = filled(room);
+        let returned = linked_reflectance_range(ends, &mut list);
+        let (number, written) = expected(reflectance_range(ends), room);
+        let number = number ^ u64::from(spoiled == Some(made));
+        let mut found = match left(returned, number, &list, &written) {
+            true => Ok(0.0),
+            false => Err("another number or list"),
+        };
+        if let (Ok(_), 2) = (found, returned) {
+            found = ranges::excess(ends, [list[0], list[1]], 10, &mut rng);
+        }
+        match found {
+            Ok(excess) => most = most.max(excess),
+            Err(what) => {
+                if different == 0 {
+                    println!(
+                        "reflectance_range: {what}, {ends:?}, returned {returned:X}, {list:?}"
+                    );
+                }
+                different += 1;
+            }
+        }
+        progress.step();
+    }
+    (different, most)
 }

@@ -20,6 +20,7 @@ pub mod laws;
 pub mod measure;
 pub mod progress;
 pub mod proved;
+pub mod ranges;
 pub mod record;
 pub mod section2;
 pub mod sheet;

@@ -203,6 +203,9 @@ pub fn compare(seed: u64, count: u64, spoiled: Option<u64>) -> Option<bool> {
         let [rust, born_wolf] = crate::exports::compare_muellers(seed, count, spoiled);
         all_agree &= agree("to_mueller", count, rust, "");
         all_agree &= agree("mueller_born_wolf", count, born_wolf, "");
+        let (different, most) = crate::exports::compare_ranges(seed, count, spoiled);
+        all_agree &= agree("reflectance_range", count, different, "");
+        println!("  a gap exceeds the true spread by {most:.3} 2^-53 at most");
         let sheets = (count / 10).max(count.min(1));
         let (calls, different) = crate::exports::compare_trains(seed, sheets, spoiled);
         all_agree &= agree(

@@ -141,6 +141,21 @@ fn born_wolf_call(n: usize, count: usize, a: &[u8], out: &mut [u64; 256]) -> usi
     returned(out, number, &list, n)
 }
 
+fn range_call(n: usize, a: &[u8], out: &mut [u64; 256]) -> usize {
+    let mut list = [-7.25f64; 200];
+    if n > 200 {
+        return 0;
+    }
+    let number = dihkelu::dihkelu_reflectance_range(
+        test_records::float_at(a, 1),
+        test_records::float_at(a, 2),
+        test_records::float_at(a, 3),
+        test_records::float_at(a, 4),
+        &mut list[..n],
+    );
+    returned(out, number, &list, n)
+}
+
 fn float_out(out: &mut [u64; 256], x: f64) -> usize {
     out[0] = test_records::bits(x);
     1
@@ -164,6 +179,7 @@ pub fn call(f: usize, a: &[u8], out: &mut [u64; 256]) -> usize {
         186 => stack_call(n, a, out),
         187 => to_mueller_call(n, done as usize, a, out),
         188 => born_wolf_call(n, done as usize, a, out),
+        189 => range_call(n, a, out),
         190 => float_out(out, c_scalars::dihkelu_sqrt(x)),
         191 => float_out(out, c_scalars::dihkelu_sin(x)),
         192 => float_out(out, c_scalars::dihkelu_cos(x)),

@@ -6,13 +6,14 @@ use crate::arguments::Style;
 use crate::functions::born_wolf::to_mueller_born_wolf;
 use crate::functions::thin_film::surface_coating;
 use crate::functions::{shorthand, Function};
+use crate::ranges::{self, Ends};
 use crate::record::{absorptance, Arguments, Words};
 use crate::reference::polarization::{JonesMatrix, MuellerMatrix};
 use crate::reference::thin_film::{CoatingResponse, ThinFilmLayer};
 use crate::section2;
 use crate::sheet::{gate, Refusal};
 use crate::train::{answers, run, start, step, Light, State};
-use crate::values::Rng;
+use crate::values::{neighbour, Rng};
 
 /// The one number of a list before the call.
 const BEFORE: f64 = -7.25;
@@ -145,6 +146,44 @@ pub fn mueller(
     Ok((16, conversion(&jones).m.concat()))
 }
 
+/// A low and a high reflectance, or 13.
+pub fn reflectance_range(ends: Ends) -> Result<(u64, Vec<f64>), Refusal> {
+    let [low, high] = ranges::range(ends).ok_or(refused(13))?;
+    Ok((2, vec![low, high]))
+}
+
+/// Ranges at the ends of what is allowed.
+pub fn range_cases() -> Vec<Vec<u64>> {
+    let (under, over) = (neighbour(1.0, -1), neighbour(4.0, 1));
+    let mut list = vec![
+        [1.0, 4.0, 1.0, 4.0],
+        [1.0, 1.0, 4.0, 4.0],
+        [1.0, 1.5, 1.5, 2.0],
+        [1.5, 2.0, 1.0, 1.5],
+        [1.5, 1.5, 1.5, 1.5],
+        [1.5, 1.4, 1.0, 2.0],
+        [1.0, 2.0, 1.5, 1.4],
+        [1.0, neighbour(1.0, 1), neighbour(4.0, -1), 4.0],
+    ];
+    for bad in [
+        under,
+        over,
+        f64::NAN,
+        -0.0,
+        f64::INFINITY,
+        f64::NEG_INFINITY,
+    ] {
+        for place in 0..4 {
+            let mut ends = [1.0, 1.5, 2.0, 4.0];
+            ends[place] = bad;
+            list.push(ends);
+        }
+    }
+    list.iter()
+        .map(|ends| ends.map(f64::to_bits).to_vec())
+        .collect()
+}
+
 pub fn table() -> Vec<Function> {
     let export = |number, name, args: &'static [Arg], weight, call: Call| Function {
         number,
@@ -224,6 +263,16 @@ pub fn table() -> Vec<Function> {
             |a, r| {
                 let (room, numbers) = (a.int(), floats(a));
                 leave(r, room, mueller(&numbers, to_mueller_born_wolf));
+            },
+        ),
+        export(
+            189,
+            "dihkelu_reflectance_range",
+            &[Pair, Ranges],
+            2,
+            |a, r| {
+                let (room, ends) = (a.int(), a.floats());
+                leave(r, room, reflectance_range(ends));
             },
         ),
         export(190, "dihkelu_sqrt", &[Square], 4, |a, r| {
