@@ -27,6 +27,7 @@
  *   9  stack: no text can have the byte at this place; the place is the count of bytes where the text stops early, and
  *      255 for a text over 255 bytes
  *  10  stack: more than 64 layers
+ *  13  reflectance_range: a low end is above its high end, or an end is NaN or outside 1 to 4
  *
  * A call that refuses writes nothing. (That is proved of the numbers in the list, so up to the bits of a NaN that
  * stands there; the tests look at every bit.) A call that answers writes the front of the list and leaves the rest of
@@ -196,6 +197,13 @@ DIHKELU_MUST_USE uint64_t dihkelu_stack(const uint8_t *text, size_t text_count, 
 DIHKELU_MUST_USE uint64_t dihkelu_to_mueller(const double *jones, size_t jones_count, double *list, size_t list_count);
 DIHKELU_MUST_USE uint64_t dihkelu_mueller_born_wolf(const double *jones, size_t jones_count, double *list,
                                                     size_t list_count);
+
+/* A bare surface met head-on, its two indices known as ranges, low to high, within 1 to 4. Writes a low and a high
+ * reflectance, 2 doubles, and returns 2; refuses with 13, 8. For every pair of doubles within the ranges the exact
+ * (n1 - n2)^2 / (n1 + n2)^2 lies between the two; their gap exceeds the true spread by at most 18 2^-53, and
+ * 0 <= low <= high <= 1. Where the ranges overlap low is 0. */
+DIHKELU_MUST_USE uint64_t dihkelu_reflectance_range(double n1_low, double n1_high, double n2_low, double n2_high,
+                                                    double *list, size_t list_count);
 
 #ifdef __cplusplus
 }

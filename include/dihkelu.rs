@@ -63,6 +63,14 @@ extern "C" {
         list: *mut f64,
         list_count: usize,
     ) -> u64;
+    fn dihkelu_reflectance_range(
+        n1_low: f64,
+        n1_high: f64,
+        n2_low: f64,
+        n2_high: f64,
+        list: *mut f64,
+        list_count: usize,
+    ) -> u64;
 }
 
 /// The version that these declarations are of: major × 2^16 + minor.
@@ -191,6 +199,16 @@ pub fn to_mueller(jones: &[f64], list: &mut [f64]) -> Result<u32, Refusal> {
 pub fn mueller_born_wolf(jones: &[f64], list: &mut [f64]) -> Result<u32, Refusal> {
     let (at, count) = (list.as_mut_ptr(), list.len());
     outcome(unsafe { dihkelu_mueller_born_wolf(jones.as_ptr(), jones.len(), at, count) })
+}
+
+/// A bare surface met head-on, its indices known as ranges, each low to high: writes a low and a high reflectance, gives 2.
+pub fn reflectance_range(
+    [n1_low, n1_high]: [f64; 2],
+    [n2_low, n2_high]: [f64; 2],
+    list: &mut [f64],
+) -> Result<u32, Refusal> {
+    let (at, count) = (list.as_mut_ptr(), list.len());
+    outcome(unsafe { dihkelu_reflectance_range(n1_low, n1_high, n2_low, n2_high, at, count) })
 }
 
 /// Whether subnormals are kept and rounding is to nearest, as dihkelu_environment_ok of the header finds out. A Rust

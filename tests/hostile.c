@@ -7,7 +7,7 @@
 
 #include "dihkelu.h"
 
-static uint64_t seed, calls, refusals[11], answers_given;
+static uint64_t seed, calls, refusals[14], answers_given;
 
 static uint64_t draw(void) {
     uint64_t z = (seed += 0x9E3779B97F4A7C15u);
@@ -59,7 +59,7 @@ static void leave(const char *call, List l, uint64_t returned, unsigned may, siz
     calls++;
     uint32_t number = dihkelu_refusal(returned);
     if (number != 0) {
-        if (number > 10 || (may >> number & 1) == 0) wrong(call, "a refusal that it has not", returned);
+        if (number > 13 || (may >> number & 1) == 0) wrong(call, "a refusal that it has not", returned);
         if (memcmp(l.now, l.before, 8 * l.count) != 0) wrong(call, "a list changed by a refusal", returned);
         if (number == 8 && l.count >= written) wrong(call, "8 for a list that is long enough", returned);
         refusals[number]++;
@@ -230,6 +230,32 @@ static void mueller_calls(void) {
     free(jones);
 }
 
+/* An index: an end of what is allowed or a neighbour of it, an index of glass, or any number. */
+static double range_end(void) {
+    static const double some[] = {1.0, 4.0, 1.38, 1.5, 1.52, 2.3, 3.0, 0.99999999999999989, 1.0000000000000002, 3.9999999999999996, 4.0000000000000009};
+    return below(8) == 0 ? any() : some[below(sizeof some / sizeof some[0])];
+}
+
+static int within(double x) { return x >= 1.0 && x <= 4.0; }
+
+static void range_calls(void) {
+    double a = range_end(), b = range_end(), c = range_end(), d = range_end();
+    if (below(2) && a > b) { double t = a; a = b; b = t; }
+    if (below(2) && c > d) { double t = c; c = d; d = t; }
+    int good = within(a) && within(b) && within(c) && within(d) && a <= b && c <= d;
+    List l = lend(below(5)), full = lend(2);
+    uint64_t r = dihkelu_reflectance_range(a, b, c, d, (double *)l.now, l.count);
+    uint64_t f = dihkelu_reflectance_range(a, b, c, d, (double *)full.now, 2);
+    if (f != (good ? 2 : 13ull << 32)) wrong("reflectance_range", "13 for a pair of ranges, or none for no such pair", f);
+    if (r != (good && l.count < 2 ? 8ull << 32 : f)) wrong("reflectance_range", "another number for another list", r);
+    double low = ((double *)full.now)[0], high = ((double *)full.now)[1];
+    if (good && !(0.0 <= low && low <= high && high <= 1.0)) wrong("reflectance_range", "no range within 0 to 1", f);
+    if (good && (low == 0.0) != (b >= c && d >= a)) wrong("reflectance_range", "0 where the ranges do not meet", f);
+    if (good && l.count >= 2 && memcmp(l.now, full.now, 16) != 0) wrong("reflectance_range", "other numbers in a longer list", r);
+    leave("reflectance_range", l, r, BIT(8) | BIT(13), 2);
+    leave("reflectance_range", full, f, BIT(13), 2);
+}
+
 static void expect(const char *call, uint64_t returned, uint64_t expected) {
     calls++;
     if (returned != expected) wrong(call, "another number for a null of count 0", returned);
@@ -261,6 +287,8 @@ static void null_calls(void) {
     expect("to_mueller", dihkelu_to_mueller(NULL, 0, NULL, 0), 1ull << 32);
     expect("mueller_born_wolf", dihkelu_mueller_born_wolf(NULL, 0, NULL, 0), 1ull << 32);
     expect("mueller_born_wolf", dihkelu_mueller_born_wolf(list, 8, NULL, 0), eight);
+    expect("reflectance_range", dihkelu_reflectance_range(1.0, 1.0, 1.5, 1.6, NULL, 0), eight);
+    expect("reflectance_range", dihkelu_reflectance_range(1.0, 1.0, 1.6, 1.5, NULL, 0), 13ull << 32);
     for (uint32_t code = 1; code <= 8; code++) {
         expect("evaluate", dihkelu_evaluate(code, 550.0, 1.0, 1.5, 0.3, 550.0, NULL, 0, list, DIHKELU_RESPONSE), DIHKELU_RESPONSE);
         expect("evaluate", dihkelu_evaluate(code, 550.0, 1.0, 1.5, 0.3, 550.0, NULL, 0, NULL, 0), eight);
@@ -312,12 +340,13 @@ int main(int count, char **words) {
         for (int i = 0; i < 16; i++) evaluate_calls();
         for (int i = 0; i < 16; i++) stack_calls();
         for (int i = 0; i < 16; i++) mueller_calls();
+        for (int i = 0; i < 16; i++) range_calls();
     }
     /* one sheet cut off at every byte */
     size_t size = build(bytes, 2, 3);
     for (size_t n = 0; n <= size; n++) sheet_calls(bytes, n);
 
-    printf("hostile: seed %s, %" PRIu64 " calls, %" PRIu64 " answered; refused 1: %" PRIu64 ", 3: %" PRIu64 ", 4: %" PRIu64 ", 5: %" PRIu64 ", 6: %" PRIu64 ", 7: %" PRIu64 ", 8: %" PRIu64 ", 9: %" PRIu64 ", 10: %" PRIu64 "; none wrong\n",
-           count > 1 ? words[1] : "1", calls, answers_given, refusals[1], refusals[3], refusals[4], refusals[5], refusals[6], refusals[7], refusals[8], refusals[9], refusals[10]);
+    printf("hostile: seed %s, %" PRIu64 " calls, %" PRIu64 " answered; refused 1: %" PRIu64 ", 3: %" PRIu64 ", 4: %" PRIu64 ", 5: %" PRIu64 ", 6: %" PRIu64 ", 7: %" PRIu64 ", 8: %" PRIu64 ", 9: %" PRIu64 ", 10: %" PRIu64 ", 13: %" PRIu64 "; none wrong\n",
+           count > 1 ? words[1] : "1", calls, answers_given, refusals[1], refusals[3], refusals[4], refusals[5], refusals[6], refusals[7], refusals[8], refusals[9], refusals[10], refusals[13]);
     return 0;
 }
