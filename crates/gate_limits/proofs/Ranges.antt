@@ -9,7 +9,7 @@ use lib.Ieee.Scale.{finite}
 use lib.Ieee.Positive.{positive}
 use Rattle.ieee.specs.Operators.{_⊗_}
 use Rattle.ieee.specs.Functions.{zero-f, one, seven-eighths, four, quarter}
-use Rattle.ieee.specs.Range.{In}
+use Rattle.ieee.specs.Range.{In, Mag}
 use Rattle.ieee.proofs.Range.Laws.{in-lit}
 use Rattle.ieee.proofs.Range.Tests.{gate-in, gate-least}
 use Rattle.ieee.proofs.Range.FromZero.{from-zero, equals-zero}
@@ -57,7 +57,7 @@ unfolding ofBits
 quarter-positive = tt
 
 -- ---- each limit
-index-in : (x : Float) → T (within one four x) → In 1 0 4 0 x
+pub index-in : (x : Float) → T (within one four x) → In 1 0 4 0 x
 unfolding within
 index-in x t = gate-in one four x one-in four-in index-ends (and-l (le one x) (le x four) t) (and-r (le one x) (le x four) t)
 
@@ -65,13 +65,17 @@ pub wavelength-in : (x : Float) → T (wavelength-passes x) → In 100 0 10000 0
 unfolding within
 wavelength-in x t = gate-in hundred ten-thousand x hundred-in ten-thousand-in wave-ends (and-l (le hundred x) (le x ten-thousand) t) (and-r (le hundred x) (le x ten-thousand) t)
 
+pub thickness-in : (x : Float) → T (within zero-f hundred-thousand x) → Mag 100000 0 x
+unfolding within
+thickness-in x t = from-zero x hundred-thousand hundred-thousand-in (and-l (le zero-f x) (le x hundred-thousand) t) (and-r (le zero-f x) (le x hundred-thousand) t)
+
 -- n_incident·abs(sin) is the size of n_incident·sin
 refracts-in : (n0 angle n : Float) → In 1 0 4 0 n0 → T (finite angle) → T (refracts (snell-size n0 angle) n) → Refracts (n0 ⊗ sin angle) n
 refracts-in n0 angle n h f t = subst (λ (z : Float). T (le z (seven-eighths ⊗ n))) (sym (abs-mul n0 (sin angle) (h .sign) (sin-mag angle f .fine))) t
 
 -- ---- the layers
 layer-in : (n0 angle : Float) (layer : ThinFilmLayer) → In 1 0 4 0 n0 → T (finite angle) → T (layer-passes n0 angle layer) → AdmittedLayer (n0 ⊗ sin angle) layer
-unfolding layer-within within
+unfolding layer-within
 layer-in n0 angle layer h f t =
     let A = within one four (layer .n) in
     let B = eq (layer .k) zero-f in
@@ -79,12 +83,10 @@ layer-in n0 angle layer h f t =
     let D = refracts (snell-size n0 angle) (layer .n) in
     let t₁ = and-r A (B && (C && D)) t in
     let t₂ = and-r B (C && D) t₁ in
-    let c = and-l C D t₂ in
-    let d = layer .«thickness_nm» in
     record {
       index = index-in (layer .n) (and-l A (B && (C && D)) t);
       lossless = equals-zero (layer .k) (and-l B (C && D) t₁);
-      thickness = from-zero d hundred-thousand hundred-thousand-in (and-l (le zero-f d) (le d hundred-thousand) c) (and-r (le zero-f d) (le d hundred-thousand) c);
+      thickness = thickness-in (layer .«thickness_nm») (and-l C D t₂);
       refracts = refracts-in n0 angle (layer .n) h f (and-r C D t₂);
     }
 

@@ -56,7 +56,7 @@ pub fn interface_of(code: u32) -> Interface
 
 // ---- limits, all ends included
 
-fn within(lo: f64, hi: f64, x: f64) -> bool
+pub fn within(lo: f64, hi: f64, x: f64) -> bool
     ensures { λ r. ⌜ r ≡ within lo hi x ⌝ }
 {
     lo <= x && x <= hi

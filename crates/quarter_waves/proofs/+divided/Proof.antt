@@ -1,0 +1,64 @@
+-- `quarter_waves::divided` meets its contract. The measure is how often q goes into p: 2q goes less often.
+-- Assumes nothing.
+use mathlib.Core.Path.{_≡_, sym, subst}
+use mathlib.Core.Bool.{true}
+use Prim.Native.Nat.{ℕ, _<_, _/_}
+use native.Mathlib.Omega.{arith}
+use lib.Dec.{T}
+use lib.Ieee.{Float, binary64, fits}
+use borrow.Fn.Kinds.{In}
+use borrow.Fn.PlainCycle.{Measures, is, falls, and}
+use Rattle.ieee.specs.Operators.{_⊕_}
+use Rattle.ieee.specs.Count.{count}
+use Rattle.quarter_waves.proofs.Steps as steps
+use Rattle.quarter_waves.proofs.divided.Reads as divided
+use Rattle.quarter_waves.proofs.divided.Kinds as divided-kinds
+use Rattle.quarter_waves.proofs.+divided.Lts-divided as divided-lts
+use Rattle.quarter_waves.proofs.+divided.{statement}
+use Rattle.quarter_waves.proofs.+divided.Tie.{close}
+
+abbrev μ-divided : Measures 0 divided-kinds.ps ℕ
+μ-divided κs a = count (a .0) / count (a .1 .0)
+
+abbrev divided-at : ℕ → In 0 divided-kinds.ps
+divided-at t = and 0 divided-kinds.ps (is 0 divided-kinds.ps μ-divided t) divided.Pre
+
+abbrev divided-below : ℕ → In 0 divided-kinds.ps
+divided-below t = and 0 divided-kinds.ps (falls 0 divided-kinds.ps _<_ μ-divided t) divided.Pre
+
+held : (x : Float) → fits binary64 x ≡ true → T (fits binary64 x)
+held x e = subst T (sym e) tt
+
+divided-returns : (t : ℕ) → divided-lts.Need-returns (divided-below t, divided.Post) (divided-at t) divided.Post
+divided-returns t c = let s = c .before in steps.none _ _ (held _ (s .good .0 .1)) (held _ (s .good .1 .0 .1)) (s .pre .1) (c .if1 .taken)
+
+divided-divided-requires : (t : ℕ) → divided-lts.Need-divided-requires (divided-below t, divided.Post) (divided-at t) divided.Post
+divided-divided-requires t c κs =
+    let s = c .before in
+    let p = s .args .p in
+    let q = s .args .q in
+    let h = held p (s .good .0 .1) in
+    let k = held q (s .good .1 .0 .1) in
+    (subst (λ (n : ℕ). count p / count (q ⊕ q) < n) (s .pre .0) (steps.falls p q h k (s .pre .1) (c .if1 .left)), steps.again p q h k (s .pre .1) (c .if1 .left))
+
+divided-mul-t8 : (t : ℕ) → divided-lts.Need-mul-t8 (divided-below t, divided.Post) (divided-at t) divided.Post
+divided-mul-t8 t c = let s = c .before .before .before .before in omega (arith, steps.few _ _ (held _ (s .good .0 .1)) (held _ (s .good .1 .0 .1)) (s .pre .1) (c .before .before .before .if1 .left) (c .before .before .divided .result) (c .before .before .divided .ensures))
+
+divided-mul-t9 : (t : ℕ) → divided-lts.Need-mul-t9 (divided-below t, divided.Post) (divided-at t) divided.Post
+divided-mul-t9 t c = let s = c .before .before .before .before in omega (arith, steps.few _ _ (held _ (s .good .0 .1)) (held _ (s .good .1 .0 .1)) (s .pre .1) (c .before .before .before .if1 .left) (c .before .before .divided .result) (c .before .before .divided .ensures))
+
+divided-add-t10 : (t : ℕ) → divided-lts.Need-add-t10 (divided-below t, divided.Post) (divided-at t) divided.Post
+divided-add-t10 t c = let s = c .before .before .before .before in omega (arith, steps.few _ _ (held _ (s .good .0 .1)) (held _ (s .good .1 .0 .1)) (s .pre .1) (c .before .before .before .if1 .left) (c .before .before .divided .result) (c .before .before .divided .ensures))
+
+divided-returns-2 : (t : ℕ) → divided-lts.Need-returns-2 (divided-below t, divided.Post) (divided-at t) divided.Post
+divided-returns-2 t c =
+    let s = c .before .before .before .before in
+    steps.even _ _ (held _ (s .good .0 .1)) (held _ (s .good .1 .0 .1)) (s .pre .1) (c .before .before .before .if1 .left) (c .before .before .divided .result) (c .before .before .divided .ensures) (c .before .if2 .taken)
+
+divided-returns-3 : (t : ℕ) → divided-lts.Need-returns-3 (divided-below t, divided.Post) (divided-at t) divided.Post
+divided-returns-3 t c =
+    let s = c .before .before .before .before in
+    steps.odd _ _ (held _ (s .good .0 .1)) (held _ (s .good .1 .0 .1)) (s .pre .1) (c .before .before .before .if1 .left) (c .before .before .divided .result) (c .before .before .divided .ensures) (c .before .if2 .left)
+
+pub +divided-spec : {M : Type 1} → statement M
++divided-spec = close μ-divided (λ t. divided-lts.spec (divided-below t, divided.Post) (divided-at t) divided.Post (divided-returns t) (divided-divided-requires t) (divided-mul-t8 t) (divided-mul-t9 t) (divided-add-t10 t) (divided-returns-2 t) (divided-returns-3 t))
