@@ -1,0 +1,2 @@
+-- What the call can say.
+pub mod Sound

@@ -1,0 +1,2 @@
+-- What dihkelu_quarter_waves returns and writes.
+pub mod Waves
