@@ -1,7 +1,7 @@
 -- What a call returns tells whether it answers, and what: the number and the place stay apart. Assumes nothing.
 use mathlib.Core.Path.{_≡_, refl, sym, _∙_, subst}
 use mathlib.Core.Bool.{Bool, true, false, cond}
-use mathlib.Core.List.{List, [], _++_}
+use mathlib.Core.List.{List, [], _∷_, _++_}
 use Prim.Native.Nat.{ℕ, _+_, _*_, _^_, _≤_, _<_}
 use native.Mathlib.Omega.{arith}
 use borrow.Author.Tests.{ltb-true}
@@ -29,6 +29,10 @@ use Rattle.c_stack.specs.Stack.{stacked}
 use Rattle.reflectance_range.specs.Range.{reflectance-range}
 use Rattle.c_range.specs.Range.{ranged}
 use Rattle.c_range.proofs.Sound.{sound}
+use Rattle.quarter_waves.specs.declared.QuarterWaves.{QuarterWaves}
+use Rattle.quarter_waves.specs.Waves.{quarter-waves}
+use Rattle.c_quarter_waves.specs.Waves.{counted}
+use Rattle.c_quarter_waves.proofs.Sound.{sound as waves-sound, small}
 use Rattle.c_stack.proofs.Flat.{flat-length}
 use Rattle.c_mueller.specs.Mueller.{converted}
 use Rattle.c_mueller.proofs.Answered.{converted-sound}
@@ -146,6 +150,11 @@ stack-small : (o : Outcome (List ThinFilmLayer)) → Few o → (layers : List Th
 stack-small (answer x) few layers e = let s : x ≡ layers = cc in rw (sym s) (rw (flat-length x) (omega arith))
 stack-small (refusal number place) few layers e = absurd (never number place layers e)
 
+-- ---- one number that is lent
+tells-count : (o : Outcome QuarterWaves) → Sound o → ((waves : QuarterWaves) → o ≡ answer waves → waves .count < 2 ^ 32) → (remainder : Float) → Tells (map (λ waves. waves .count) o) (answered counted o (remainder ∷ []) .returned)
+tells-count (answer waves) s small remainder = tells-answer (waves .count) (small waves refl)
+tells-count (refusal number place) s small remainder = tells-refusal number place (s .0) (s .1)
+
 pub numbers : Numbers
 numbers = record {
   of-gate = of-gate;
@@ -162,4 +171,6 @@ numbers = record {
       tells stacked o (few-sound o few) (stack-small o few) list;
   of-mueller = λ conversion numbers list. tells rows (converted conversion numbers) (converted-sound conversion numbers list) (λ m e. lit< tt) list;
   of-reflectance-range = λ a b c d list. tells ranged (reflectance-range a b c d) (sound a b c d) (λ r e. lit< tt) list;
+  of-quarter-waves = λ n thickness wavelength held remainder.
+      tells-count (quarter-waves n thickness wavelength) (waves-sound n thickness wavelength) (small n thickness wavelength held) remainder;
 }

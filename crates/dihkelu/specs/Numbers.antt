@@ -2,12 +2,12 @@
 -- Definitions only; proofs/Numbers.antt has the proof.
 use mathlib.Core.Path.{_≡_}
 use mathlib.Core.Bool.{cond}
-use mathlib.Core.List.{List}
+use mathlib.Core.List.{List, [], _∷_}
 use Prim.Native.Nat.{ℕ, _/_, _%_, _^_, _<_}
-use lib.Dec.{leb}
+use lib.Dec.{T, leb}
 use lib.ListN.{length}
-use lib.Ieee.{Float}
-use Rattle.refusal.specs.Outcome.{Outcome, answer, refusal}
+use lib.Ieee.{Float, binary64, fits}
+use Rattle.refusal.specs.Outcome.{Outcome, answer, refusal, map}
 use Rattle.sheet.specs.Claim.{Bytes}
 use Rattle.gate.specs.Gate.{gated, gate}
 use Rattle.train_steps.specs.declared.State.{State}
@@ -21,6 +21,8 @@ use Rattle.polarization_mueller.specs.declared.MuellerMatrix.{MuellerMatrix}
 use Rattle.c_mueller.specs.Mueller.{converted}
 use Rattle.reflectance_range.specs.Range.{reflectance-range}
 use Rattle.c_range.specs.Range.{ranged}
+use Rattle.quarter_waves.specs.Waves.{quarter-waves}
+use Rattle.c_quarter_waves.specs.Waves.{counted}
 use Rattle.c_call.specs.Call.{Reply, returned, answered}
 use Rattle.c_call.specs.Layout.{evaluated, surface-answered, rows}
 use Rattle.dihkelu.specs.Train.{start-layout, step-layout, run-done}
@@ -36,6 +38,10 @@ Tells (refusal number place) n = (0 < number) × ((n / 2 ^ 32 ≡ number) × (n 
 abbrev pub said : {A : Type 0} → (A → Reply) → Outcome A → List Float → Outcome ℕ
 said layout (answer a) list = cond (leb (length (layout a .numbers)) (length list)) (answer (layout a .returned)) (refusal 8 0)
 said layout (refusal number place) list = refusal number place
+
+-- of dihkelu_quarter_waves, which is lent one number and has no 8
+abbrev pub quarter-waves-said : Float → Float → Float → Outcome ℕ
+quarter-waves-said n thickness wavelength = map (λ waves. waves .count) (quarter-waves n thickness wavelength)
 
 -- the claim, call by call, for all bytes, numbers and lists
 pub record Numbers : Type 0 where
@@ -58,3 +64,5 @@ pub record Numbers : Type 0 where
   pub of-reflectance-range : (n1-low n1-high n2-low n2-high : Float) (list : List Float)
       → Tells (said ranged (reflectance-range n1-low n1-high n2-low n2-high) list)
       (answered ranged (reflectance-range n1-low n1-high n2-low n2-high) list .returned)
+  pub of-quarter-waves : (n thickness wavelength : Float) → T (fits binary64 wavelength) → (remainder : Float) →
+      Tells (quarter-waves-said n thickness wavelength) (answered counted (quarter-waves n thickness wavelength) (remainder ∷ []) .returned)

@@ -2,6 +2,7 @@
 // arguments one after the other. No call that refuses changes a list: a refusal is its number times
 // 2^32 plus its place, which is 0 where the documents give none.
 ghost use mathlib.Core.Path.{_≡_};
+ghost use mathlib.Core.List.{[], _∷_};
 ghost use Rattle.gate.specs.Gate as Gate;
 ghost use Rattle.gate.specs.Gate.{gated, gate};
 ghost use Rattle.c_layers.specs.Evaluate.{evaluate};
@@ -14,6 +15,8 @@ ghost use Rattle.polarization_born_wolf.specs.Conversion.{to-mueller-born-wolf}
 ghost use Rattle.c_mueller.specs.Mueller.{converted};
 ghost use Rattle.reflectance_range.specs.Range.{reflectance-range};
 ghost use Rattle.c_range.specs.Range.{ranged};
+ghost use Rattle.quarter_waves.specs.Waves.{quarter-waves};
+ghost use Rattle.c_quarter_waves.specs.Waves.{counted};
 ghost use Rattle.train_steps.specs.Train.{step, run};
 ghost use Rattle.sheet_surfaces.specs.Surfaces.{surface-answers};
 ghost use Rattle.dihkelu.specs.Train.{start-layout, step-layout, run-done};
@@ -117,6 +120,22 @@ pub extern "C" fn dihkelu_reflectance_range(
     ensures { λ r. ⌜ done r (now (list .exit)) ≡ answered ranged (reflectance-range «n1_low» «n1_high» «n2_low» «n2_high») (now (list .entry)) ⌝ }
 {
     c_range::reflectance_range(n1_low, n1_high, n2_low, n2_high, list)
+}
+
+// ---- a film in quarter waves
+
+// n * thickness in whole quarters of the wavelength: writes the length that is over and returns the
+// count; or a refusal: 14.
+#[no_mangle]
+pub extern "C" fn dihkelu_quarter_waves(
+    n: f64,
+    thickness_nm: f64,
+    wavelength_nm: f64,
+    remainder_nm: &mut f64,
+) -> u64
+    ensures { λ r. ⌜ done r (now («remainder_nm» .exit) ∷ []) ≡ answered counted (quarter-waves n «thickness_nm» «wavelength_nm») (now («remainder_nm» .entry) ∷ []) ⌝ }
+{
+    c_quarter_waves::quarter_waves(n, thickness_nm, wavelength_nm, remainder_nm)
 }
 
 // ---- the gate and the train
