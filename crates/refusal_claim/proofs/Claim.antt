@@ -48,6 +48,8 @@ use Rattle.sheet.proofs.Claim.{grammar-claim}
 use Rattle.sheet_values.specs.Values.{value}
 use Rattle.gate.specs.Gate.{verdict, carried, walked, verdicts, gated, gate}
 use Rattle.gate.proofs.Claim.{gate-claim}
+use Rattle.quarter_waves.specs.Waves as Waves
+use Rattle.quarter_waves.specs.Waves.{quarter-waves}
 use Rattle.sheet_surfaces.specs.Surfaces.{of-surface, surface-of, numbered, layer-of, nth-surface, nth-layer, surface-answers}
 use Rattle.sheet_surfaces.proofs.Answers.{all-nth}
 use Rattle.train_steps.specs.declared.State.{State}
@@ -377,6 +379,14 @@ of-nth-layer = record {
   );
 }
 
+-- ---- quarter waves: lit's wavelength of 1 is too short
+of-quarter-waves : Refuses (λ (x : Numbers). quarter-waves (x .n-incident) (x .n-substrate) (x .wavelength)) (14 ∷ [])
+unfolding quarter-waves Waves.admitted within Ieee.le ofBits
+of-quarter-waves = record {
+  only = λ x. either (14 ∷ []) (Waves.admitted (x .n-incident) (x .n-substrate) (x .wavelength)) (answer _) (refusal 14 0) tt tt;
+  each = ((lit, (0, refl)), tt);
+}
+
 pub refusal-claim : RefusalClaim
 refusal-claim = record {
   of-gate = of-gate;
@@ -394,4 +404,5 @@ refusal-claim = record {
   of-to-coating = of-to-coating;
   of-stack = of-stack;
   of-reflectance-range = of-reflectance-range;
+  of-quarter-waves = of-quarter-waves;
 }

@@ -23,6 +23,7 @@ use Rattle.name_coating.specs.Name.{from-format-name}
 use Rattle.sheet.specs.Blocks.{All}
 use Rattle.sheet.specs.Claim.{Bytes}
 use Rattle.gate.specs.Gate.{gate}
+use Rattle.quarter_waves.specs.Waves.{quarter-waves}
 use Rattle.sheet_surfaces.specs.Surfaces.{nth-surface, nth-layer, surface-answers}
 use Rattle.train_steps.specs.declared.State.{State}
 use Rattle.train_steps.specs.Train.{start, step, run}
@@ -75,3 +76,4 @@ pub record RefusalClaim : Type 0 where
   pub of-to-coating : Refuses (λ (x : SurfaceCoating × Layers). Built.outcome (to-coating (x .0) (x .1))) (3 ∷ [])
   pub of-stack : Refuses (λ (x : List ℕ × Numbers). at (stack (x .0)) (x .1)) (1 ∷ 9 ∷ 10 ∷ [])
   pub of-reflectance-range : Refuses (λ (x : Numbers). at reflectance-range x) (13 ∷ [])
+  pub of-quarter-waves : Refuses (λ (x : Numbers). at (λ n thickness angle wavelength. quarter-waves n thickness wavelength) x) (14 ∷ [])
