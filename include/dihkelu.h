@@ -28,6 +28,8 @@
  *      255 for a text over 255 bytes
  *  10  stack: more than 64 layers
  *  13  reflectance_range: a low end is above its high end, or an end is NaN or outside 1 to 4
+ *  14  quarter_waves: n is outside 1 to 4, the thickness outside 0 to 100,000 or the wavelength outside 100 to 10,000, or
+ *      one of them is no number
  *
  * A call that refuses writes nothing. (That is proved of the numbers in the list, so up to the bits of a NaN that
  * stands there; the tests look at every bit.) A call that answers writes the front of the list and leaves the rest of
@@ -43,6 +45,7 @@
  *     null too: nothing is read or written through it.
  *   - The list overlaps neither the sheet nor the text nor the layers nor the Jones matrix, and no other thread writes
  *     any of them meanwhile.
+ *   - One double that is written, remainder_nm, is a pointer that is not null, to a double that is there, aligned and writable.
  *   - The floating-point environment is the one that a C program starts with: rounding to nearest, subnormal numbers
  *     kept, no exception trapped. A program LINKED WITH -ffast-math or -Ofast starts with subnormals flushed to zero, and
  *     the gate then admits k = 2^-1074 and a power of -2^-1074; another rounding mode changes the last bits of every
@@ -204,6 +207,12 @@ DIHKELU_MUST_USE uint64_t dihkelu_mueller_born_wolf(const double *jones, size_t 
  * 0 <= low <= high <= 1. Where the ranges overlap low is 0. */
 DIHKELU_MUST_USE uint64_t dihkelu_reflectance_range(double n1_low, double n1_high, double n2_low, double n2_high,
                                                     double *list, size_t list_count);
+
+/* A film in quarter waves: p, which is n times the thickness, rounded once, in quarters q of the wavelength. Writes what
+ * is over to *remainder_nm and returns the count, 16,000 at most: p is count·q + remainder exactly, the remainder from 0
+ * (+0) and below q. Refuses with 14, and leaves *remainder_nm. */
+DIHKELU_MUST_USE uint64_t dihkelu_quarter_waves(double n, double thickness_nm, double wavelength_nm,
+                                                double *remainder_nm);
 
 #ifdef __cplusplus
 }

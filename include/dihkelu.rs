@@ -71,6 +71,12 @@ extern "C" {
         list: *mut f64,
         list_count: usize,
     ) -> u64;
+    fn dihkelu_quarter_waves(
+        n: f64,
+        thickness_nm: f64,
+        wavelength_nm: f64,
+        remainder_nm: *mut f64,
+    ) -> u64;
 }
 
 /// The version that these declarations are of: major × 2^16 + minor.
@@ -209,6 +215,16 @@ pub fn reflectance_range(
 ) -> Result<u32, Refusal> {
     let (at, count) = (list.as_mut_ptr(), list.len());
     outcome(unsafe { dihkelu_reflectance_range(n1_low, n1_high, n2_low, n2_high, at, count) })
+}
+
+/// n times the thickness in whole quarters of the wavelength: writes the length that is over, gives the count.
+pub fn quarter_waves(
+    n: f64,
+    thickness_nm: f64,
+    wavelength_nm: f64,
+    remainder_nm: &mut f64,
+) -> Result<u32, Refusal> {
+    outcome(unsafe { dihkelu_quarter_waves(n, thickness_nm, wavelength_nm, remainder_nm) })
 }
 
 /// Whether subnormals are kept and rounding is to nearest, as dihkelu_environment_ok of the header finds out. A Rust

@@ -7,7 +7,7 @@
 
 #include "dihkelu.h"
 
-static uint64_t seed, calls, refusals[14], answers_given;
+static uint64_t seed, calls, refusals[15], answers_given;
 
 static uint64_t draw(void) {
     uint64_t z = (seed += 0x9E3779B97F4A7C15u);
@@ -59,7 +59,7 @@ static void leave(const char *call, List l, uint64_t returned, unsigned may, siz
     calls++;
     uint32_t number = dihkelu_refusal(returned);
     if (number != 0) {
-        if (number > 13 || (may >> number & 1) == 0) wrong(call, "a refusal that it has not", returned);
+        if (number > 14 || (may >> number & 1) == 0) wrong(call, "a refusal that it has not", returned);
         if (memcmp(l.now, l.before, 8 * l.count) != 0) wrong(call, "a list changed by a refusal", returned);
         if (number == 8 && l.count >= written) wrong(call, "8 for a list that is long enough", returned);
         refusals[number]++;
@@ -256,6 +256,24 @@ static void range_calls(void) {
     leave("reflectance_range", full, f, BIT(13), 2);
 }
 
+/* What is given is put together again: count·q + remainder is near p, and the remainder at least +0 and below q. */
+static void quarter_waves_calls(void) {
+    static const double ns[] = {1.0, 1.38, 2.3, 4.0}, lengths[] = {0.0, -0.0, 99.6, 1e5, 25.0}, waves[] = {100.0, 550.0, 1e4};
+    int fine = below(2) != 0;
+    double n = fine ? ns[below(4)] : any(), thickness = !fine ? any() : below(2) ? lengths[below(5)] : (double)below(1000), wavelength = fine ? waves[below(3)] : any();
+    List l = lend(1);
+    uint64_t r = dihkelu_quarter_waves(n, thickness, wavelength, (double *)l.now);
+    int within = 1 <= n && n <= 4 && 0 <= thickness && thickness <= 1e5 && 100 <= wavelength && wavelength <= 1e4;
+    if (within ? r > 16000 : r != 14ull << 32) wrong("quarter_waves", "another number", r);
+    if (within) {
+        double q = wavelength / 4, over = number(l.now[0]);
+        if (!(over >= 0 && over < q) || l.now[0] >> 63) wrong("quarter_waves", "a remainder that is none", r);
+        double apart = (double)r * q + over - n * thickness;
+        if (!(-1e-9 < apart && apart < 1e-9)) wrong("quarter_waves", "another path", r);
+    }
+    leave("quarter_waves", l, r, BIT(14), 1);
+}
+
 static void expect(const char *call, uint64_t returned, uint64_t expected) {
     calls++;
     if (returned != expected) wrong(call, "another number for a null of count 0", returned);
@@ -341,12 +359,19 @@ int main(int count, char **words) {
         for (int i = 0; i < 16; i++) stack_calls();
         for (int i = 0; i < 16; i++) mueller_calls();
         for (int i = 0; i < 16; i++) range_calls();
+        for (int i = 0; i < 16; i++) quarter_waves_calls();
     }
     /* one sheet cut off at every byte */
     size_t size = build(bytes, 2, 3);
     for (size_t n = 0; n <= size; n++) sheet_calls(bytes, n);
 
-    printf("hostile: seed %s, %" PRIu64 " calls, %" PRIu64 " answered; refused 1: %" PRIu64 ", 3: %" PRIu64 ", 4: %" PRIu64 ", 5: %" PRIu64 ", 6: %" PRIu64 ", 7: %" PRIu64 ", 8: %" PRIu64 ", 9: %" PRIu64 ", 10: %" PRIu64 ", 13: %" PRIu64 "; none wrong\n",
-           count > 1 ? words[1] : "1", calls, answers_given, refusals[1], refusals[3], refusals[4], refusals[5], refusals[6], refusals[7], refusals[8], refusals[9], refusals[10], refusals[13]);
+    printf("hostile: seed %s, %" PRIu64 " calls, %" PRIu64 " answered; refused", count > 1 ? words[1] : "1", calls, answers_given);
+    const char *before = " ";
+    for (int i = 1; i < 15; i++) {
+        if (refusals[i] == 0) continue;
+        printf("%s%d: %" PRIu64, before, i, refusals[i]);
+        before = ", ";
+    }
+    printf("; none wrong\n");
     return 0;
 }

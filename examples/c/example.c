@@ -1,5 +1,5 @@
 /* Document 01's sheet from C: gate, start, steps, the answers of its surface, a whole run; a stack in shorthand;
- * Mueller matrices of empty space. */
+ * Mueller matrices of empty space; quarter waves. */
 #include <inttypes.h>
 #include <stdio.h>
 #include <stdlib.h>
@@ -85,6 +85,10 @@ int main(void) {
     printf("empty space: [3][3] %g by the Rust's signs", mueller[15]);
     answered("mueller_born_wolf", dihkelu_mueller_born_wolf(empty, 8, mueller, DIHKELU_MUELLER));
     printf(", %g by Born and Wolf's\n", mueller[15]);
+
+    double over;
+    uint32_t waves = answered("quarter_waves", dihkelu_quarter_waves(2.3, 250.0, 1064.0, &over));
+    printf("250 nm of 2.3 at 1064 nm: %" PRIu32 " quarter waves, %g nm over\n", waves, over);
 
     sheet[0] = 0;
     print_refusal("gate", dihkelu_gate(sheet, sizeof sheet));

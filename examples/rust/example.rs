@@ -1,12 +1,12 @@
 //! Document 01's sheet from Rust: gate, start, steps, the answers of its surface, a whole run; a stack in shorthand;
-//! Mueller matrices of empty space.
+//! Mueller matrices of empty space; quarter waves.
 
 #[path = "../../include/dihkelu.rs"]
 mod dihkelu;
 
 use dihkelu::{
-    answers, environment_ok, evaluate, gate, mueller_born_wolf, run, stack, start, step, to_mueller, version, Refusal, COATED,
-    MUELLER, RESPONSE, STACK, VERSION,
+    answers, environment_ok, evaluate, gate, mueller_born_wolf, quarter_waves, run, stack, start, step, to_mueller, version,
+    Refusal, COATED, MUELLER, RESPONSE, STACK, VERSION,
 };
 
 fn main() -> Result<(), Refusal> {
@@ -58,6 +58,10 @@ fn main() -> Result<(), Refusal> {
     to_mueller(&empty, &mut rust)?;
     mueller_born_wolf(&empty, &mut born_wolf)?;
     println!("empty space: [3][3] {} by the Rust's signs, {} by Born and Wolf's", rust[15], born_wolf[15]);
+
+    let mut over = 0.0;
+    let waves = quarter_waves(2.3, 250.0, 1064.0, &mut over)?;
+    println!("250 nm of 2.3 at 1064 nm: {waves} quarter waves, {over} nm over");
 
     sheet[0] = 0;
     if let Err(refusal) = gate(&sheet) {
