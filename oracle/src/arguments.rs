@@ -1,6 +1,6 @@
 // Arguments of the recorded functions: what each may be, and random choices.
 
-use crate::functions::{born_wolf, exports, names, shorthand, train};
+use crate::functions::{born_wolf, exports, names, quarter_waves, shorthand, train};
 use crate::ranges;
 use crate::section2::{PI, T};
 use crate::values::{any, multiple, neighbour, optical, short, square, subnormal, Rng, CORE};
@@ -46,6 +46,8 @@ pub enum Arg {
     Name,
     /// A text of the stack shorthand, or one near it.
     Stack,
+    /// n, thickness and wavelength of a film, often near a whole number of quarter waves.
+    Film,
     /// Bytes of any kind.
     Bytes,
     /// A sheet.
@@ -198,6 +200,7 @@ impl Arg {
             Arg::Name => names::push(&names::name(rng), words),
             Arg::Bytes => names::push(&names::bytes(rng), words),
             Arg::Stack => names::push(&shorthand::text(rng), words),
+            Arg::Film => quarter_waves::push(rng, style, words),
             Arg::Sheet | Arg::Start => train::push_sheet(rng, words),
             Arg::Step => train::push_step(rng, words),
             Arg::Run => train::push_run(rng, words),

@@ -1,7 +1,7 @@
 // The fixed cases of the recorded functions: special values in every argument, and usual ones together.
 
 use crate::arguments::{Arg, Style};
-use crate::functions::{born_wolf, exports, names, shorthand, train};
+use crate::functions::{born_wolf, exports, names, quarter_waves, shorthand, train};
 use crate::section2::PI;
 use crate::values::{neighbour, specials, Rng, CORE};
 
@@ -43,6 +43,7 @@ impl Arg {
             Arg::Name => names::cases(&names::names()),
             Arg::Bytes => names::cases(&names::byte_strings()),
             Arg::Stack => names::cases(&shorthand::texts()),
+            Arg::Film => quarter_waves::cases(),
             Arg::Sheet => train::sheet_cases(),
             Arg::Start => train::start_cases(),
             Arg::Step => train::step_cases(),

@@ -5,6 +5,7 @@ use crate::arguments::{random, Arg};
 use crate::dihkelu;
 use crate::functions::born_wolf::to_mueller_born_wolf;
 use crate::functions::exports::{mueller, reflectance_range, stack};
+use crate::functions::quarter_waves::{multiples, quarter_waves};
 use crate::progress::Progress;
 use crate::ranges;
 use crate::record::{bits, numbers, Arguments};
@@ -64,6 +65,12 @@ pub fn linked_muellers() -> [fn(&[f64], &mut [f64]) -> u64; 2] {
 /// `ends` are n1 low, n1 high, n2 low, n2 high.
 pub fn linked_reflectance_range([a, b, c, d]: ranges::Ends, list: &mut [f64]) -> u64 {
     returned(dihkelu::reflectance_range([a, b], [c, d], list))
+}
+
+/// `film` is n, thickness, wavelength.
+pub fn linked_quarter_waves(film: [f64; 3], remainder: &mut f64) -> u64 {
+    let [n, thickness, wavelength] = film;
+    returned(dihkelu::quarter_waves(n, thickness, wavelength, remainder))
 }
 
 fn returned(outcome: Result<u32, dihkelu::Refusal>) -> u64 {
@@ -242,6 +249,39 @@ pub fn compare_trains(seed: u64, count: u64, spoiled: Option<u64>) -> (u64, u64)
         }
     }
     (calls, different)
+}
+
+/// Holds `dihkelu_quarter_waves` against whole numbers on these films. Returns how many there are and how many differ.
+fn compare_films(films: impl Iterator<Item = [f64; 3]>, spoiled: Option<u64>) -> (u64, u64) {
+    let (mut made, mut different) = (0, 0);
+    for film in films {
+        let mut list = filled(1);
+        let returned = linked_quarter_waves(film, &mut list[0]);
+        let (number, written) = match quarter_waves(film) {
+            Some((count, remainder)) => (count, vec![remainder]),
+            None => (14 << 32, Vec::new()),
+        };
+        let number = number ^ u64::from(spoiled == Some(made));
+        if !left(returned, number, &list, &written) {
+            if different == 0 {
+                println!("quarter waves: {film:?}, returned {returned:X}, not {number:X}, left {list:?}, not {written:?}");
+            }
+            different += 1;
+        }
+        made += 1;
+    }
+    (made, different)
+}
+
+/// The same on `count` random films, and on the neighbours of all whole multiples.
+pub fn compare_quarter_waves(seed: u64, count: u64, spoiled: Option<u64>) -> [(u64, u64); 2] {
+    let function = &crate::functions::quarter_waves::table()[0];
+    let mut rng = Rng::new(seed);
+    let film = |_| Arguments::new(&random(function.args, &mut rng)).floats();
+    [
+        compare_films((0..count).map(film), spoiled),
+        compare_films(multiples(), None),
+    ]
 }
 
 /// Holds `dihkelu_stack` against the second reading of the stack shorthand on `count` texts. Returns how many differ.

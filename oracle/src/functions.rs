@@ -10,13 +10,14 @@ pub mod complex;
 pub mod exports;
 pub mod names;
 pub mod polarization;
+pub mod quarter_waves;
 pub mod scalar;
 pub mod shorthand;
 pub mod thin_film;
 pub mod train;
 
 /// The groups, in the order of their numbers.
-pub const GROUPS: [&str; 12] = [
+pub const GROUPS: [&str; 13] = [
     "ieee",
     "elementary",
     "complex",
@@ -26,6 +27,7 @@ pub const GROUPS: [&str; 12] = [
     "names",
     "shorthand",
     "born_wolf",
+    "quarter_waves",
     "sheet",
     "train",
     "exports",
@@ -79,6 +81,7 @@ pub fn table() -> Vec<Function> {
     all.extend(names::table());
     all.extend(shorthand::table());
     all.extend(born_wolf::table());
+    all.extend(quarter_waves::table());
     all.extend(train::table());
     all.extend(exports::table());
     all

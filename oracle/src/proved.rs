@@ -154,9 +154,9 @@ fn agree(name: &str, count: u64, different: u64, what: &str) -> bool {
 }
 
 /// Holds the library against section 2 on `count` arguments for each function, against `SurfaceCoating::evaluate` on
-/// as many, against the stack shorthand and both Mueller matrices on as many, and against the train on a tenth as many
-/// sheets. Returns whether all agree. What is expected of call number `spoiled` of each is wrong, so that the comparison
-/// can be tried itself.
+/// as many, against the stack shorthand, both Mueller matrices, ranges of indices and quarter waves on as many, and against
+/// the train on a tenth as many sheets. Returns whether all agree. What is expected of call number `spoiled` of each is
+/// wrong, so that the comparison can be tried itself.
 pub fn compare(seed: u64, count: u64, spoiled: Option<u64>) -> Option<bool> {
     use crate::arguments::{random, Arg};
     use crate::record::bits;
@@ -206,6 +206,9 @@ pub fn compare(seed: u64, count: u64, spoiled: Option<u64>) -> Option<bool> {
         let (different, most) = crate::exports::compare_ranges(seed, count, spoiled);
         all_agree &= agree("reflectance_range", count, different, "");
         println!("  a gap exceeds the true spread by {most:.3} 2^-53 at most");
+        let [random, whole] = crate::exports::compare_quarter_waves(seed, count, spoiled);
+        all_agree &= agree("quarter waves", random.0, random.1, "");
+        all_agree &= agree("quarter waves about whole ones", whole.0, whole.1, "");
         let sheets = (count / 10).max(count.min(1));
         let (calls, different) = crate::exports::compare_trains(seed, sheets, spoiled);
         all_agree &= agree(

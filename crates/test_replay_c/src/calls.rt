@@ -1,4 +1,4 @@
-// The functions 180 to 196: the exports. Each gives what a call returns and all of the list that it was
+// The functions 180 to 196, the exports, and 150, which is one of them too. Each gives what a call returns and all of the list that it was
 // lent, in so many words; none where it is not one of these or its list is too long to lend.
 
 // What a call returned, and the first n numbers of the list; the words behind them do not count.
@@ -156,6 +156,19 @@ fn range_call(n: usize, a: &[u8], out: &mut [u64; 256]) -> usize {
     returned(out, number, &list, n)
 }
 
+fn quarter_waves_call(a: &[u8], out: &mut [u64; 256]) -> usize {
+    let mut remainder = -7.25f64;
+    let number = dihkelu::dihkelu_quarter_waves(
+        test_records::float_at(a, 0),
+        test_records::float_at(a, 1),
+        test_records::float_at(a, 2),
+        &mut remainder,
+    );
+    out[0] = number;
+    out[1] = test_records::bits(remainder);
+    2
+}
+
 fn float_out(out: &mut [u64; 256], x: f64) -> usize {
     out[0] = test_records::bits(x);
     1
@@ -166,6 +179,7 @@ pub fn call(f: usize, a: &[u8], out: &mut [u64; 256]) -> usize {
     let done = test_records::small_at(a, 1);
     let x = test_records::float_at(a, 0);
     match f {
+        155 => quarter_waves_call(a, out),
         180 => gate_call(test_records::bytes_at(a, 0), out),
         181 => start_call(n, test_records::bytes_at(a, 1), out),
         182 => {

@@ -1,6 +1,7 @@
 // 01's known answers and wrong turns, over the original with section 2's meanings.
 
 use crate::functions::names::{from_format_name, names, trim};
+use crate::functions::quarter_waves::{multiples, quarter_waves};
 use crate::record::{absorptance, bits, numbers};
 use crate::reference::fresnel::{fresnel_dielectric, schlick_approx};
 use crate::reference::polarization::{
@@ -44,6 +45,27 @@ fn what_stays_in_the_glass() {
     assert_eq!(words, [0x3FB9_9999_9999_9998, 0, 1_f64.to_bits()]);
     for x in [0.0, 1.0, f64::INFINITY, f64::NAN] {
         assert!(absorptance(x, f64::NAN).is_nan() && absorptance(f64::NAN, x).is_nan());
+    }
+}
+
+#[test]
+fn quarter_waves_by_whole_numbers() {
+    let given = |film| quarter_waves(film).map(|(count, over)| (count, over.to_bits()));
+    let below = [2.307783427626831, 30173.46609148967, 486.1];
+    assert_eq!(given(below), Some((572, 0x405E_6199_9999_97E8)));
+    assert_eq!(given([1.5, 91.66666666666666, 550.0]), Some((1, 0)));
+    assert_eq!(given([4.0, 100_000.0, 100.0]), Some((16_000, 0)));
+    assert_eq!(given([1.0, -0.0, 10_000.0]), Some((0, 0)));
+    assert_eq!(given([f64::NAN, 1.0, 550.0]), None);
+    // the platform's fmod is exact, and so is what is left for the count
+    for film in multiples() {
+        let (p, q) = (film[0] * film[1], film[2] / 4.0);
+        let over = p.abs() % q;
+        let expected = (((p - over) / q).round() as u64, over.to_bits());
+        assert!(
+            given(film).is_none_or(|found| found == expected),
+            "{film:?}"
+        );
     }
 }
 
