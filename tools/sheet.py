@@ -1,5 +1,5 @@
 #!/usr/bin/env python3
-"""Sheets for people: write one from a text, show one as text, show the losses surface by surface. See docs/SHEETS.md."""
+"""Sheets for people: write one from a text, show one as text, its layers in quarter waves, the losses surface by surface. See docs/SHEETS.md."""
 
 import argparse
 import ctypes
@@ -13,7 +13,7 @@ import sys
 from pathlib import Path
 
 ROOT = Path(__file__).resolve().parent.parent
-VERSION = "1.3 (sheets of editions 1 and 2)"
+VERSION = "1.4 (sheets of editions 1 and 2)"
 MOST_BYTES = 10_000_000  # of a file; a sheet has 38,692 at most
 
 # payload / 2, document 01 section 1
@@ -146,6 +146,8 @@ def library():
     double, size, at = ctypes.c_double, ctypes.c_size_t, ctypes.POINTER(ctypes.c_double)
     found.dihkelu_stack.argtypes = [ctypes.c_char_p, size, double, double, double, double, at, size]
     found.dihkelu_stack.restype = ctypes.c_uint64
+    found.dihkelu_quarter_waves.argtypes = [double, double, double, at]
+    found.dihkelu_quarter_waves.restype = ctypes.c_uint64
     return found
 
 
@@ -439,6 +441,33 @@ def hints(sheet):
     return said
 
 
+# ---- quarter waves
+
+def quarter_waves(sheet):
+    """Each layer in whole quarters of the beam's wavelength, and what is over, by the proved library."""
+    waves, wavelength = library(), sheet.beam["floats"][0]
+    rows = [["surface", "layer", "n", "thickness nm", "quarter waves", "over nm"]]
+    for count, surface in enumerate(sheet.surfaces, 1):
+        for number_, layer in enumerate(surface["layers"], 1):
+            n, thickness, over = index_at(layer, wavelength), layer["floats"][-1], ctypes.c_double()
+            returned = waves.dihkelu_quarter_waves(n, thickness, wavelength, over)
+            if returned >> 32:
+                where = f"layer {number_} of surface {count}" + (f" (line {layer['line']})" if layer["line"] else "")
+                raise Wrong(f"refused {returned >> 32} {returned & 0xFFFFFFFF}: {where}: {limits_missed(n, thickness, wavelength)}")
+            rows.append([str(count), str(number_), written(n), written(thickness), str(returned), written(over.value)])
+    if len(rows) == 1:
+        raise Wrong("no surface has layers of its own")
+    widths = [max(len(row[i]) for row in rows) for i in range(len(rows[0]))]
+    lines = ["  ".join(cell.rjust(width) for cell, width in zip(row, widths)) for row in rows]
+    return f"a quarter wave of {written(wavelength)} nm is {written(wavelength / 4)} nm\n" + "\n".join(lines) + "\n"
+
+
+def limits_missed(n, thickness, wavelength):
+    """Which limits of section 3 the numbers of refusal 14 miss."""
+    limits = [("n", n, 1, 4), ("the thickness", thickness, 0, 100000), ("the wavelength", wavelength, 100, 10000)]
+    return "; ".join(f"{name} is {written(x)}, not from {low} to {high}" for name, x, low, high in limits if not low <= x <= high)
+
+
 # ---- losses
 
 def percent(part, whole):
@@ -575,6 +604,9 @@ def execute(command, name, program):
     if command == "write":
         sheet = from_text(data)
         return sheet.bytes(), sheet
+    if command == "quarter-waves":
+        sheet = from_text(data) if is_text(data) else from_bytes(data)
+        return quarter_waves(sheet).encode(), sheet
     if is_text(data):
         sheet = from_text(data)
         data = sheet.bytes()
@@ -600,7 +632,7 @@ def arguments():
     parser = argparse.ArgumentParser(description=__doc__)
     parser.add_argument("--version", action="version", version=f"%(prog)s {VERSION}")
     commands = parser.add_subparsers(dest="command", required=True, metavar="COMMAND")
-    for command, about in [("write", "writes a text's sheet to standard output"), ("show", "prints a sheet as a text"), ("losses", "prints what each surface of a sheet or text loses")]:
+    for command, about in [("write", "writes a text's sheet to standard output"), ("show", "prints a sheet as a text"), ("quarter-waves", "prints the layers of a sheet or text in quarter waves"), ("losses", "prints what each surface of a sheet or text loses")]:
         one = commands.add_parser(command, help=about, description=about)
         one.add_argument("file", metavar="FILE", help="a file, or - for standard input")
         if command == "losses":

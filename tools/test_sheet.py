@@ -171,6 +171,38 @@ class Glasses(unittest.TestCase):
         self.assertEqual(tool("losses", str(given), "--program", PROGRAM), (0, (EXAMPLES / "glasses.losses").read_bytes(), ""))
 
 
+class QuarterWaves(unittest.TestCase):
+    """Layers in quarter waves, counted by the proved library."""
+
+    def setUp(self):
+        if not (ROOT / "target" / "staticlib" / "libdihkelu.so").exists():
+            self.skipTest("the library is not built; run: tools/library")
+
+    def test_the_example(self):
+        table = (0, (EXAMPLES / "window.waves").read_bytes(), "")
+        for name in ["window.txt", "window.sheet"]:
+            self.assertEqual(tool("quarter-waves", str(EXAMPLES / name)), table)
+
+    def test_just_below_a_whole_one(self):
+        status, out, _ = tool("quarter-waves", "-", given="beam 486.1 nm s 1 p 1\n" + CUSTOM + "layer 2.307783427626831 thickness 30173.46609148967 nm\n")
+        self.assertEqual((status, out.split()[-2:]), (0, [b"572", b"121.52499999999384"]))
+
+    def test_minus_zero(self):
+        status, out, _ = tool("quarter-waves", "-", given=BEAM + CUSTOM + "layer 1.38 thickness -0 nm\n")
+        self.assertEqual((status, out.split()[-2:]), (0, [b"0", b"0"]))
+
+    def test_outside_the_limits(self):
+        said = "-: refused 14 0: layer 2 of surface 1 (line 4): n is 4.5, not from 1 to 4\n"
+        self.assertEqual(tool("quarter-waves", "-", given=BEAM + CUSTOM + LAYER + "layer 4.5 thickness 99 nm\n"), (1, b"", said))
+
+    def test_a_glass_by_its_index(self):
+        glass = tool("quarter-waves", "-", given=BEAM + CUSTOM + "glass a 1.5 b 0.0625 c 0.015625 thickness 80 nm\n")
+        self.assertEqual(glass, tool("quarter-waves", "-", given=BEAM + CUSTOM + "layer 2 thickness 80 nm\n"))
+
+    def test_no_layers(self):
+        self.assertEqual(tool("quarter-waves", "-", given=BEAM), (1, b"", "-: no surface has layers of its own\n"))
+
+
 class Examples(unittest.TestCase):
     def test_example(self):
         text, sheet = EXAMPLES / "window.txt", EXAMPLES / "window.sheet"

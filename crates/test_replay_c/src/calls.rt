@@ -1,4 +1,4 @@
-// The functions 180 to 196, the exports, and 150, which is one of them too. Each gives what a call returns and all of the list that it was
+// The functions 180 to 196, the exports, and 155, which is one of them too. Each gives what a call returns and all of the list that it was
 // lent, in so many words; none where it is not one of these or its list is too long to lend.
 
 // What a call returned, and the first n numbers of the list; the words behind them do not count.
