@@ -69,3 +69,39 @@ fn the_fourth_column_of_to_mueller_has_the_other_sign() {
         }
     }
 }
+
+/// Of diag(x, y) by the formula: with c + i s = x*·y, every operation rounded.
+fn diagonal(x: Complex, y: Complex) -> [[f64; 4]; 4] {
+    let square = |z: Complex| z.re * z.re + z.im * z.im;
+    let (sum, gap) = (0.5 * (square(x) + square(y)), 0.5 * (square(x) - square(y)));
+    let (c, s) = (x.re * y.re + x.im * y.im, x.re * y.im - x.im * y.re);
+    [
+        [sum, gap, 0.0, 0.0],
+        [gap, sum, 0.0, 0.0],
+        [0.0, 0.0, c, -s],
+        [0.0, 0.0, s, c],
+    ]
+}
+
+/// Whether the columns are those of the formula, in value, for parts of which the largest are below 2^`most`.
+fn columns_hold(rng: &mut Rng, most: i32) -> bool {
+    let mut part = || {
+        let x = match rng.below(6) {
+            0 => 0.0,
+            1 => f64::from_bits(rng.bits() >> 12),
+            2 => rng.log(most - 1, most - 1),
+            3 => rng.log(-1022, most - 1),
+            _ => rng.uniform(0.0, 2.0),
+        };
+        rng.signed(x)
+    };
+    let (x, y) = (Complex::new(part(), part()), Complex::new(part(), part()));
+    to_mueller_born_wolf(&JonesMatrix::diattenuator(x, y)).m == diagonal(x, y)
+}
+
+#[test]
+fn columns_of_a_diagonal_matrix() {
+    let mut rng = Rng::new(8);
+    assert!((0..200_000).all(|_| columns_hold(&mut rng, 500)));
+    assert!((0..1000).any(|_| !columns_hold(&mut rng, 520)));
+}
