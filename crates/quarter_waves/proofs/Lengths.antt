@@ -41,10 +41,10 @@ least-count n d c l m e D h =
     (le-trans (le-of-eq (mul-right-comm m l d)) (le-trans (mul-le-mul-right l (subst (λ (z : ℕ). m * d ≤ z) (mul-one n) h)) (le-of-eq (sym e))))
     D
 
-pub mag-count : {m : ℕ} (x : Float) → T (fits binary64 x) → Mag m 0 x → count x ≤ m * 2 ^ 1074
+mag-count : {m : ℕ} (x : Float) → T (fits binary64 x) → Mag m 0 x → count x ≤ m * 2 ^ 1074
 mag-count {m} x h g = most-count (num x) (den x) (count x) (2 ^ 1074) m (count-is x h (g .fine)) (den-pos x) (g .most)
 
-pub in-count : {a p j : ℕ} (x : Float) → T (fits binary64 x) → In a 0 p j x → a * 2 ^ 1074 ≤ count x
+in-count : {a p j : ℕ} (x : Float) → T (fits binary64 x) → In a 0 p j x → a * 2 ^ 1074 ≤ count x
 in-count {a} x h g = least-count (num x) (den x) (count x) (2 ^ 1074) a (count-is x h (plus-finite x (g .sign))) (den-pos x) (g .least)
 
 -- ---- a number that is at least 0 and whose sign is set is a zero
