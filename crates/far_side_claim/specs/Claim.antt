@@ -19,12 +19,12 @@ use Rattle.sheet_values.specs.Values.{value, films}
 use Rattle.gate.specs.Gate.{gated}
 use Rattle.sheet_surfaces.specs.Surfaces.{surface-answers}
 
--- what is given for explicit layers is f of these: 'in reverse order' where 'n_incident > n_substrate'; as they stand where it is at most n_substrate,
--- and where one of the two is no number
-pub record Turned {A : Type 0} (n-incident n-substrate : Float) (f : List ThinFilmLayer → A) (layers : List ThinFilmLayer) (given : A) : Type 0 where
-  pub above : lt n-substrate n-incident ≡ true → given ≡ f (reverse layers)
-  pub at-most : le n-incident n-substrate ≡ true → given ≡ f layers
-  pub no-number : (n-incident ≡ nan) ⊎ (n-substrate ≡ nan) → given ≡ f layers
+-- what is given for explicit layers is f of these, with n1 for n_incident and n2 for n_substrate: 'in reverse order' where
+-- 'n_incident > n_substrate'; as they stand where it is at most n_substrate, and where one of the two is no number
+pub record Turned {A : Type 0} (n1 n2 : Float) (f : List ThinFilmLayer → A) (layers : List ThinFilmLayer) (given : A) : Type 0 where
+  pub above : lt n2 n1 ≡ true → given ≡ f (reverse layers)
+  pub at-most : le n1 n2 ≡ true → given ≡ f layers
+  pub no-number : (n1 ≡ nan) ⊎ (n2 ≡ nan) → given ≡ f layers
 
 -- 'the answer or refusal is the one that `Coating::evaluate` gives', for every list of layers, of any length
 pub record FarSide : Type 0 where
@@ -33,12 +33,15 @@ pub record FarSide : Type 0 where
       Turned n-incident n-substrate (λ l. evaluate-coating C.Multilayer l n-incident n-substrate angle wavelength) layers
       (evaluate-surface (S.Custom C.Multilayer) layers n-incident n-substrate angle wavelength)
   -- of a sheet's surface whose coating is 5
-  pub of-sheet : (src : List ℕ) (x : Sheet) → gated src ≡ answer x → (i : ℕ) → i < length (x .surfaces) → nth (x .surfaces) i .payload / 2 ≡ 5 →
+  pub of-sheet : (src : List ℕ) (x : Sheet) → gated src ≡ answer x → (i : ℕ) → i < length (x .surfaces) →
+      nth (x .surfaces) i .payload / 2 ≡ 5 →
       let y = nth (x .surfaces) i in
+      let wavelength = value (x .wavelength) in
       let n-incident = value (y .n-incident) in
       let n-substrate = value (y .n-substrate) in
       Turned n-incident n-substrate
-      (λ l. map coated-answers (evaluate-coating C.Multilayer l n-incident n-substrate (value (y .angle)) (value (x .wavelength)))) (films (value (x .wavelength)) (y .layers))
+      (λ l. map coated-answers (evaluate-coating C.Multilayer l n-incident n-substrate (value (y .angle)) wavelength))
+      (films wavelength (y .layers))
       (surface-answers src i)
   -- of dihkelu_evaluate with code 5
   pub of-call : (design n-incident n-substrate angle wavelength : Float) (flat : List Float) → length flat % 3 ≡ 0 →

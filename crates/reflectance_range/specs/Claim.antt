@@ -52,8 +52,10 @@ pub record Reached (n1-low n1-high n2-low n2-high : Float) (p : Fraction) : Type
 
 -- they are the largest and the smallest over all pairs
 pub record Extremes (n1-low n1-high n2-low n2-high : Float) : Type 0 where
-  pub most : (n1 n2 : Float) → Between n1-low n1-high n1 → Between n2-low n2-high n2 → AtMost (exact n1 n2) (largest n1-low n1-high n2-low n2-high)
-  pub least : (n1 n2 : Float) → Between n1-low n1-high n1 → Between n2-low n2-high n2 → AtMost (smallest n1-low n1-high n2-low n2-high) (exact n1 n2)
+  pub most : (n1 n2 : Float) → Between n1-low n1-high n1 → Between n2-low n2-high n2
+      → AtMost (exact n1 n2) (largest n1-low n1-high n2-low n2-high)
+  pub least : (n1 n2 : Float) → Between n1-low n1-high n1 → Between n2-low n2-high n2
+      → AtMost (smallest n1-low n1-high n2-low n2-high) (exact n1 n2)
   pub at-most : Reached n1-low n1-high n2-low n2-high (largest n1-low n1-high n2-low n2-high)
   pub at-least : Reached n1-low n1-high n2-low n2-high (smallest n1-low n1-high n2-low n2-high)
 
