@@ -24,9 +24,9 @@ rust-numbers r =
 abbrev pub response-numbers : CoatingResponse → List Float
 response-numbers r = rust-numbers r ++ r .«absorptance_s» ∷ r .«absorptance_p» ∷ []
 
--- dihkelu_start, dihkelu_step: s, p
+-- two numbers, and what is returned for them
 abbrev pub both : ℕ → Float → Float → Reply
-both returned s p = reply returned (s ∷ p ∷ [])
+both returned a b = reply returned (a ∷ b ∷ [])
 
 -- dihkelu_evaluate: 16 numbers
 abbrev pub evaluated : CoatingResponse → Reply

@@ -42,11 +42,11 @@ fn put(returned: u64, numbers: &[f64], list: &mut [f64]) -> u64
     returned
 }
 
-// s and p, and what is returned for them.
-pub fn put_powers(returned: u64, s: f64, p: f64, list: &mut [f64]) -> u64
-    ensures { λ n. ⌜ done n (now (list .exit)) ≡ written (both returned s p) (now (list .entry)) ⌝ }
+// Two numbers, and what is returned for them.
+pub fn put_both(returned: u64, a: f64, b: f64, list: &mut [f64]) -> u64
+    ensures { λ n. ⌜ done n (now (list .exit)) ≡ written (both returned a b) (now (list .entry)) ⌝ }
 {
-    let numbers = [s, p];
+    let numbers = [a, b];
     put(returned, &numbers, list)
 }
 

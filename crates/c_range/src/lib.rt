@@ -18,7 +18,7 @@ pub fn reflectance_range(
 {
     let reply = reflectance_range::reflectance_range(n1_low, n1_high, n2_low, n2_high);
     match reply {
-        RangeReply::Range(r) => c_call::put_powers(2, r.low, r.high, list),
+        RangeReply::Range(r) => c_call::put_both(2, r.low, r.high, list),
         RangeReply::Refused(r) => c_call::packed(r),
     }
 }

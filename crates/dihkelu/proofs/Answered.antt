@@ -19,7 +19,7 @@ use Rattle.gate_limits.specs.Coating.{interface}
 use Rattle.surface.specs.Answers.{coated-answers, bare-answers, answers-of}
 use Rattle.sheet.specs.Sheet.{nth, Sheet}
 use Rattle.sheet.specs.Claim.{Bytes}
-use Rattle.sheet_values.specs.Values.{value, films, surface-value}
+use Rattle.sheet_values.specs.Values.{value, films, surface-value, met-at}
 use Rattle.gate.specs.Gate.{gated}
 use Rattle.sheet_surfaces.specs.declared.SurfaceReply.{SurfaceReply}
 use Rattle.sheet_surfaces.specs.Surfaces.{answers-to, surface-answers, given}
@@ -49,7 +49,7 @@ answers-sound src bytes i = go (gated src) (gate-sound src bytes)
     go : (o : Outcome Sheet) → Sound o → Sound (answers-to i o)
     go (answer x) h =
         let y = nth (x .surfaces) i in
-        let w = value (x .wavelength) in
+        let w = met-at (value (x .wavelength)) (x .surfaces) i in
         plain-sound (answers-to i (answer x)) (either (ltb i (length (x .surfaces))) _ (refusal 7 0) (of-interface w (surface-value y) (films w (y .layers)) (interface (surface-value y .coating))) (omega arith, refl))
     go (refusal number place) h = h
 

@@ -13,11 +13,11 @@ use Rattle.sheet.specs.Sheet.{nth, Sheet}
 use Rattle.sheet.specs.Claim.{Bytes}
 use Rattle.sheet.specs.Read.{surfaces-of}
 use Rattle.gate.specs.Gate.{gated, gate}
+use Rattle.gate.specs.Wavelength.{holds}
 use Rattle.gate.proofs.Claim.{gate-claim}
 use Rattle.surface.specs.declared.Answers.{Answers}
 use Rattle.train_steps.specs.declared.State.{State}
-use Rattle.train_steps.specs.Train.{after-one, stepped, step, Ran, ran, run}
-use Rattle.sheet_values.specs.Values.{value}
+use Rattle.train_steps.specs.Train.{fresh, after-one, stepped, step, with-wavelength, retuned, retune, Ran, ran, run}
 use Rattle.sheet_surfaces.specs.Surfaces.{surface-answers}
 use Rattle.c_layers.specs.Evaluate.{evaluate}
 use Rattle.c_layers.proofs.Plain.{of-code}
@@ -37,7 +37,7 @@ use Rattle.c_stack.proofs.Flat.{flat-length}
 use Rattle.c_mueller.specs.Mueller.{converted}
 use Rattle.c_mueller.proofs.Answered.{converted-sound}
 use Rattle.c_stack.proofs.Stacked.{Few, few-layers, few-sound}
-use Rattle.dihkelu.specs.Train.{start-layout, step-layout, run-done}
+use Rattle.dihkelu.specs.Train.{went, started, moved, run-done}
 use Rattle.dihkelu.specs.Numbers.{Tells, said, Numbers}
 use Rattle.c_call.proofs.Returned.{Sound}
 use Rattle.dihkelu.proofs.Places.{plain-sound, gate-sound}
@@ -52,6 +52,11 @@ tells-refusal number place h k = (h, (omega arith, omega arith))
 
 tells-short : Tells (refusal 8 0) (packed 8 0)
 tells-short = tells-refusal 8 0 (lit< tt) (lit< tt)
+
+-- ---- a state that is lent
+tells-state : {A : Type 0} (number : A → ℕ) (next : A → State) (o : Outcome A) → Sound o → ((a : A) → o ≡ answer a → number a < 2 ^ 32) → (lent : State) → Tells (map number o) (went number next o lent .returned)
+tells-state number next (answer a) s small lent = tells-answer (number a) (small a refl)
+tells-state number next (refusal n place) s small lent = tells-refusal n place (s .0) (s .1)
 
 -- ---- a list that is lent
 tells : {A : Type 0} (layout : A → Reply) (o : Outcome A) → Sound o → ((a : A) → o ≡ answer a → layout a .returned < 2 ^ 32) → (list : List Float) → Tells (said layout o list) (answered layout o list .returned)
@@ -88,8 +93,9 @@ module _ (src : List ℕ) (bytes : Bytes src) where
       go (answer x) s h = tells-answer (surfaces-of x) (below (surfaces-of x) (h x refl))
       go (refusal number place) s h = tells-refusal number place (s .0) (s .1)
 
-  of-start : (list : List Float) → Tells (said start-layout (gated src) list) (answered start-layout (gated src) list .returned)
-  of-start list = tells start-layout (gated src) (gate-sound src bytes) (λ x e. below (surfaces-of x) (few x e)) list
+  of-start : (lent : State) → Tells (gate src) (started (gated src) lent .returned)
+  unfolding gate
+  of-start lent = tells-state surfaces-of fresh (gated src) (gate-sound src bytes) (λ x e. below (surfaces-of x) (few x e)) lent
 
   of-run : (list : List Float) → Tells (run src list .result) (run-done (run src list) .returned)
   unfolding run
@@ -99,18 +105,28 @@ module _ (src : List ℕ) (bytes : Bytes src) where
       go (answer x) s h = either (leb (2 * length (x .surfaces)) (length list)) _ _ (tells-answer (surfaces-of x) (below (surfaces-of x) (h x refl))) tells-short
       go (refusal number place) s h = tells-refusal number place (s .0) (s .1)
 
-  -- ---- a step
+  -- ---- a step, a retune
+  or-refused : (b : Bool) (number : ℕ) (x : Outcome State) → 0 < number → Sound x → Sound (cond b x (refusal number 0))
+  or-refused true number x n h = h
+  or-refused false number x n h = (n, lit< tt)
+
+  or-small : (b : Bool) (number place : ℕ) (x : Outcome State) (next : State) → (b ≡ true → x ≡ answer next → next .done < 2 ^ 32) → cond b x (refusal number place) ≡ answer next → next .done < 2 ^ 32
+  or-small true number place x next h e = h refl e
+  or-small false number place x next h e = absurd (never number place next e)
+
+  done-is : (a b : State) → answer a ≡ answer b → a .done ≡ b .done
+  done-is a b e = cc
+
   module _ (st : State) where
     pub step-sound : Sound (step src st)
     unfolding step
     step-sound = go (gated src) (gate-sound src bytes)
       where
-        at : (b : Bool) (x : Outcome State) → Sound x → Sound (cond b x (refusal 7 0))
-        at true x h = h
-        at false x h = (lit< tt, lit< tt)
-
         go : (o : Outcome Sheet) → Sound o → Sound (bind o (stepped st))
-        go (answer x) s = at (ltb (st .done) (length (x .surfaces))) (answer (after-one (value (x .wavelength)) st (nth (x .surfaces) (st .done)))) tt
+        go (answer x) s =
+            let h = holds (st .«wavelength_nm») (drop (st .done) (x .surfaces)) in
+            let next = answer (after-one st (nth (x .surfaces) (st .done))) in
+            or-refused (ltb (st .done) (length (x .surfaces))) 7 (cond h next (refusal 11 0)) (lit< tt) (or-refused h 11 next (lit< tt) tt)
         go (refusal number place) s = s
 
     step-small : (next : State) → step src st ≡ answer next → next .done < 2 ^ 32
@@ -118,25 +134,39 @@ module _ (src : List ℕ) (bytes : Bytes src) where
     step-small next = go (gated src) few
       where
         go : (o : Outcome Sheet) → ((x : Sheet) → o ≡ answer x → length (x .surfaces) ≤ 64) → bind o (stepped st) ≡ answer next → next .done < 2 ^ 32
-        go (answer x) h e = at (ltb (st .done) (length (x .surfaces))) refl e
+        go (answer x) h e =
+            let n = length (x .surfaces) in
+            let t = holds (st .«wavelength_nm») (drop (st .done) (x .surfaces)) in
+            let after = after-one st (nth (x .surfaces) (st .done)) in
+            or-small (ltb (st .done) n) 7 0 (cond t (answer after) (refusal 11 0)) next
+            (λ l. or-small t 11 0 (answer after) next (λ u f. bounded (ltb-true (st .done) n l) (h x refl) (done-is after next f))) e
           where
-            after : State
-            after = after-one (value (x .wavelength)) st (nth (x .surfaces) (st .done))
-
-            done-is : answer after ≡ answer next → after .done ≡ next .done
-            done-is e = cc
-
-            at : (b : Bool) → ltb (st .done) (length (x .surfaces)) ≡ b → cond b (answer after) (refusal 7 0) ≡ answer next → next .done < 2 ^ 32
-            at true t e =
-                let d : st .done + 1 ≡ next .done = done-is e in
-                let l : st .done < length (x .surfaces) = ltb-true (st .done) (length (x .surfaces)) t in
-                let m : length (x .surfaces) ≤ 64 = h x refl in
-                omega arith
-            at false t e = absurd (never 7 0 next e)
+            bounded : st .done < length (x .surfaces) → length (x .surfaces) ≤ 64 → st .done + 1 ≡ next .done → next .done < 2 ^ 32
+            bounded l m d = omega arith
         go (refusal number place) h e = absurd (never number place next e)
 
-    of-step : (list : List Float) → Tells (said step-layout (step src st) list) (answered step-layout (step src st) list .returned)
-    of-step list = tells step-layout (step src st) step-sound step-small list
+    of-step : Tells (map (λ next. next .done) (step src st)) (moved (step src st) st .returned)
+    of-step = tells-state (λ next. next .done) (λ next. next) (step src st) step-sound step-small st
+
+    module _ (w : Float) where
+      pub retune-sound : Sound (retune src st w)
+      unfolding retune
+      retune-sound = go (gated src) (gate-sound src bytes)
+        where
+          go : (o : Outcome Sheet) → Sound o → Sound (bind o (retuned w st))
+          go (answer x) s = or-refused (holds w (drop (st .done) (x .surfaces))) 11 (answer (with-wavelength w st)) (lit< tt) tt
+          go (refusal number place) s = s
+
+      retune-small : st .done < 2 ^ 32 → (next : State) → retune src st w ≡ answer next → next .done < 2 ^ 32
+      unfolding retune
+      retune-small h next = go (gated src)
+        where
+          go : (o : Outcome Sheet) → bind o (retuned w st) ≡ answer next → next .done < 2 ^ 32
+          go (answer x) e = or-small (holds w (drop (st .done) (x .surfaces))) 11 0 (answer (with-wavelength w st)) next (λ t f. subst (λ (n : ℕ). n < 2 ^ 32) (done-is (with-wavelength w st) next f) h) e
+          go (refusal number place) e = absurd (never number place next e)
+
+    of-retune : st .done < 2 ^ 32 → (w : Float) → Tells (map (λ next. next .done) (retune src st w)) (moved (retune src st w) st .returned)
+    of-retune h w = tells-state (λ next. next .done) (λ next. next) (retune src st w) (retune-sound w) (retune-small w h) st
 
 -- ---- how many numbers are written
 answers-small : (a : Answers) → surface-answered a .returned < 2 ^ 32
@@ -160,6 +190,7 @@ numbers = record {
   of-gate = of-gate;
   of-start = of-start;
   of-step = of-step;
+  of-retune = of-retune;
   of-run = of-run;
   of-answers = λ src bytes i list. tells surface-answered (surface-answers src i) (answers-sound src bytes i) (λ a e. answers-small a) list;
   of-evaluate = λ code design n-incident n-substrate angle wavelength flat list.

@@ -73,19 +73,19 @@ starts-below at [] i lt = absurd (omega arith)
 starts-below at (b ∷ bs) zero lt = omega (arith, length-append (b .raw) (flat bs))
 starts-below at (b ∷ bs) (suc i) lt = let h = starts-below (at + suc (length (b .raw))) bs i (omega arith) in omega (arith, length-append (b .raw) (flat bs))
 
-place-below : (x : Sheet) → WellFormed x → (place : ℕ) → FirstOutside x place → place ≤ 9673
+place-below : (x : Sheet) → WellFormed x → (place : ℕ) → FirstOutside x place → place ≤ 9865
 place-below x h place f = omega (arith, f .stands, starts-below 0 (blocks x) (f .block) (f .inside), length-limits x h .1 .0)
 
 -- ---- the gate
 module _ (src : List ℕ) (bytes : Bytes src) where
-  most : longest src ≤ 38692
+  most : longest src ≤ 39460
   most = by (eqb (word src 0) (kind-word 1 2))
     where
-      by : (t : Bool) → cond t 38692 30500 ≤ 38692
+      by : (t : Bool) → cond t 39460 30500 ≤ 39460
       by true = omega arith
       by false = omega arith
 
-  fits : T (length-fits src) → (36 ≤ length src) × (length src ≤ 38692)
+  fits : T (length-fits src) → (36 ≤ length src) × (length src ≤ 39460)
   fits t =
       let n = length src in
       let u = and-r (eqb (n % 4) 0) (leb 36 n && leb n (longest src)) t in

@@ -11,7 +11,7 @@ use Rattle.refusal.specs.Outcome.{Outcome, answer, refusal, map}
 use Rattle.sheet.specs.Claim.{Bytes}
 use Rattle.gate.specs.Gate.{gated, gate}
 use Rattle.train_steps.specs.declared.State.{State}
-use Rattle.train_steps.specs.Train.{step, run}
+use Rattle.train_steps.specs.Train.{step, retune, run}
 use Rattle.sheet_surfaces.specs.Surfaces.{surface-answers}
 use Rattle.c_layers.specs.Evaluate.{evaluate}
 use Rattle.thin_film_shorthand.specs.Stack.{stack}
@@ -25,7 +25,7 @@ use Rattle.quarter_waves.specs.Waves.{quarter-waves}
 use Rattle.c_quarter_waves.specs.Waves.{counted}
 use Rattle.c_call.specs.Call.{Reply, returned, answered}
 use Rattle.c_call.specs.Layout.{evaluated, surface-answered, rows}
-use Rattle.dihkelu.specs.Train.{start-layout, step-layout, run-done}
+use Rattle.dihkelu.specs.Train.{started, moved, run-done}
 
 -- For an answer the high 32 bits are 0 and the low 32 bits the call's own number; for a refusal they are its number, which is not 0, and
 -- its place.
@@ -46,10 +46,11 @@ quarter-waves-said n thickness wavelength = map (λ waves. waves .count) (quarte
 -- the claim, call by call, for all bytes, numbers and lists
 pub record Numbers : Type 0 where
   pub of-gate : (src : List ℕ) → Bytes src → Tells (gate src) (returned (gate src))
-  pub of-start : (src : List ℕ) → Bytes src → (list : List Float) →
-      Tells (said start-layout (gated src) list) (answered start-layout (gated src) list .returned)
-  pub of-step : (src : List ℕ) → Bytes src → (st : State) (list : List Float) →
-      Tells (said step-layout (step src st) list) (answered step-layout (step src st) list .returned)
+  pub of-start : (src : List ℕ) → Bytes src → (lent : State) → Tells (gate src) (started (gated src) lent .returned)
+  pub of-step : (src : List ℕ) → Bytes src → (st : State) →
+      Tells (map (λ next. next .done) (step src st)) (moved (step src st) st .returned)
+  pub of-retune : (src : List ℕ) → Bytes src → (st : State) → st .done < 2 ^ 32 → (w : Float) →
+      Tells (map (λ next. next .done) (retune src st w)) (moved (retune src st w) st .returned)
   pub of-run : (src : List ℕ) → Bytes src → (list : List Float) → Tells (run src list .result) (run-done (run src list) .returned)
   pub of-answers : (src : List ℕ) → Bytes src → (i : ℕ) (list : List Float) →
       Tells (said surface-answered (surface-answers src i) list) (answered surface-answered (surface-answers src i) list .returned)

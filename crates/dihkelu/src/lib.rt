@@ -1,8 +1,9 @@
 // The C interface (include/dihkelu.h). A list is lent as a pointer and a count of elements, two
-// arguments one after the other. No call that refuses changes a list: a refusal is its number times
-// 2^32 plus its place, which is 0 where the documents give none.
+// arguments one after the other, and a number as a pointer. No call that refuses changes what it was lent:
+// a refusal is its number times 2^32 plus its place, which is 0 where the documents give none.
 ghost use mathlib.Core.Path.{_≡_};
 ghost use mathlib.Core.List.{[], _∷_};
+ghost use Rattle.ieee.specs.Functions.{zero-f};
 ghost use Rattle.gate.specs.Gate as Gate;
 ghost use Rattle.gate.specs.Gate.{gated, gate};
 ghost use Rattle.c_layers.specs.Evaluate.{evaluate};
@@ -17,9 +18,9 @@ ghost use Rattle.reflectance_range.specs.Range.{reflectance-range};
 ghost use Rattle.c_range.specs.Range.{ranged};
 ghost use Rattle.quarter_waves.specs.Waves.{quarter-waves};
 ghost use Rattle.c_quarter_waves.specs.Waves.{counted};
-ghost use Rattle.train_steps.specs.Train.{step, run};
+ghost use Rattle.train_steps.specs.Train.{step, retune, run};
 ghost use Rattle.sheet_surfaces.specs.Surfaces.{surface-answers};
-ghost use Rattle.dihkelu.specs.Train.{start-layout, step-layout, run-done};
+ghost use Rattle.dihkelu.specs.Train.{called, state, started, moved, run-done};
 ghost use Rattle.dihkelu.specs.Version.{version};
 use gate::Gated;
 use thin_film_layers::Evaluation;
@@ -33,7 +34,7 @@ use train_steps::TrainReply;
 pub extern "C" fn dihkelu_version() -> u32
     ensures { λ r. ⌜ r ≡ version ⌝ }
 {
-    0x0000_0002
+    0x0000_0003
 }
 
 // ---- a coated surface
@@ -159,40 +160,83 @@ pub extern "C" fn dihkelu_gate(sheet: &[u8]) -> u64
     number_of(gate::gate(sheet))
 }
 
-// A fresh train: writes the BEAM's s and p and returns the count of surfaces; or a refusal: 4, 5, 6,
-// then 8.
+// A fresh train: writes 0 surfaces done and the BEAM's s, p and wavelength, and returns the count of
+// surfaces; or a refusal: 4, 5 or 6.
 #[no_mangle]
-pub extern "C" fn dihkelu_start(sheet: &[u8], list: &mut [f64]) -> u64
-    ensures { λ r. ⌜ done r (now (list .exit)) ≡ answered start-layout (gated (now (sheet .entry))) (now (list .entry)) ⌝ }
+pub extern "C" fn dihkelu_start(
+    sheet: &[u8],
+    surfaces_done: &mut u32,
+    s: &mut f64,
+    p: &mut f64,
+    wavelength_nm: &mut f64,
+) -> u64
+    ensures { λ r. ⌜ called r (state (now («surfaces_done» .exit)) (now (s .exit)) (now (p .exit)) (now («wavelength_nm» .exit))) ≡ started (gated (now (sheet .entry))) (state (now («surfaces_done» .entry)) (now (s .entry)) (now (p .entry)) (now («wavelength_nm» .entry))) ⌝ }
 {
     match gate::gate(sheet) {
         Gated::Admitted(count) => {
             let beam = sheet_values::beam_of(sheet);
-            c_call::put_powers(count as u64, beam.s, beam.p, list)
+            *surfaces_done = 0;
+            *s = beam.s;
+            *p = beam.p;
+            *wavelength_nm = beam.wavelength_nm;
+            count as u64
         }
         Gated::Refused(r) => c_call::packed(r),
     }
 }
 
-// One surface on from a state of so many surfaces done, s and p: writes the next s and p and returns
-// the surfaces done; or a refusal: 4, 5, 6, 7, then 8.
+// One surface on from any state: writes the next one and returns its surfaces done; or a refusal: 4, 5,
+// 6, 7 or 11.
 #[no_mangle]
 pub extern "C" fn dihkelu_step(
     sheet: &[u8],
-    surfaces_done: u32,
-    s: f64,
-    p: f64,
-    list: &mut [f64],
+    surfaces_done: &mut u32,
+    s: &mut f64,
+    p: &mut f64,
+    wavelength_nm: &mut f64,
 ) -> u64
-    ensures { λ r. ⌜ done r (now (list .exit)) ≡ answered step-layout (step (now (sheet .entry)) (record { done = «surfaces_done»; s = s; p = p })) (now (list .entry)) ⌝ }
+    ensures { λ r. ⌜ called r (state (now («surfaces_done» .exit)) (now (s .exit)) (now (p .exit)) (now («wavelength_nm» .exit))) ≡ moved (step (now (sheet .entry)) (state (now («surfaces_done» .entry)) (now (s .entry)) (now (p .entry)) (now («wavelength_nm» .entry)))) (state (now («surfaces_done» .entry)) (now (s .entry)) (now (p .entry)) (now («wavelength_nm» .entry))) ⌝ }
+{
+    let state = State {
+        done: *surfaces_done,
+        s: *s,
+        p: *p,
+        wavelength_nm: *wavelength_nm,
+    };
+    match train_steps::step(sheet, state) {
+        TrainReply::State(next) => {
+            *surfaces_done = next.done;
+            *s = next.s;
+            *p = next.p;
+            *wavelength_nm = next.wavelength_nm;
+            next.done as u64
+        }
+        TrainReply::Refused(r) => c_call::packed(r),
+    }
+}
+
+// A new wavelength for the surfaces not yet done, from any state: writes it and returns the surfaces
+// done; or a refusal: 4, 5, 6 or 11. A state's s and p do not count.
+#[no_mangle]
+pub extern "C" fn dihkelu_retune(
+    sheet: &[u8],
+    surfaces_done: u32,
+    wavelength_nm: &mut f64,
+    new_wavelength_nm: f64,
+) -> u64
+    ensures { λ r. ⌜ called r (state «surfaces_done» zero-f zero-f (now («wavelength_nm» .exit))) ≡ moved (retune (now (sheet .entry)) (state «surfaces_done» zero-f zero-f (now («wavelength_nm» .entry))) «new_wavelength_nm») (state «surfaces_done» zero-f zero-f (now («wavelength_nm» .entry))) ⌝ }
 {
     let state = State {
         done: surfaces_done,
-        s,
-        p,
+        s: 0.0,
+        p: 0.0,
+        wavelength_nm: *wavelength_nm,
     };
-    match train_steps::step(sheet, state) {
-        TrainReply::State(next) => c_call::put_powers(next.done as u64, next.s, next.p, list),
+    match train_steps::retune(sheet, state, new_wavelength_nm) {
+        TrainReply::State(next) => {
+            *wavelength_nm = next.wavelength_nm;
+            next.done as u64
+        }
         TrainReply::Refused(r) => c_call::packed(r),
     }
 }

@@ -24,7 +24,7 @@ use Rattle.c_layers.specs.Evaluate as Call
 use Rattle.surface.specs.declared.Answers.{Answers}
 use Rattle.surface.specs.Answers.{coated-answers, answers-of, answers}
 use Rattle.sheet.specs.Sheet.{Sheet, SheetSurface, nth}
-use Rattle.sheet_values.specs.Values.{value, films, surface-value}
+use Rattle.sheet_values.specs.Values.{value, films, surface-value, met-at}
 use Rattle.gate.specs.Gate.{gated}
 use Rattle.sheet_surfaces.specs.Surfaces.{answers-to, surface-answers}
 use Rattle.far_side_claim.specs.Claim.{Turned, FarSide}
@@ -106,20 +106,23 @@ module _ (src : List ℕ) (x : Sheet) (e : gated src ≡ answer x) (i : ℕ) (th
   abbrev y : SheetSurface
   y = nth (x .surfaces) i
 
+  abbrev w : Float
+  w = met-at (value (x .wavelength)) (x .surfaces) i
+
   abbrev evaluated : List ThinFilmLayer → Outcome Answers
-  evaluated l = map coated-answers (evaluate-coating C.Multilayer l (value (y .n-incident)) (value (y .n-substrate)) (value (y .angle)) (value (x .wavelength)))
+  evaluated l = map coated-answers (evaluate-coating C.Multilayer l (value (y .n-incident)) (value (y .n-substrate)) (value (y .angle)) w)
 
   custom : interface (y .payload / 2) ≡ Coated (S.Custom C.Multilayer)
   unfolding interface coded
   custom = ap interface five
 
-  met : answers (value (x .wavelength)) (surface-value y) (films (value (x .wavelength)) (y .layers)) ≡ evaluated (ordered (lt (value (y .n-substrate)) (value (y .n-incident))) (films (value (x .wavelength)) (y .layers)))
+  met : answers w (surface-value y) (films w (y .layers)) ≡ evaluated (ordered (lt (value (y .n-substrate)) (value (y .n-incident))) (films w (y .layers)))
   unfolding answers-of
   met =
-      ap (λ (k : Interface). answers-of k (value (x .wavelength)) (surface-value y) (films (value (x .wavelength)) (y .layers))) custom
-      ∙ ap (map coated-answers) (explicit (films (value (x .wavelength)) (y .layers)) (value (y .n-incident)) (value (y .n-substrate)) (value (y .angle)) (value (x .wavelength)))
+      ap (λ (k : Interface). answers-of k w (surface-value y) (films w (y .layers))) custom
+      ∙ ap (map coated-answers) (explicit (films w (y .layers)) (value (y .n-incident)) (value (y .n-substrate)) (value (y .angle)) w)
 
-  sheet-surface : surface-answers src i ≡ evaluated (ordered (lt (value (y .n-substrate)) (value (y .n-incident))) (films (value (x .wavelength)) (y .layers)))
+  sheet-surface : surface-answers src i ≡ evaluated (ordered (lt (value (y .n-substrate)) (value (y .n-incident))) (films w (y .layers)))
   unfolding surface-answers
   sheet-surface = ap (answers-to i) e ∙ simp (lt-ltb i (length (x .surfaces)) there) met
 

@@ -15,7 +15,7 @@ use Rattle.thin_film.specs.Evaluate.{evaluate-surface}
 use Rattle.c_layers.specs.Evaluate as Call
 use Rattle.surface.specs.Answers.{coated-answers}
 use Rattle.sheet.specs.Sheet.{Sheet, nth}
-use Rattle.sheet_values.specs.Values.{value, films}
+use Rattle.sheet_values.specs.Values.{value, films, met-at}
 use Rattle.gate.specs.Gate.{gated}
 use Rattle.sheet_surfaces.specs.Surfaces.{surface-answers}
 
@@ -32,16 +32,15 @@ pub record FarSide : Type 0 where
   pub of-surface : (layers : List ThinFilmLayer) (n-incident n-substrate angle wavelength : Float) →
       Turned n-incident n-substrate (λ l. evaluate-coating C.Multilayer l n-incident n-substrate angle wavelength) layers
       (evaluate-surface (S.Custom C.Multilayer) layers n-incident n-substrate angle wavelength)
-  -- of a sheet's surface whose coating is 5
+  -- of a sheet's surface whose coating is 5, at the wavelength that steps alone meet it with
   pub of-sheet : (src : List ℕ) (x : Sheet) → gated src ≡ answer x → (i : ℕ) → i < length (x .surfaces) →
       nth (x .surfaces) i .payload / 2 ≡ 5 →
       let y = nth (x .surfaces) i in
-      let wavelength = value (x .wavelength) in
       let n-incident = value (y .n-incident) in
       let n-substrate = value (y .n-substrate) in
+      let w = met-at (value (x .wavelength)) (x .surfaces) i in
       Turned n-incident n-substrate
-      (λ l. map coated-answers (evaluate-coating C.Multilayer l n-incident n-substrate (value (y .angle)) wavelength))
-      (films wavelength (y .layers))
+      (λ l. map coated-answers (evaluate-coating C.Multilayer l n-incident n-substrate (value (y .angle)) w)) (films w (y .layers))
       (surface-answers src i)
   -- of dihkelu_evaluate with code 5
   pub of-call : (design n-incident n-substrate angle wavelength : Float) (flat : List Float) → length flat % 3 ≡ 0 →

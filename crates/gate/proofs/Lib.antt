@@ -1,5 +1,7 @@
 -- The verdicts of a sheet's blocks, the gate's claim, the walk over the blocks, and what a caller of the gate knows.
+pub mod Wavelengths
 pub mod Verdicts
 pub mod Claim
 pub mod Walk
 pub mod Admitted
+pub mod HoldsHere

@@ -9,126 +9,121 @@ use lib.ListN.{length, getD}
 use lib.Ieee.{Float}
 use Rattle.ieee.specs.Functions.{zero-f}
 use Rattle.refusal.specs.Outcome.{Outcome, answer, refusal}
-use Rattle.gate_limits.specs.Limits.{beam-passes, snell-size, layer-within, layers-within, surface-passes, passes}
+use Rattle.gate_limits.specs.Limits.{wavelength-passes, beam-passes, surface-passes}
 use Rattle.sheet.specs.Blocks.{Block, All}
-use Rattle.sheet.specs.Sheet.{SheetLayer, layer, cauchy, SheetSurface, Sheet, GoodSurface, WellFormed, surface-block, layers-blocks, surfaces-blocks, end-block, blocks}
+use Rattle.sheet.specs.Sheet.{SheetLayer, layer, cauchy, Tuning, keeps, tunes, SheetSurface, Sheet, GoodSurface, WellFormed, surface-block, tuned-blocks, layers-blocks, surfaces-blocks, end-block, blocks}
 use Rattle.sheet.proofs.KindWords.{numbers-raw, kind-of, payload-of}
 use Rattle.sheet.proofs.Forward.{small-edition}
-use Rattle.sheet_values.specs.Values.{value, film, films, surface-value}
-use Rattle.gate.specs.Gate.{coefficients-finite, layer-admitted, verdict, carried, walked, verdicts, judged}
+use Rattle.sheet_values.specs.Values.{value, surface-value, met-with}
+use Rattle.gate.specs.Gate.{layer-admitted, verdict, tuned, carried, walked, verdicts, judged}
+use Rattle.gate.specs.Wavelength.{snell-of, layers-admitted}
 use Rattle.gate.specs.Claim.{WithinLimits}
+use Rattle.gate.proofs.Wavelengths.{both, and, tuning-passes, AllMet, all-met, met-within}
 
 abbrev pub Passed : List Bool → Type 0
 Passed ts = All T ts
-
-pub both : (a b : Bool) → T (a && b) → T a × T b
-both true b t = (tt, t)
-both false b t = absurd t
-
-pub and : (a b : Bool) → T a → T b → T (a && b)
-and true b s t = t
-and false b s t = absurd s
 
 -- ---- as many as blocks
 walked-each : (w b : Float) (ks : List Block) → length (walked w b ks) ≡ length ks
 unfolding walked
 walked-each w b [] = refl
-walked-each w b (k ∷ ks) = ap suc (walked-each w (carried b k) ks)
+walked-each w b (k ∷ ks) = ap suc (walked-each (tuned w k) (carried b k) ks)
 
 pub each : (x : Sheet) → length (verdicts x) ≡ length (blocks x)
 each x = walked-each (value (x .wavelength)) zero-f (blocks x)
 
--- ---- the verdicts of a sheet's blocks, from its data, at a wavelength
-abbrev snell-of : SheetSurface → Float
-snell-of y = snell-size (value (y .n-incident)) (value (y .angle))
+-- ---- the verdicts of a sheet's blocks, from its data
+unfoldable layers-verdicts : Float → Float → List SheetLayer → List Bool → List Bool
+layers-verdicts w b [] more = more
+layers-verdicts w b (l ∷ ls) more = layer-admitted w b l ∷ layers-verdicts w b ls more
 
-module _ (w : Float) where
-  unfoldable layers-verdicts : Float → List SheetLayer → List Bool → List Bool
-  layers-verdicts b [] more = more
-  layers-verdicts b (l ∷ ls) more = layer-admitted w b l ∷ layers-verdicts b ls more
+abbrev tuning-verdicts : Tuning → List Bool → List Bool
+tuning-verdicts keeps more = more
+tuning-verdicts (tunes v) more = wavelength-passes (value v) ∷ more
 
-  unfoldable surfaces-verdicts : List SheetSurface → List Bool → List Bool
-  surfaces-verdicts [] more = more
-  surfaces-verdicts (y ∷ ys) more = surface-passes (surface-value y) ∷ layers-verdicts (snell-of y) (y .layers) (surfaces-verdicts ys more)
+unfoldable surfaces-verdicts : Float → List SheetSurface → List Bool → List Bool
+surfaces-verdicts w [] more = more
+surfaces-verdicts w (y ∷ ys) more =
+    let v = met-with w (y .tuning) in
+    tuning-verdicts (y .tuning) (surface-passes (surface-value y) ∷ layers-verdicts v (snell-of y) (y .layers) (surfaces-verdicts v ys more))
 
-  layers : (b : Float) (ls : List SheetLayer) (more : List Block) → walked w b (layers-blocks ls more) ≡ layers-verdicts b ls (walked w b more)
-  unfolding walked verdict carried layers-blocks layers-verdicts
-  layers b [] more = refl
-  layers b (layer n k t ∷ ls) more = rw (numbers-raw (n ∷ k ∷ t ∷ [])) (ap (λ (ts : List Bool). layer-admitted w b (layer n k t) ∷ ts) (layers b ls more))
-  layers b (cauchy a c d t ∷ ls) more = rw (numbers-raw (a ∷ c ∷ d ∷ t ∷ [])) (ap (λ (ts : List Bool). layer-admitted w b (cauchy a c d t) ∷ ts) (layers b ls more))
+layers : (w b : Float) (ls : List SheetLayer) (more : List Block) → walked w b (layers-blocks ls more) ≡ layers-verdicts w b ls (walked w b more)
+unfolding walked verdict tuned carried layers-blocks layers-verdicts
+layers w b [] more = refl
+layers w b (layer n k t ∷ ls) more = rw (numbers-raw (n ∷ k ∷ t ∷ [])) (ap (λ (ts : List Bool). layer-admitted w b (layer n k t) ∷ ts) (layers w b ls more))
+layers w b (cauchy a c d t ∷ ls) more = rw (numbers-raw (a ∷ c ∷ d ∷ t ∷ [])) (ap (λ (ts : List Bool). layer-admitted w b (cauchy a c d t) ∷ ts) (layers w b ls more))
 
-  surface : (b : Float) (y : SheetSurface) (more : List Block) → y .payload < 2 ^ 28 → walked w b (surface-block y ∷ more) ≡ surface-passes (surface-value y) ∷ walked w (snell-of y) more
-  unfolding walked verdict carried
-  surface b y more lt = rw (kind-of 3 (y .payload) lt, payload-of 3 (y .payload) lt, numbers-raw (y .n-incident ∷ y .n-substrate ∷ y .angle ∷ [])) refl
+surface : (w b : Float) (y : SheetSurface) (more : List Block) → y .payload < 2 ^ 28 → walked w b (surface-block y ∷ more) ≡ surface-passes (surface-value y) ∷ walked w (snell-of y) more
+unfolding walked verdict tuned carried
+surface w b y more lt = rw (kind-of 3 (y .payload) lt, payload-of 3 (y .payload) lt, numbers-raw (y .n-incident ∷ y .n-substrate ∷ y .angle ∷ [])) refl
 
-  surfaces : (edition n : ℕ) (b : Float) (ys : List SheetSurface) → n < 2 ^ 28 → All (GoodSurface edition) ys → walked w b (surfaces-blocks ys (end-block n ∷ [])) ≡ surfaces-verdicts ys (true ∷ [])
-  unfolding surfaces-blocks surfaces-verdicts walked verdict
-  surfaces edition n b [] lt g = rw (kind-of 5 n lt) refl
-  surfaces edition n b (y ∷ ys) lt g =
-      let rest = surfaces-blocks ys (end-block n ∷ []) in
-      surface b y (layers-blocks (y .layers) rest) (omega (arith, g .0 .payload))
-      ∙ ap (λ (ts : List Bool). surface-passes (surface-value y) ∷ ts) (layers (snell-of y) (y .layers) rest
-      ∙ ap (layers-verdicts (snell-of y) (y .layers)) (surfaces edition n (snell-of y) ys lt (g .1)))
+tuning : (w b : Float) (t : Tuning) (more : List Block) → walked w b (tuned-blocks t more) ≡ tuning-verdicts t (walked (met-with w t) b more)
+unfolding walked verdict tuned carried
+tuning w b keeps more = refl
+tuning w b (tunes v) more = rw (numbers-raw (v ∷ [])) refl
+
+surfaces : (edition n : ℕ) (w b : Float) (ys : List SheetSurface) → n < 2 ^ 28 → All (GoodSurface edition) ys → walked w b (surfaces-blocks ys (end-block n ∷ [])) ≡ surfaces-verdicts w ys (true ∷ [])
+unfolding surfaces-blocks surfaces-verdicts walked verdict
+surfaces edition n w b [] lt g = rw (kind-of 5 n lt) refl
+surfaces edition n w b (y ∷ ys) lt g =
+    let v = met-with w (y .tuning) in
+    let rest = surfaces-blocks ys (end-block n ∷ []) in
+    tuning w b (y .tuning) (surface-block y ∷ layers-blocks (y .layers) rest)
+    ∙ ap (tuning-verdicts (y .tuning)) (surface v b y (layers-blocks (y .layers) rest) (omega (arith, g .0 .payload))
+    ∙ ap (λ (ts : List Bool). surface-passes (surface-value y) ∷ ts) (layers v (snell-of y) (y .layers) rest
+    ∙ ap (layers-verdicts v (snell-of y) (y .layers)) (surfaces edition n v (snell-of y) ys lt (g .1))))
 
 abbrev of-data : Sheet → List Bool
 of-data x = true ∷ beam-passes (value (x .wavelength)) (value (x .s)) (value (x .p)) ∷ surfaces-verdicts (value (x .wavelength)) (x .surfaces) (true ∷ [])
 
 verdicts-are : (x : Sheet) → WellFormed x → verdicts x ≡ of-data x
-unfolding blocks walked verdict carried
+unfolding blocks walked verdict tuned carried
 verdicts-are x h =
     rw (kind-of 1 (x .edition) (small-edition (x .edition) (h .edition)), numbers-raw (x .wavelength ∷ x .s ∷ x .p ∷ []))
     (ap (λ (ts : List Bool). true ∷ beam-passes (value (x .wavelength)) (value (x .s)) (value (x .p)) ∷ ts)
-    (surfaces (value (x .wavelength)) (x .edition) (length (x .surfaces)) zero-f (x .surfaces) (omega (arith, h .few)) (h .surfaces)))
+    (surfaces (x .edition) (length (x .surfaces)) (value (x .wavelength)) zero-f (x .surfaces) (omega (arith, h .few)) (h .surfaces)))
 
--- ---- all hold exactly within the limits
-module _ (w : Float) where
-  abbrev Fine : List SheetLayer → Type 0
-  Fine ls = All (λ (l : SheetLayer). T (coefficients-finite l)) ls
+-- ---- all hold exactly where each kind 7 passes, and each SURFACE with its layers at the wavelength that it is met with
+layers-in : (w b : Float) (ls : List SheetLayer) (ts : List Bool) → T (layers-admitted w b ls) → Passed ts → Passed (layers-verdicts w b ls ts)
+unfolding layers-verdicts layers-admitted
+layers-in w b [] ts h t = t
+layers-in w b (l ∷ ls) ts h t = let p = both (layer-admitted w b l) (layers-admitted w b ls) h in (p .0, layers-in w b ls ts (p .1) t)
 
-  layers-in : (b : Float) (ls : List SheetLayer) (ts : List Bool) → T (layers-within b (films w ls)) → Fine ls → Passed ts → Passed (layers-verdicts w b ls ts)
-  unfolding layers-verdicts layers-within films
-  layers-in b [] ts h f t = t
-  layers-in b (l ∷ ls) ts h f t =
-      let p = both (layer-within b (film w l)) (layers-within b (films w ls)) h in
-      (and (coefficients-finite l) (layer-within b (film w l)) (f .0) (p .0), layers-in b ls ts (p .1) (f .1) t)
+layers-out : (w b : Float) (ls : List SheetLayer) (ts : List Bool) → Passed (layers-verdicts w b ls ts) → T (layers-admitted w b ls) × Passed ts
+unfolding layers-verdicts layers-admitted
+layers-out w b [] ts h = (tt, h)
+layers-out w b (l ∷ ls) ts h = let r = layers-out w b ls ts (h .1) in (and (layer-admitted w b l) (layers-admitted w b ls) (h .0) (r .0), r .1)
 
-  layers-out : (b : Float) (ls : List SheetLayer) (ts : List Bool) → Passed (layers-verdicts w b ls ts) → (T (layers-within b (films w ls)) × Fine ls) × Passed ts
-  unfolding layers-verdicts layers-within films
-  layers-out b [] ts h = ((tt, tt), h)
-  layers-out b (l ∷ ls) ts h =
-      let r = layers-out b ls ts (h .1) in
-      let p = both (coefficients-finite l) (layer-within b (film w l)) (h .0) in
-      ((and (layer-within b (film w l)) (layers-within b (films w ls)) (p .1) (r .0 .0), (p .0, r .0 .1)), r .1)
+tuning-in : (t : Tuning) (ts : List Bool) → T (tuning-passes t) → Passed ts → Passed (tuning-verdicts t ts)
+tuning-in keeps ts h p = p
+tuning-in (tunes v) ts h p = (h, p)
 
-  abbrev Good : SheetSurface → Type 0
-  Good y = T (passes w (surface-value y) (films w (y .layers)))
+tuning-out : (t : Tuning) (ts : List Bool) → Passed (tuning-verdicts t ts) → T (tuning-passes t) × Passed ts
+tuning-out keeps ts p = (tt, p)
+tuning-out (tunes v) ts p = (p .0, p .1)
 
-  abbrev AllFine : List SheetSurface → Type 0
-  AllFine ys = All (λ (y : SheetSurface). Fine (y .layers)) ys
+surfaces-in : (w : Float) (ys : List SheetSurface) (ts : List Bool) → AllMet w ys → Passed ts → Passed (surfaces-verdicts w ys ts)
+unfolding surfaces-verdicts
+surfaces-in w [] ts h t = t
+surfaces-in w (y ∷ ys) ts h t =
+    let v = met-with w (y .tuning) in
+    tuning-in (y .tuning) (surface-passes (surface-value y) ∷ layers-verdicts v (snell-of y) (y .layers) (surfaces-verdicts v ys ts)) (h .0)
+    (h .1 .0, layers-in v (snell-of y) (y .layers) (surfaces-verdicts v ys ts) (h .1 .1 .0) (surfaces-in v ys ts (h .1 .1 .1) t))
 
-  surfaces-in : (ys : List SheetSurface) (ts : List Bool) → All Good ys → AllFine ys → Passed ts → Passed (surfaces-verdicts w ys ts)
-  unfolding surfaces-verdicts passes
-  surfaces-in [] ts h f t = t
-  surfaces-in (y ∷ ys) ts h f t =
-      let p = both (surface-passes (surface-value y)) (layers-within (snell-of y) (films w (y .layers))) (h .0) in
-      (p .0, layers-in (snell-of y) (y .layers) (surfaces-verdicts w ys ts) (p .1) (f .0) (surfaces-in ys ts (h .1) (f .1) t))
-
-  surfaces-out : (ys : List SheetSurface) (ts : List Bool) → Passed (surfaces-verdicts w ys ts) → All Good ys × AllFine ys
-  unfolding surfaces-verdicts passes
-  surfaces-out [] ts h = (tt, tt)
-  surfaces-out (y ∷ ys) ts h =
-      let b = layers-out (snell-of y) (y .layers) (surfaces-verdicts w ys ts) (h .1) in
-      let r = surfaces-out ys ts (b .1) in
-      ((and (surface-passes (surface-value y)) (layers-within (snell-of y) (films w (y .layers))) (h .0) (b .0 .0), r .0), (b .0 .1, r .1))
+surfaces-out : (w : Float) (ys : List SheetSurface) (ts : List Bool) → Passed (surfaces-verdicts w ys ts) → AllMet w ys
+unfolding surfaces-verdicts
+surfaces-out w [] ts h = tt
+surfaces-out w (y ∷ ys) ts h =
+    let v = met-with w (y .tuning) in
+    let a = tuning-out (y .tuning) (surface-passes (surface-value y) ∷ layers-verdicts v (snell-of y) (y .layers) (surfaces-verdicts v ys ts)) h in
+    let b = layers-out v (snell-of y) (y .layers) (surfaces-verdicts v ys ts) (a .1 .1) in
+    (a .0, (a .1 .0, (b .0, surfaces-out v ys ts (b .1))))
 
 pub within-passed : (x : Sheet) → WellFormed x → WithinLimits x → Passed (verdicts x)
-within-passed x f h = subst Passed (sym (verdicts-are x f)) (tt, (h .beam, surfaces-in (value (x .wavelength)) (x .surfaces) (true ∷ []) (h .surfaces) (h .coefficients) (tt, tt)))
+within-passed x f h = subst Passed (sym (verdicts-are x f)) (tt, (h .beam, surfaces-in (value (x .wavelength)) (x .surfaces) (true ∷ []) (all-met x h) (tt, tt)))
 
 pub passed-within : (x : Sheet) → WellFormed x → Passed (verdicts x) → WithinLimits x
-passed-within x f p =
-    let h : Passed (of-data x) = subst Passed (verdicts-are x f) p in
-    let s = surfaces-out (value (x .wavelength)) (x .surfaces) (true ∷ []) (h .1 .1) in
-    record { beam = h .1 .0; surfaces = s .0; coefficients = s .1 }
+passed-within x f p = let h : Passed (of-data x) = subst Passed (verdicts-are x f) p in met-within x (h .1 .0) (surfaces-out (value (x .wavelength)) (x .surfaces) (true ∷ []) (h .1 .1))
 
 -- ---- the first that does not hold
 pub record First (ts : List Bool) (i : ℕ) : Type 0 where

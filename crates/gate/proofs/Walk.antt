@@ -11,18 +11,19 @@ use borrow.Author.Tests.{not-true, not-false, eqb-true}
 use Rattle.ieee.specs.Functions.{zero-f}
 use Rattle.refusal.specs.Outcome.{Outcome, answer, refusal, map}
 use Rattle.gate_limits.specs.declared.Judgement.{Judgement}
+use Rattle.gate_limits.specs.Limits.{wavelength-passes}
 use Rattle.sheet.specs.Words.{word, count, kind, float}
 use Rattle.sheet.specs.Blocks.{Block, Result, read, fault, starts}
 use Rattle.sheet.specs.Sheet.{Sheet, blocks, places}
 use Rattle.sheet.specs.Read.{floats-after, raws, number, decode, graded, surfaces-of, grammar}
 use Rattle.sheet.specs.Claim.{length-fits}
-use Rattle.sheet.specs.Internal.{next-place}
+use Rattle.sheet.specs.Internal.{next-place, tuning-at}
 use Rattle.sheet.proofs.Stands.{Stands, Standing, standing, Known, bytes-from, word-here, float-here, inside, next-is, next-stands, ends-here}
 use Rattle.sheet_values.specs.declared.Beam.{Beam}
-use Rattle.sheet_values.specs.Values.{value}
+use Rattle.sheet_values.specs.Values.{value, met-with}
 use Rattle.sheet_values.specs.Internal.{beam-at}
 use Rattle.sheet_values.proofs.Here.{beam-here}
-use Rattle.gate.specs.Gate.{verdict, carried, walked, verdicts, judged, within-limits}
+use Rattle.gate.specs.Gate.{verdict, tuned, carried, walked, verdicts, judged, within-limits}
 use Rattle.gate.specs.Internal.{judgement-at}
 
 -- ---- one block: what the code finds at its place is what its words say
@@ -66,9 +67,23 @@ module _ (src : List ℕ) (at : ℕ) (v b : Float) (k : Block) (ks : List Block)
   unfolding judgement-at verdict carried floats-after
   is-cauchy e = let le : 3 ≤ 4 = omega arith in rw (w, e, f0 6 4 e refl le, f1 6 4 e refl le, f2 6 4 e refl le, nth-float 6 4 e refl 3 7 refl (omega arith)) refl
 
+  -- a kind 7 and what has no limits
   is-other : eqb (kind (k .word)) 2 ≡ false → eqb (kind (k .word)) 3 ≡ false → eqb (kind (k .word)) 4 ≡ false → eqb (kind (k .word)) 6 ≡ false → Judges
   unfolding judgement-at verdict carried
-  is-other p q r s = rw (w, p, q, r, s) refl
+  is-other p q r s = rw (w, p, q, r, s) (last (eqb (kind (k .word)) 7))
+    where
+      last : (t : Bool) → _≡_ {A = Judgement} (cond t (record { passes = wavelength-passes v; snell = b }) (record { passes = true; snell = b })) (record { passes = cond t (wavelength-passes v) true; snell = b })
+      last true = refl
+      last false = refl
+
+  -- the wavelength there
+  pub tunes-here : (held : Float) → met-with held (tuning-at src at) ≡ tuned held k
+  unfolding tuned floats-after
+  tunes-here held = by (eqb (kind (k .word)) 7) refl
+    where
+      by : (t : Bool) → eqb (kind (k .word)) 7 ≡ t → met-with held (tuning-at src at) ≡ cond t (value (number k 0)) held
+      by true e = rw (w, e) (ap value (nth-float 7 1 (eqb-true (kind (k .word)) 7 e) refl 0 1 refl (omega arith)))
+      by false e = rw (w, e) refl
 
   pub judges : Judges
   judges = by (eqb n 2) refl (eqb n 3) refl (eqb n 4) refl (eqb n 6) refl
@@ -126,28 +141,34 @@ begin src n v known t e m m-is v-is =
     }
 
 module _ (src : List ℕ) (n at : ℕ) (v b : Float) (o : Outcome ℕ) where
-  module _ (j : Judgement) (j-is : j ≡ judgement-at src at v b) where
+  module _ (u : Float) (u-is : u ≡ met-with v (tuning-at src at)) (j : Judgement) (j-is : j ≡ judgement-at src at u b) where
+    -- what is judged of the first block
+    here : (k : Block) (ks : List Block) → Stands src at (k ∷ ks) → (u ≡ tuned v k) × (j ≡ record { passes = verdict (tuned v k) b k; snell = carried b k })
+    here k ks s =
+        let t = u-is ∙ tunes-here src at u b k ks s v in
+        (t, j-is ∙ judges src at u b k ks s ∙ ap (λ (z : Float). record { passes = verdict z b k; snell = carried b k }) t)
+
     fails : (ks : List Block) → Stands src at ks → judged n (starts at ks) (walked v b ks) ≡ o → at < count src → not (j .passes) ≡ true → refusal 6 at ≡ o
     unfolding walked judged starts
     fails [] s e lt f = absurd (omega (arith, ends-here src at s))
     fails (k ∷ ks) s e lt f =
-        let p : verdict v b k ≡ false = sym (ap (λ (z : Judgement). z .passes) (j-is ∙ judges src at v b k ks s)) ∙ not-true (j .passes) f in
+        let p : verdict (tuned v k) b k ≡ false = sym (ap (λ (z : Judgement). z .passes) (here k ks s .1)) ∙ not-true (j .passes) f in
         rw p at e
 
-    holds : (ks : List Block) → Stands src at ks → judged n (starts at ks) (walked v b ks) ≡ o → at < count src → not (j .passes) ≡ false → (at < next-place src at) × Left src n (next-place src at) v (j .snell) o
+    holds : (ks : List Block) → Stands src at ks → judged n (starts at ks) (walked v b ks) ≡ o → at < count src → not (j .passes) ≡ false → (at < next-place src at) × Left src n (next-place src at) u (j .snell) o
     unfolding walked judged starts
     holds [] s e lt f = absurd (omega (arith, ends-here src at s))
     holds (k ∷ ks) s e lt f =
-        let q = j-is ∙ judges src at v b k ks s in
-        let p : verdict v b k ≡ true = sym (ap (λ (z : Judgement). z .passes) q) ∙ not-false (j .passes) f in
-        let c : j .snell ≡ carried b k = ap (λ (z : Judgement). z .snell) q in
+        let q = here k ks s in
+        let p : verdict (tuned v k) b k ≡ true = sym (ap (λ (z : Judgement). z .passes) (q .1)) ∙ not-false (j .passes) f in
+        let c : j .snell ≡ carried b k = ap (λ (z : Judgement). z .snell) (q .1) in
         let m = next-is src at k ks s in
-        (omega arith, record { left = ks; stands = next-stands src at k ks s; judges = rw (m, c) (rw p at e) })
+        (omega arith, record { left = ks; stands = next-stands src at k ks s; judges = rw (m, c, q .0) (rw p at e) })
 
     pub block-fails : Left src n at v b o → at < count src → not (j .passes) ≡ true → refusal 6 at ≡ o
     block-fails i lt f = fails (i .left) (i .stands) (i .judges) lt f
 
-    pub block-holds : Left src n at v b o → at < count src → not (j .passes) ≡ false → (q : ℕ) → q ≡ next-place src at → (at < q) × Left src n q v (j .snell) o
+    pub block-holds : Left src n at v b o → at < count src → not (j .passes) ≡ false → (q : ℕ) → q ≡ next-place src at → (at < q) × Left src n q u (j .snell) o
     block-holds i lt f q e = rw e (holds (i .left) (i .stands) (i .judges) lt f)
 
   ended : (ks : List Block) → Stands src at ks → judged n (starts at ks) (walked v b ks) ≡ o → count src ≤ at → answer n ≡ o

@@ -4,27 +4,47 @@
 use mathlib.Core.Path.{_≡_}
 use mathlib.Core.Logic.{_⊎_}
 use mathlib.Core.Bool.{true, false}
-use mathlib.Core.List.{List}
+use mathlib.Core.List.{List, [], _∷_}
 use Prim.Native.Nat.{ℕ, _<_}
 use lib.Dec.{T}
 use lib.ListN.{length, getD}
 use Rattle.refusal.specs.Outcome.{answer, refusal}
-use Rattle.gate_limits.specs.Limits.{beam-passes, passes}
+use Rattle.gate_limits.specs.Limits.{beam-passes, surface-passes}
 use Rattle.sheet.specs.Blocks.{All}
-use Rattle.sheet.specs.Sheet.{SheetLayer, SheetSurface, Sheet, WellFormed, blocks, encode, places}
+use Rattle.sheet.specs.Sheet.{Tuning, keeps, tunes, SheetSurface, Sheet, WellFormed, blocks, encode, places}
 use Rattle.sheet.specs.Claim.{_⇔_, Bytes, length-fits, Fault}
-use Rattle.sheet_values.specs.Values.{value, films, surface-value}
-use Rattle.gate.specs.Gate.{coefficients-finite, verdicts, gated}
+use Rattle.sheet_values.specs.Values.{value, surface-value}
+use Rattle.gate.specs.Gate.{verdicts, gated}
+use Rattle.gate.specs.Wavelength.{holds}
 
--- ---- section 3: the BEAM, and each surface with its layers at the BEAM's wavelength
+-- ---- section 3
+-- each kind 7's wavelength, from its own SURFACE on
+abbrev pub untuned : SheetSurface → SheetSurface
+untuned y = record {
+  tuning = keeps;
+  payload = y .payload;
+  n-incident = y .n-incident;
+  n-substrate = y .n-substrate;
+  angle = y .angle;
+  layers = y .layers;
+}
+
+abbrev pub HoldsFrom : Tuning → List SheetSurface → Type 0
+HoldsFrom keeps ys = Unit
+HoldsFrom (tunes wavelength) ys = T (holds (value wavelength) ys)
+
+abbrev pub AllHold : List SheetSurface → Type 0
+AllHold [] = Unit
+AllHold (y ∷ ys) = HoldsFrom (y .tuning) (untuned y ∷ ys) × AllHold ys
+
+-- the BEAM, each SURFACE, and the layers: 'tested at the wavelength that its surface is met with', the BEAM's or a kind 7's
 pub record WithinLimits (x : Sheet) : Type 0 where
   pub beam : T (beam-passes (value (x .wavelength)) (value (x .s)) (value (x .p)))
-  pub surfaces : All
-      (λ (y : SheetSurface). let w = value (x .wavelength) in T (passes w (surface-value y) (films w (y .layers)))) (x .surfaces)
-  -- 'and A, B and C must be finite'
-  pub coefficients : All (λ (y : SheetSurface). All (λ (l : SheetLayer). T (coefficients-finite l)) (y .layers)) (x .surfaces)
+  pub surfaces : All (λ (y : SheetSurface). T (surface-passes (surface-value y))) (x .surfaces)
+  pub holds : T (holds (value (x .wavelength)) (x .surfaces))
+  pub tuned : AllHold (x .surfaces)
 
--- the first BEAM, SURFACE or layer outside is some block of the sheet, and stands at its kind word's place
+-- the first BEAM, kind 7, SURFACE or layer outside is some block of the sheet, and stands at its kind word's place
 pub record FirstOutside (x : Sheet) (place : ℕ) : Type 0 where
   pub block : ℕ
   pub inside : block < length (blocks x)

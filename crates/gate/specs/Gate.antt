@@ -1,4 +1,4 @@
--- 01 section 3, 02 slip 3 and the table 'Turned back': the gate over a whole sheet. Definitions only.
+-- 01 section 3, 02 slips 3 and 5 and the table 'Turned back': the gate over a whole sheet. Definitions only.
 -- `Claim` says what it has to do with `encode`, `WellFormed` and `WithinLimits`.
 use mathlib.Core.Bool.{Bool, true, _&&_, cond}
 use mathlib.Core.List.{List, [], _∷_}
@@ -8,7 +8,7 @@ use lib.Ieee.{Float}
 use lib.Ieee.Scale.{finite}
 use Rattle.ieee.specs.Functions.{zero-f}
 use Rattle.refusal.specs.Outcome.{Outcome, answer, refusal, refused, map}
-use Rattle.gate_limits.specs.Limits.{beam-passes, snell-size, layer-within, surface-passes}
+use Rattle.gate_limits.specs.Limits.{wavelength-passes, beam-passes, snell-size, layer-within, surface-passes}
 use Rattle.sheet.specs.Words.{kind}
 use Rattle.sheet.specs.Blocks.{Block}
 use Rattle.sheet.specs.Sheet.{SheetLayer, layer, cauchy, Sheet, blocks, places}
@@ -29,13 +29,18 @@ abbrev pub layer-admitted : Float → Float → SheetLayer → Bool
 layer-admitted wavelength b l = coefficients-finite l && layer-within b (film wavelength l)
 
 -- ---- the limits, block by block
--- what they say of a block by its own words, at the BEAM's wavelength and for an n_incident·abs(sin) of b of the SURFACE before it; a
+-- what they say of a block by its own words, at the wavelength there and for an n_incident·abs(sin) of b of the SURFACE before it; a
 -- preset's layers count as the SURFACE
 unfoldable pub verdict : Float → Float → Block → Bool
 verdict wavelength b k =
     cond (eqb (kind (k .word)) 2) (beam-passes (value (number k 0)) (value (number k 1)) (value (number k 2)))
     (cond (eqb (kind (k .word)) 3) (surface-passes (surface-value (surface-of k [])))
-    (cond (layer-kind 2 (kind (k .word))) (layer-admitted wavelength b (layer-of k)) true))
+    (cond (layer-kind 2 (kind (k .word))) (layer-admitted wavelength b (layer-of k))
+    (cond (eqb (kind (k .word)) 7) (wavelength-passes wavelength) true)))
+
+-- the wavelength from a block on: a kind 7's own, else the one before it
+unfoldable pub tuned : Float → Block → Float
+tuned wavelength k = cond (eqb (kind (k .word)) 7) (value (number k 0)) wavelength
 
 -- n_incident·abs(sin) after a block: a SURFACE's own, for its layers
 unfoldable pub carried : Float → Block → Float
@@ -43,9 +48,9 @@ carried b k = cond (eqb (kind (k .word)) 3) (snell-size (value (number k 0)) (va
 
 unfoldable pub walked : Float → Float → List Block → List Bool
 walked wavelength b [] = []
-walked wavelength b (k ∷ ks) = verdict wavelength b k ∷ walked wavelength (carried b k) ks
+walked wavelength b (k ∷ ks) = let w = tuned wavelength k in verdict w b k ∷ walked w (carried b k) ks
 
--- one for each block, in their order
+-- one for each block, in their order, at the BEAM's wavelength first
 abbrev pub verdicts : Sheet → List Bool
 verdicts x = walked (value (x .wavelength)) zero-f (blocks x)
 

@@ -5,12 +5,14 @@ ghost use mathlib.Core.Bool.{_&&_};
 ghost use lib.Dec.{T};
 ghost use lib.Ieee.Scale.{finite};
 ghost use Rattle.gate_limits.specs.Limits.{layer-within};
+ghost use Rattle.sheet.specs.Internal.{layer-at, layers-at};
 ghost use Rattle.sheet.specs.Claim.{longest, length-fits};
 ghost use Rattle.sheet.specs.Read.{decode, graded, surfaces-of, grammar};
 ghost use Rattle.refusal.specs.Outcome.{answer, refusal, map};
-ghost use Rattle.gate.specs.Gate.{outcome, within-limits, gate};
+ghost use Rattle.gate.specs.Gate.{layer-admitted, outcome, within-limits, gate};
+ghost use Rattle.gate.specs.Wavelength.{layers-admitted};
 ghost use Rattle.sheet_values.specs.Values.{cauchy-film};
-ghost use Rattle.gate.specs.Internal.{judgement-at};
+ghost use Rattle.gate.specs.Internal.{judgement-at, surface-holds-at, layers-hold-at, holds-at};
 use gate_limits::Judgement;
 use refusal::Refusal;
 use sheet::Verdict;
@@ -27,7 +29,7 @@ fn longest(src: &[u8]) -> usize
     ensures { λ r. ⌜ r ≡ longest (now (src .entry)) ⌝ }
 {
     if sheet::word_from(src, 0) == 0x1000_0002 {
-        38692
+        39460
     } else {
         30500
     }
@@ -88,23 +90,31 @@ fn judge(src: &[u8], at: usize, wavelength_nm: f64, snell: f64) -> Judgement
             snell,
         };
     }
+    if kind == 7 {
+        return Judgement {
+            passes: gate_limits::wavelength_passes(wavelength_nm),
+            snell,
+        };
+    }
     Judgement {
         passes: true,
         snell,
     }
 }
 
-// The limits of a sheet that is in grammar, block after block, at the BEAM's wavelength.
+// The limits of a sheet that is in grammar, block after block, each layer at the wavelength that its SURFACE is met with.
 fn limits(src: &[u8], count: u32) -> Gated
     requires { ⌜ T (length-fits (now src)) × (grammar (now src) ≡ answer count) ⌝ }
     ensures { λ r. ⌜ outcome r ≡ map surfaces-of (within-limits (graded (decode (now (src .entry))))) ⌝ }
 {
     let total = src.len() / 4;
     let beam = sheet_values::beam_of(src);
+    let mut wavelength_nm = beam.wavelength_nm;
     let mut at: usize = 0;
     let mut snell = 0.0;
     while at < total {
-        let judgement = judge(src, at, beam.wavelength_nm, snell);
+        wavelength_nm = sheet_values::met_with(src, at, wavelength_nm);
+        let judgement = judge(src, at, wavelength_nm, snell);
         if !judgement.passes {
             return outside(at);
         }
@@ -128,4 +138,79 @@ pub fn gate(src: &[u8]) -> Gated
         Verdict::Whole(count) => limits(src, count),
         Verdict::Fault(place) => Gated::Refused(Refusal { number: 5, place }),
     }
+}
+
+// ---- what a wavelength is tested on
+
+// The layer of either kind at a place, at a wavelength.
+fn layer_passes(src: &[u8], at: usize, wavelength_nm: f64, snell: f64) -> bool
+    ensures { λ r. ⌜ r ≡ layer-admitted «wavelength_nm» snell (layer-at (now (src .entry)) at) ⌝ }
+{
+    if sheet::kind_at(src, at) == 6 {
+        return cauchy_passes(wavelength_nm, snell, sheet_values::cauchy_at(src, at));
+    }
+    gate_limits::layer_within(snell, sheet_values::plain_at(src, at))
+}
+
+// The n layers from a place on.
+fn layers_pass(src: &[u8], at: usize, n: usize, wavelength_nm: f64, snell: f64) -> bool
+    ensures { λ r. ⌜ r ≡ layers-admitted «wavelength_nm» snell (layers-at (now (src .entry)) at n) ⌝ }
+{
+    let mut place = at;
+    let mut i = 0;
+    while i < n {
+        if !layer_passes(src, place, wavelength_nm, snell) {
+            return false;
+        }
+        place = sheet::next_place(src, place);
+        i += 1;
+    }
+    true
+}
+
+// The layers of the SURFACE at a place.
+fn surface_holds(src: &[u8], at: usize, wavelength_nm: f64) -> bool
+    ensures { λ r. ⌜ r ≡ surface-holds-at (now (src .entry)) at «wavelength_nm» ⌝ }
+{
+    let judgement = gate_limits::judge_surface(sheet_values::surface_at(src, at));
+    let n = sheet::layer_run(src, at);
+    layers_pass(
+        src,
+        sheet::next_place(src, at),
+        n,
+        wavelength_nm,
+        judgement.snell,
+    )
+}
+
+// The layers of n SURFACEs, the first of which begins at a place, up to the next kind 7.
+fn layers_hold(src: &[u8], at: usize, n: u32, wavelength_nm: f64) -> bool
+    ensures { λ r. ⌜ r ≡ layers-hold-at n (now (src .entry)) at «wavelength_nm» ⌝ }
+{
+    let mut place = at;
+    let mut i = 0;
+    while i < n {
+        if sheet::kind_at(src, place) == 7 {
+            return true;
+        }
+        if !surface_holds(src, place, wavelength_nm) {
+            return false;
+        }
+        place = sheet::after_layers(src, place);
+        i += 1;
+    }
+    true
+}
+
+// A wavelength, with done of a sheet's count of SURFACEs behind it.
+pub fn holds(src: &[u8], done: u32, count: u32, wavelength_nm: f64) -> bool
+    ensures { λ r. ⌜ r ≡ holds-at (now (src .entry)) done count «wavelength_nm» ⌝ }
+{
+    if !gate_limits::wavelength_passes(wavelength_nm) {
+        return false;
+    }
+    if done >= count {
+        return true;
+    }
+    layers_hold(src, sheet::begin_of(src, done), count - done, wavelength_nm)
 }

@@ -1,7 +1,7 @@
 // One surface of a train: its coating by code, and the limits of document 01's section 3.
 ghost use mathlib.Core.Path.{_≡_};
 ghost use Rattle.gate_limits.specs.Coating.{coded, interface, preset-layers};
-ghost use Rattle.gate_limits.specs.Limits.{within, beam-passes, layer-within, layers-within, angle-within, surface-within, judgement};
+ghost use Rattle.gate_limits.specs.Limits.{within, wavelength-passes, beam-passes, layer-within, layers-within, angle-within, surface-within, judgement};
 use thin_film::SurfaceCoating;
 use thin_film_coating::Coating;
 use thin_film_solver::ThinFilmLayer;
@@ -62,11 +62,18 @@ pub fn within(lo: f64, hi: f64, x: f64) -> bool
     lo <= x && x <= hi
 }
 
+// A wavelength: the BEAM's, a kind 7's or one that a train is given.
+pub fn wavelength_passes(wavelength_nm: f64) -> bool
+    ensures { λ r. ⌜ r ≡ wavelength-passes «wavelength_nm» ⌝ }
+{
+    within(100.0, 10000.0, wavelength_nm)
+}
+
 // A BEAM: its wavelength, its s and its p power.
 pub fn beam_passes(wavelength_nm: f64, s: f64, p: f64) -> bool
     ensures { λ r. ⌜ r ≡ beam-passes «wavelength_nm» s p ⌝ }
 {
-    within(100.0, 10000.0, wavelength_nm) && (within(0.0, 1.0, s) && within(0.0, 1.0, p))
+    wavelength_passes(wavelength_nm) && (within(0.0, 1.0, s) && within(0.0, 1.0, p))
 }
 
 // A layer, for an n_incident * abs(sin) of snell.

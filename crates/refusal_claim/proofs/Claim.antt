@@ -6,9 +6,9 @@ use mathlib.Core.List.{List, [], _∷_, _++_, map as map-list}
 use Prim.Native.Nat.{ℕ, zero, suc, _*_, _≤_, _<_}
 use native.Mathlib.Omega.{arith}
 use lib.Dec.{T, eqb, leb, ltb, lit≤, lit<}
-use lib.ListN.{length, getD, replicate}
+use lib.ListN.{length, getD, drop, replicate}
 use lib.Ieee as Ieee
-use lib.Ieee.{Float, lt, ofBits}
+use lib.Ieee.{Float, nan, lt, ofBits}
 use borrow.Author.Tests.{ltb-true, le-ltb}
 use Rattle.ieee.specs.Functions.{zero-f, one, finite-positive}
 use Rattle.refusal.specs.Outcome.{Outcome, answer, refusal, map, bind, invalid-parameter, too-many-layers}
@@ -45,15 +45,16 @@ use Rattle.sheet.specs.Sheet.{nth, WellFormed, raw-words, surfaces-blocks, bloc
 use Rattle.sheet.specs.Read.{floats-after, raws, numbers, may, decode}
 use Rattle.sheet.specs.Claim.{Bytes}
 use Rattle.sheet.proofs.Claim.{grammar-claim}
-use Rattle.sheet_values.specs.Values.{value}
-use Rattle.gate.specs.Gate.{verdict, carried, walked, verdicts, gated, gate}
+use Rattle.sheet_values.specs.Values.{value, met-at}
+use Rattle.gate.specs.Gate.{verdict, tuned, carried, walked, verdicts, gated, gate}
+use Rattle.gate.specs.Wavelength.{holds}
 use Rattle.gate.proofs.Claim.{gate-claim}
 use Rattle.quarter_waves.specs.Waves as Waves
 use Rattle.quarter_waves.specs.Waves.{quarter-waves}
 use Rattle.sheet_surfaces.specs.Surfaces.{of-surface, surface-of, numbered, layer-of, nth-surface, nth-layer, surface-answers}
-use Rattle.sheet_surfaces.proofs.Answers.{all-nth}
+use Rattle.sheet_surfaces.proofs.Answers.{nth-answered}
 use Rattle.train_steps.specs.declared.State.{State}
-use Rattle.train_steps.specs.Train.{fresh, start, stepped, step, Ran, ran, run}
+use Rattle.train_steps.specs.Train.{fresh, start, after-one, stepped, step, with-wavelength, retuned, retune, Ran, ran, run}
 use Rattle.train_claim.proofs.Claim.{train-claim}
 use Rattle.refusal_claim.specs.Claim.{one-of, Only, Refuses, Sheet, Numbers, at, RefusalClaim}
 
@@ -136,7 +137,7 @@ unfolding blank gated word decode words-of blocks-from may
 five = refl
 
 six : gated (unlit .src) ≡ refusal 6 1
-unfolding unlit blocks surfaces-blocks raw-words starts numbers walked verdict carried beam-passes within Ieee.le ofBits
+unfolding unlit blocks surfaces-blocks raw-words starts numbers walked verdict tuned carried beam-passes within Ieee.le ofBits
 six = gate-claim .six (encode dark) (unlit .bytes) 1 .1 (dark, ((dark-formed, refl), record { block = 1; inside = lit< tt; outside = refl; first = first; stands = refl }))
   where
     first : (i : ℕ) → i < 1 → getD (verdicts dark) i true ≡ true
@@ -166,9 +167,17 @@ of-start = record {
 }
 
 abbrev still : State
-still = record { done = 16; s = zero-f; p = zero-f }
+still = record { done = 16; s = zero-f; p = zero-f; «wavelength_nm» = zero-f }
 
-of-step : Refuses (λ (x : Sheet × State). step (x .0 .src) (x .1)) (4 ∷ 5 ∷ 6 ∷ 7 ∷ [])
+-- a wavelength that is no number is 11 wherever it is tested
+abbrev lost : State
+lost = record { done = 0; s = zero-f; p = zero-f; «wavelength_nm» = nan }
+
+no-wavelength : (ys : List Data.SheetSurface) → holds nan ys ≡ false
+unfolding holds within Ieee.le Ieee.lt Ieee.eq ofBits
+no-wavelength ys = refl
+
+of-step : Refuses (λ (x : Sheet × State). step (x .0 .src) (x .1)) (4 ∷ 5 ∷ 6 ∷ 7 ∷ 11 ∷ [])
 unfolding step
 of-step = record {
   only = λ x. by (x .0) (x .1);
@@ -178,14 +187,41 @@ of-step = record {
       ((blank, still), (0, train-claim .turned-back (blank .src) 5 0 five .steps still)),
       (
         ((unlit, still), (1, train-claim .turned-back (unlit .src) 6 1 six .steps still)),
-        (((whole, still), (0, train-claim .every-call (whole .src) (whole .bytes) panes admitted .seven still (omega (arith, sixteen)))), tt),
+        (
+          ((whole, still), (0, train-claim .every-call (whole .src) (whole .bytes) panes admitted .seven still (omega (arith, sixteen)))),
+          (((whole, lost), (0, train-claim .every-call (whole .src) (whole .bytes) panes admitted .eleven lost (omega (arith, sixteen)) (no-wavelength (drop 0 (panes .surfaces))))), tt),
+        ),
       ),
     ),
   );
 }
   where
-    by : (x : Sheet) (st : State) → Only (4 ∷ 5 ∷ 6 ∷ 7 ∷ []) (step (x .src) st)
-    by x st = bound (4 ∷ 5 ∷ 6 ∷ 7 ∷ []) (stepped st) (gated (x .src)) (more (7 ∷ []) (gated (x .src)) (gated-only (x .src))) (λ y e. either (4 ∷ 5 ∷ 6 ∷ 7 ∷ []) (ltb (st .done) (length (y .surfaces))) (answer _) (refusal 7 0) tt tt)
+    by : (x : Sheet) (st : State) → Only (4 ∷ 5 ∷ 6 ∷ 7 ∷ 11 ∷ []) (step (x .src) st)
+    by x st =
+        bound (4 ∷ 5 ∷ 6 ∷ 7 ∷ 11 ∷ []) (stepped st) (gated (x .src)) (more (7 ∷ 11 ∷ []) (gated (x .src)) (gated-only (x .src)))
+        (λ y e. either (4 ∷ 5 ∷ 6 ∷ 7 ∷ 11 ∷ []) (ltb (st .done) (length (y .surfaces))) _ (refusal 7 0)
+        (either (4 ∷ 5 ∷ 6 ∷ 7 ∷ 11 ∷ []) (holds (st .«wavelength_nm») (drop (st .done) (y .surfaces))) (answer _) (refusal 11 0) tt tt) tt)
+
+of-retune : Refuses (λ (x : Sheet × (State × Float)). retune (x .0 .src) (x .1 .0) (x .1 .1)) (4 ∷ 5 ∷ 6 ∷ 11 ∷ [])
+unfolding retune
+of-retune = record {
+  only = λ x. by (x .0) (x .1 .0) (x .1 .1);
+  each = (
+    ((none, (still, nan)), (0, train-claim .turned-back (none .src) 4 0 four .retunes still nan)),
+    (
+      ((blank, (still, nan)), (0, train-claim .turned-back (blank .src) 5 0 five .retunes still nan)),
+      (
+        ((unlit, (still, nan)), (1, train-claim .turned-back (unlit .src) 6 1 six .retunes still nan)),
+        (((whole, (still, nan)), (0, train-claim .every-call (whole .src) (whole .bytes) panes admitted .untuned still nan (no-wavelength (drop 16 (panes .surfaces))))), tt),
+      ),
+    ),
+  );
+}
+  where
+    by : (x : Sheet) (st : State) (w : Float) → Only (4 ∷ 5 ∷ 6 ∷ 11 ∷ []) (retune (x .src) st w)
+    by x st w =
+        bound (4 ∷ 5 ∷ 6 ∷ 11 ∷ []) (retuned w st) (gated (x .src)) (more (11 ∷ []) (gated (x .src)) (gated-only (x .src)))
+        (λ y e. either (4 ∷ 5 ∷ 6 ∷ 11 ∷ []) (holds w (drop (st .done) (y .surfaces))) (answer _) (refusal 11 0) tt tt)
 
 of-run : Refuses (λ (x : Sheet × List Float). run (x .0 .src) (x .1) .result) (4 ∷ 5 ∷ 6 ∷ 8 ∷ [])
 unfolding run
@@ -327,19 +363,19 @@ of-to-coating = record { only = λ x. by (x .0) (x .1); each = (((S.Custom C.Mul
 abbrev seven : List ℕ
 seven = 4 ∷ 5 ∷ 6 ∷ 7 ∷ []
 
-of-surface-only : {A : Type 0} (f : Data.Sheet → Data.SheetSurface → Outcome A) (i : ℕ) (o : Outcome Data.Sheet) → Only seven o → ((x : Data.Sheet) → o ≡ answer x → i < length (x .surfaces) → Only seven (f x (nth (x .surfaces) i)))
+of-surface-only : {A : Type 0} (f : Float → Data.SheetSurface → Outcome A) (i : ℕ) (o : Outcome Data.Sheet) → Only seven o → ((x : Data.Sheet) → o ≡ answer x → i < length (x .surfaces) → Only seven (f (met-at (value (x .wavelength)) (x .surfaces) i) (nth (x .surfaces) i)))
     → Only seven (of-surface f i o)
 of-surface-only f i (answer x) t h = by (ltb i (length (x .surfaces))) refl (h x refl)
   where
-    by : (b : Bool) → ltb i (length (x .surfaces)) ≡ b → (i < length (x .surfaces) → Only seven (f x (nth (x .surfaces) i))) → Only seven (cond b (f x (nth (x .surfaces) i)) (refusal 7 0))
+    by : (b : Bool) → ltb i (length (x .surfaces)) ≡ b → (i < length (x .surfaces) → Only seven (f (met-at (value (x .wavelength)) (x .surfaces) i) (nth (x .surfaces) i))) → Only seven (cond b (f (met-at (value (x .wavelength)) (x .surfaces) i) (nth (x .surfaces) i)) (refusal 7 0))
     by true e h = h (ltb-true i (length (x .surfaces)) e)
     by false e h = tt
 of-surface-only f i (refusal number place) t h = t
 
-said : {A : Type 0} (f : Data.Sheet → Data.SheetSurface → Outcome A) (i : ℕ) (o : Outcome Data.Sheet) (number place : ℕ) → o ≡ refusal number place → of-surface f i o ≡ refusal number place
+said : {A : Type 0} (f : Float → Data.SheetSurface → Outcome A) (i : ℕ) (o : Outcome Data.Sheet) (number place : ℕ) → o ≡ refusal number place → of-surface f i o ≡ refusal number place
 said f i o number place e = ap (of-surface f i) e
 
-past : {A : Type 0} (f : Data.Sheet → Data.SheetSurface → Outcome A) → of-surface f 16 (gated (whole .src)) ≡ refusal 7 0
+past : {A : Type 0} (f : Float → Data.SheetSurface → Outcome A) → of-surface f 16 (gated (whole .src)) ≡ refusal 7 0
 past f = ap (of-surface f 16) admitted ∙ rw (le-ltb 16 (length (panes .surfaces)) (omega (arith, sixteen)))
 
 all-seven : (src : List ℕ) → Only seven (gated src)
@@ -350,7 +386,7 @@ unfolding surface-answers
 of-answers = record {
   only = λ x.
       of-surface-only _ (x .1) (gated (x .0 .src)) (all-seven (x .0 .src))
-      (λ y e lt. rw (all-nth _ (y .surfaces) (x .1) (train-claim .admitted (x .0 .src) (x .0 .bytes) y e .answers) lt .is) tt);
+      (λ y e lt. let g = gate-claim .admits (x .0 .src) (x .0 .bytes) y .0 e .0 in rw (nth-answered y (g .0) (g .1) (x .1) lt .is) tt);
   each = (((none, 0), (0, said _ 0 _ 4 0 four)), (((blank, 0), (0, said _ 0 _ 5 0 five)), (((unlit, 0), (1, said _ 0 _ 6 1 six)), (((whole, 16), (0, past _)), tt))));
 }
 
@@ -362,7 +398,7 @@ of-nth-surface = record {
     ((none, 0), (0, ap (λ o. map numbered (surface-of 0 o)) four)),
     (
       ((blank, 0), (0, ap (λ o. map numbered (surface-of 0 o)) five)),
-      (((unlit, 0), (1, ap (λ o. map numbered (surface-of 0 o)) six)), (((whole, 16), (0, ap (map numbered) (past (λ x y. answer y)))), tt)),
+      (((unlit, 0), (1, ap (λ o. map numbered (surface-of 0 o)) six)), (((whole, 16), (0, ap (map numbered) (past (λ w y. answer y)))), tt)),
     ),
   );
 }
@@ -392,6 +428,7 @@ refusal-claim = record {
   of-gate = of-gate;
   of-start = of-start;
   of-step = of-step;
+  of-retune = of-retune;
   of-run = of-run;
   of-answers = of-answers;
   of-nth-surface = of-nth-surface;

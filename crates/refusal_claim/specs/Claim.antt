@@ -26,7 +26,7 @@ use Rattle.gate.specs.Gate.{gate}
 use Rattle.quarter_waves.specs.Waves.{quarter-waves}
 use Rattle.sheet_surfaces.specs.Surfaces.{nth-surface, nth-layer, surface-answers}
 use Rattle.train_steps.specs.declared.State.{State}
-use Rattle.train_steps.specs.Train.{start, step, run}
+use Rattle.train_steps.specs.Train.{start, step, retune, run}
 
 abbrev pub one-of : ℕ → List ℕ → Bool
 one-of n [] = false
@@ -61,7 +61,8 @@ at call n = call (n .n-incident) (n .n-substrate) (n .angle) (n .wavelength)
 pub record RefusalClaim : Type 0 where
   pub of-gate : Refuses (λ (x : Sheet). gate (x .src)) (4 ∷ 5 ∷ 6 ∷ [])
   pub of-start : Refuses (λ (x : Sheet). start (x .src)) (4 ∷ 5 ∷ 6 ∷ [])
-  pub of-step : Refuses (λ (x : Sheet × State). step (x .0 .src) (x .1)) (4 ∷ 5 ∷ 6 ∷ 7 ∷ [])
+  pub of-step : Refuses (λ (x : Sheet × State). step (x .0 .src) (x .1)) (4 ∷ 5 ∷ 6 ∷ 7 ∷ 11 ∷ [])
+  pub of-retune : Refuses (λ (x : Sheet × (State × Float)). retune (x .0 .src) (x .1 .0) (x .1 .1)) (4 ∷ 5 ∷ 6 ∷ 11 ∷ [])
   pub of-run : Refuses (λ (x : Sheet × List Float). run (x .0 .src) (x .1) .result) (4 ∷ 5 ∷ 6 ∷ 8 ∷ [])
   pub of-answers : Refuses (λ (x : Sheet × ℕ). surface-answers (x .0 .src) (x .1)) (4 ∷ 5 ∷ 6 ∷ 7 ∷ [])
   pub of-nth-surface : Refuses (λ (x : Sheet × ℕ). nth-surface (x .0 .src) (x .1)) (4 ∷ 5 ∷ 6 ∷ 7 ∷ [])

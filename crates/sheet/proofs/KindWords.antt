@@ -11,7 +11,7 @@ use borrow.Author.Tests.{eqb-true, ltb-true, leb-true, lt-ltb, le-leb, eq-eqb, n
 use Rattle.sheet.specs.Words.{kind, payload}
 use Rattle.sheet.specs.Blocks.{Block, All, Word, GoodBlock}
 use Rattle.sheet.specs.Sheet.{Pattern, kind-word, raw-words, block}
-use Rattle.sheet.specs.Read.{floats-after, raws, Standing, among, ended, layers-after, layer-kind, is-surface, is-layer, is-end, may, after, sheet-grammar, numbers}
+use Rattle.sheet.specs.Read.{floats-after, raws, Standing, among, at-surface, ended, layers-after, layer-kind, is-surface, is-layer, is-tuning, is-end, may, after, sheet-grammar, numbers}
 
 -- ---- floats and raw words
 pub numbers-raw : (fs : List ℕ) → numbers (raw-words fs) ≡ fs
@@ -88,6 +88,7 @@ pub data Comes (edition done most w : ℕ) : Type 0 where
   comes-surface : kind w ≡ 3 → done < 64 → payload w ≤ 15 → Comes edition done most w
   comes-layer : kind w ≡ 4 → 0 < most → payload w ≡ 0 → Comes edition done most w
   comes-cauchy : edition ≡ 2 → kind w ≡ 6 → 0 < most → payload w ≡ 0 → Comes edition done most w
+  comes-tuning : edition ≡ 2 → kind w ≡ 7 → done < 64 → payload w ≡ 0 → Comes edition done most w
   comes-end : kind w ≡ 5 → payload w ≡ done → Comes edition done most w
 
 pub surface-facts : (done w : ℕ) → is-surface done w ≡ true → (kind w ≡ 3) × ((done < 64) × (payload w ≤ 15))
@@ -107,6 +108,13 @@ module _ (edition done most w : ℕ) where
       (λ k. let c = both (eqb edition 2) _ k in comes-cauchy (eqb-true edition 2 (c .0)) (eqb-true (kind w) 6 (c .1)) r p)
       (either (eqb (kind w) 4) _ (a .0))
 
+  tuning-comes : is-tuning edition done w ≡ true → Comes edition done most w
+  tuning-comes e =
+      let a = both (eqb edition 2 && eqb (kind w) 7) _ e in
+      let k = both (eqb edition 2) _ (a .0) in
+      let b = both (ltb done 64) _ (a .1) in
+      comes-tuning (eqb-true edition 2 (k .0)) (eqb-true (kind w) 7 (k .1)) (ltb-true done 64 (b .0)) (eqb-true (payload w) 0 (b .1))
+
   end-comes : is-end done w ≡ true → Comes edition done most w
   end-comes e = let a = both (eqb (kind w) 5) _ e in comes-end (eqb-true (kind w) 5 (a .0)) (eqb-true (payload w) done (a .1))
 
@@ -114,7 +122,7 @@ module _ (edition done most w : ℕ) where
   unfolding may
   comes e =
       ⊎-elim (λ a. let f = surface-facts done w a in comes-surface (f .0) (f .1 .0) (f .1 .1))
-      (λ a. ⊎-elim layer-comes end-comes (either (is-layer edition most w) _ a))
+      (λ a. ⊎-elim layer-comes (λ b. ⊎-elim tuning-comes end-comes (either (is-tuning edition done w) _ b)) (either (is-layer edition most w) _ a))
       (either (is-surface done w) _ e)
 
   pub after-surface : kind w ≡ 3 → after (among edition done most) w ≡ among edition (suc done) (layers-after (payload w))
@@ -122,22 +130,27 @@ module _ (edition done most w : ℕ) where
   after-surface e = rw e
 
   -- after a layer of either kind
-  pub after-layer : (k : ℕ) → kind w ≡ k → ¬ (k ≡ 3) → ¬ (k ≡ 5) → after (among edition done most) w ≡ among edition done (most - 1)
+  pub after-layer : (k : ℕ) → kind w ≡ k → ¬ (k ≡ 3) → ¬ (k ≡ 7) → ¬ (k ≡ 5) → after (among edition done most) w ≡ among edition done (most - 1)
   unfolding after
-  after-layer k e a b = rw (e, ne-eqb k 3 a, ne-eqb k 5 b) refl
+  after-layer k e a b c = rw (e, ne-eqb k 3 a, ne-eqb k 7 b, ne-eqb k 5 c) refl
+
+  pub after-tuning : kind w ≡ 7 → after (among edition done most) w ≡ at-surface edition done
+  unfolding after
+  after-tuning e = rw e
 
   pub after-end : kind w ≡ 5 → after (among edition done most) w ≡ ended
   unfolding after
   after-end e = rw e
 
-  pub may-surface : kind w ≡ 3 → done < 64 → payload w ≤ 15 → may (among edition done most) w ≡ true
+  -- a SURFACE, from both standings in which one may come
+  pub may-surface : kind w ≡ 3 → done < 64 → payload w ≤ 15 → (may (among edition done most) w ≡ true) × (may (at-surface edition done) w ≡ true)
   unfolding may
-  may-surface k d p = rw (eq-eqb (kind w) 3 k, lt-ltb done 64 d, le-leb (payload w) 15 p)
+  may-surface k d p = let e = eq-eqb (kind w) 3 k in let f = lt-ltb done 64 d in let g = le-leb (payload w) 15 p in (rw (e, f, g), rw (e, f, g))
 
   pub may-end-word : kind w ≡ 5 → payload w ≡ done → may (among edition done most) w ≡ true
   unfolding may
   may-end-word k p = rw (k, eq-eqb (payload w) done p) (last (eqb edition 2))
     where
-      last : (t : Bool) → ((t && false) && (ltb 0 most && eqb (payload w) 0) || true) ≡ true
+      last : (t : Bool) → ((t && false) && (ltb 0 most && eqb (payload w) 0) || ((t && false) && (ltb done 64 && eqb (payload w) 0) || true)) ≡ true
       last true = refl
       last false = refl

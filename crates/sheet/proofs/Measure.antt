@@ -12,7 +12,7 @@ use Rattle.sheet.specs.Sheet.{bytes}
 use Rattle.sheet.specs.Words.{word, count, big-endian, words-of}
 use Rattle.sheet.proofs.WordBytes.{Byte, word-first, word-next, length-bytes, bytes-bytes, word-bytes, bytes-of}
 use Rattle.sheet.specs.Blocks.{Block, All, Word, GoodBlock, InGrammar, flat}
-use Rattle.sheet.specs.Sheet.{SheetLayer, layer, cauchy, SheetSurface, Sheet, GoodLayer, GoodSurface, WellFormed, kind-word, raw-words, layer-block, surface-block, layers-blocks, surfaces-blocks, end-block, blocks, words, encode}
+use Rattle.sheet.specs.Sheet.{SheetLayer, layer, cauchy, Tuning, keeps, tunes, SheetSurface, Sheet, GoodLayer, GoodTuning, GoodSurface, WellFormed, kind-word, raw-words, layer-block, surface-block, tuned-blocks, layers-blocks, surfaces-blocks, end-block, blocks, words, encode}
 use Rattle.sheet.specs.Read.{Standing, at-open, sheet-grammar}
 use Rattle.sheet.specs.Claim.{Bytes, longest, length-fits}
 use Rattle.sheet.proofs.Lists.{all-append}
@@ -58,7 +58,7 @@ unfolding flat
 flat-good s [] h = tt
 flat-good s (b ∷ bs) h = (h .1 .0 .word, all-append (b .raw) (flat bs) (h .1 .0 .raw) (flat-good (sheet-grammar .after s (b .word)) bs (h .1 .1)))
 
--- ---- lengths: a sheet of edition 1 has layers of 7 words, one of edition 2 layers of 9 words at the most
+-- ---- lengths: a sheet of edition 1 has layers of 7 words, one of edition 2 layers of 9 words at the most and kinds 7 of 3
 layers-long : (edition : ℕ) (ls : List SheetLayer) (more : List Block) → All (GoodLayer edition) ls
     → (length (flat (layers-blocks ls more)) ≤ 9 * length ls + length (flat more)) × (edition ≡ 1 → length (flat (layers-blocks ls more)) ≤ 7 * length ls + length (flat more))
 unfolding flat layers-blocks raw-words
@@ -66,25 +66,36 @@ layers-long edition [] more g = (omega arith, λ e. omega arith)
 layers-long edition (layer n k t ∷ ls) more g = let ih = layers-long edition ls more (g .1) in (omega (arith, ih .0), λ e. omega (arith, ih .1 e))
 layers-long edition (cauchy a b c t ∷ ls) more g = let ih = layers-long edition ls more (g .1) in (omega (arith, ih .0), λ e. absurd (omega (arith, g .0 .0)))
 
+tuned-long : (edition : ℕ) (t : Tuning) (more : List Block) → GoodTuning edition t → (length (flat (tuned-blocks t more)) ≤ 3 + length (flat more)) × (edition ≡ 1 → length (flat (tuned-blocks t more)) ≤ length (flat more))
+unfolding flat raw-words
+tuned-long edition keeps more g = (omega arith, λ e. omega arith)
+tuned-long edition (tunes v) more g = (omega arith, λ e. absurd (omega (arith, g .0)))
+
 surfaces-long : (edition : ℕ) (ys : List SheetSurface) (more : List Block) → All (GoodSurface edition) ys
-    → (length (flat (surfaces-blocks ys more)) ≤ 151 * length ys + length (flat more)) × (edition ≡ 1 → length (flat (surfaces-blocks ys more)) ≤ 119 * length ys + length (flat more))
+    → (length (flat (surfaces-blocks ys more)) ≤ 154 * length ys + length (flat more)) × (edition ≡ 1 → length (flat (surfaces-blocks ys more)) ≤ 119 * length ys + length (flat more))
 unfolding flat surfaces-blocks raw-words
 surfaces-long edition [] more g = (omega arith, λ e. omega arith)
 surfaces-long edition (y ∷ ys) more g =
     let ih = surfaces-long edition ys more (g .1) in
-    let l = layers-long edition (y .layers) (surfaces-blocks ys more) (g .0 .layers) in
-    (omega (arith, ih .0, l .0, g .0 .few), λ e. omega (arith, ih .1 e, l .1 e, g .0 .few))
+    let rest = surfaces-blocks ys more in
+    let l = layers-long edition (y .layers) rest (g .0 .layers) in
+    let t = tuned-long edition (y .tuning) (surface-block y ∷ layers-blocks (y .layers) rest) (g .0 .tuning) in
+    (omega (arith, ih .0, l .0, t .0, g .0 .few), λ e. omega (arith, ih .1 e, l .1 e, t .1 e, g .0 .few))
 
 least : (ys : List SheetSurface) (more : List Block) → length (flat more) ≤ length (flat (surfaces-blocks ys more))
 unfolding flat surfaces-blocks layers-blocks
 least [] more = omega arith
-least (y ∷ ys) more = let ih = least ys more in let a = layers-least (y .layers) (surfaces-blocks ys more) in omega (arith, length-append (surface-block y .raw) (flat (layers-blocks (y .layers) (surfaces-blocks ys more))))
+least (y ∷ ys) more = let ih = least ys more in let a = layers-least (y .layers) (surfaces-blocks ys more) in tuned-least (y .tuning) (surface-block y ∷ layers-blocks (y .layers) (surfaces-blocks ys more)) (omega (arith, length-append (surface-block y .raw) (flat (layers-blocks (y .layers) (surfaces-blocks ys more)))))
   where
     layers-least : (ls : List SheetLayer) (more : List Block) → length (flat more) ≤ length (flat (layers-blocks ls more))
     layers-least [] more = omega arith
     layers-least (l ∷ ls) more = let ih = layers-least ls more in omega (arith, length-append (layer-block l .raw) (flat (layers-blocks ls more)))
 
-pub length-limits : (x : Sheet) → WellFormed x → (9 ≤ length (words x)) × ((length (words x) ≤ 9673) × (x .edition ≡ 1 → length (words x) ≤ 7625))
+    tuned-least : (t : Tuning) (bs : List Block) → length (flat more) ≤ length (flat bs) → length (flat more) ≤ length (flat (tuned-blocks t bs))
+    tuned-least keeps bs h = h
+    tuned-least (tunes v) bs h = omega (arith, length-append (raw-words (v ∷ [])) (flat bs))
+
+pub length-limits : (x : Sheet) → WellFormed x → (9 ≤ length (words x)) × ((length (words x) ≤ 9865) × (x .edition ≡ 1 → length (words x) ≤ 7625))
 unfolding blocks flat raw-words
 length-limits x h =
     let e = end-block (length (x .surfaces)) ∷ [] in
@@ -120,6 +131,6 @@ encode-fits x h =
     let g : All Word ws = flat-good at-open (blocks x) (sheet-in x h) in
     (count-fits (bytes ws) (length ws) (length-bytes ws) (l .0) (rw (first-word x h) (under (x .edition) (h .edition) (length ws) (l .1 .0) (l .1 .1))), bytes-bytes ws g)
   where
-    under : (edition : ℕ) → (edition ≡ 1) ⊎ (edition ≡ 2) → (n : ℕ) → n ≤ 9673 → (edition ≡ 1 → n ≤ 7625) → 4 * n ≤ cond (eqb (kind-word 1 edition) (kind-word 1 2)) 38692 30500
+    under : (edition : ℕ) → (edition ≡ 1) ⊎ (edition ≡ 2) → (n : ℕ) → n ≤ 9865 → (edition ≡ 1 → n ≤ 7625) → 4 * n ≤ cond (eqb (kind-word 1 edition) (kind-word 1 2)) 39460 30500
     under edition (inl e) n a b = rw e (omega (arith, b e))
     under edition (inr e) n a b = rw e (omega arith)

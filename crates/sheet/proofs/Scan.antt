@@ -14,25 +14,30 @@ use borrow.Author.Tests.{lt-ltb, le-leb, lt-leb, eqb-true, ne-eqb, not-true, not
 use Rattle.refusal.specs.Outcome.{Outcome, answer, refusal, map}
 use Rattle.sheet.specs.Words.{word, count, kind, words-of}
 use Rattle.sheet.specs.Blocks.{Block, Grammar, Result, read, fault, mapped, blocks-from}
-use Rattle.sheet.specs.Sheet.{kind-word}
-use Rattle.sheet.specs.Read.{Standing, at-open, at-beam, among, ended, layer-kind, may, after, may-end, raws, sheet-grammar, Rest, put, gathered, sheet-of, decode, graded, surfaces-of, grammar}
+use Rattle.sheet.specs.Sheet.{SheetSurface, kind-word}
+use Rattle.sheet.specs.Read.{Standing, at-open, at-beam, among, at-surface, ended, layer-kind, may, after, may-end, raws, sheet-grammar, Rest, tuned, put, gathered, sheet-of, decode, graded, surfaces-of, grammar}
 use Rattle.sheet.proofs.Measure.{words-of-length, words-of-at}
 use Rattle.sheet.specs.Internal.{counted, next-place}
-use Rattle.sheet.proofs.KindWords.{either, Comes, comes-surface, comes-layer, comes-cauchy, comes-end, comes, after-surface, after-layer, after-end}
+use Rattle.sheet.proofs.KindWords.{either, surface-facts, Comes, comes-surface, comes-layer, comes-cauchy, comes-tuning, comes-end, comes, after-surface, after-layer, after-tuning, after-end}
 
 -- ---- SURFACEs among blocks
 unfoldable pub count3 : List Block → ℕ
 count3 [] = 0
 count3 (b ∷ bs) = cond (eqb (kind (b .word)) 3) (suc (count3 bs)) (count3 bs)
 
-one-of : (n : ℕ) (t f : Bool) (A B C : Rest) → length (A .surfaces) ≡ suc n → length (B .surfaces) ≡ n → length (C .surfaces) ≡ n → length ((cond t A (cond f B C)) .surfaces) ≡ cond t (suc n) n
-one-of n true f A B C a b c = a
-one-of n false true A B C a b c = b
-one-of n false false A B C a b c = c
+tuned-length : (v : ℕ) (ys : List SheetSurface) → length (tuned v ys) ≡ length ys
+tuned-length v [] = refl
+tuned-length v (y ∷ ys) = refl
+
+one-of : (n : ℕ) (t f v : Bool) (A B C D : Rest) → length (A .surfaces) ≡ suc n → length (B .surfaces) ≡ n → length (C .surfaces) ≡ n → length (D .surfaces) ≡ n → length ((cond t A (cond f B (cond v C D))) .surfaces) ≡ cond t (suc n) n
+one-of n true f v A B C D a b c d = a
+one-of n false true v A B C D a b c d = b
+one-of n false false true A B C D a b c d = c
+one-of n false false false A B C D a b c d = d
 
 put-length : (b : Block) (r : Rest) → length (put b r .surfaces) ≡ cond (eqb (kind (b .word)) 3) (suc (length (r .surfaces))) (length (r .surfaces))
 unfolding put
-put-length b r = one-of (length (r .surfaces)) (eqb (kind (b .word)) 3) (layer-kind 2 (kind (b .word))) _ _ _ refl refl refl
+put-length b r = one-of (length (r .surfaces)) (eqb (kind (b .word)) 3) (layer-kind 2 (kind (b .word))) (eqb (kind (b .word)) 7) _ _ _ _ refl refl (tuned-length _ (r .surfaces)) refl
 
 gathered-length : (bs : List Block) → length (gathered bs .surfaces) ≡ count3 bs
 unfolding gathered count3
@@ -147,12 +152,14 @@ abbrev pub Counts : Standing → ℕ → Type 0
 Counts at-open n = n ≡ 0
 Counts (at-beam edition) n = n ≡ 0
 Counts (among edition done most) n = (n ≡ done) × (done ≤ 64)
+Counts (at-surface edition done) n = (n ≡ done) × (done ≤ 64)
 Counts ended n = n ≤ 64
 
 pub counts-few : (s : Standing) (n : ℕ) → Counts s n → n ≤ 64
 counts-few at-open n c = omega arith
 counts-few (at-beam edition) n c = omega arith
 counts-few (among edition done most) n c = omega (arith, c .0, c .1)
+counts-few (at-surface edition done) n c = omega (arith, c .0, c .1)
 counts-few ended n c = c
 
 module _ (w n : ℕ) where
@@ -170,7 +177,9 @@ module _ (w n : ℕ) where
     where
       by : Comes edition done most w → Counts (after (among edition done most) w) (counted w n)
       by (comes-surface k d p) = rw (after-surface edition done most w k) (one-more k ∙ ap suc (c .0), d)
-      by (comes-layer k r p) = rw (after-layer edition done most w 4 k (λ q. omega arith) (λ q. omega arith)) (other 4 k (λ q. omega arith) ∙ c .0, c .1)
-      by (comes-cauchy q k r p) = rw (after-layer edition done most w 6 k (λ q. omega arith) (λ q. omega arith)) (other 6 k (λ q. omega arith) ∙ c .0, c .1)
+      by (comes-layer k r p) = rw (after-layer edition done most w 4 k (λ q. omega arith) (λ q. omega arith) (λ q. omega arith)) (other 4 k (λ q. omega arith) ∙ c .0, c .1)
+      by (comes-cauchy q k r p) = rw (after-layer edition done most w 6 k (λ q. omega arith) (λ q. omega arith) (λ q. omega arith)) (other 6 k (λ q. omega arith) ∙ c .0, c .1)
+      by (comes-tuning q k d p) = rw (after-tuning edition done most w k) (other 7 k (λ q. omega arith) ∙ c .0, c .1)
       by (comes-end k p) = rw (after-end edition done most w k) (omega (arith, other 5 k (λ q. omega arith), c .0, c .1))
+  counts-on (at-surface edition done) c e = let f = surface-facts done w e in (one-more (f .0) ∙ ap suc (c .0), f .1 .0)
   counts-on ended c e = absurd (let z : _≡_ {A = ℕ} 0 1 = cc in omega arith)

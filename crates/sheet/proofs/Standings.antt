@@ -9,8 +9,8 @@ use lib.Dec.{eqb, ltb}
 use borrow.Author.Tests.{ne-eqb, lt-ltb, not-true, not-false}
 use Rattle.sheet.specs.Words.{kind, payload}
 use Rattle.sheet.specs.Read as Read
-use Rattle.sheet.specs.Read.{floats-after, raws, among, layers-after, layer-kind, is-surface, is-layer, is-end, may, after}
-use Rattle.sheet.proofs.KindWords.{Comes, comes-surface, comes-layer, comes-cauchy, comes-end, comes, after-surface, after-end}
+use Rattle.sheet.specs.Read.{floats-after, raws, among, at-surface, layers-after, layer-kind, is-surface, is-layer, is-tuning, is-end, may, after}
+use Rattle.sheet.proofs.KindWords.{Comes, comes-surface, comes-layer, comes-cauchy, comes-tuning, comes-end, comes, surface-facts, after-surface, after-tuning, after-end}
 use Rattle.sheet.specs.Internal.{standing-of, next-place, layer-follows, or-none, layer-run}
 use Rattle.sheet.specs.declared.Standing.{Standing}
 use Rattle.sheet.specs.declared.Standing.the-variants as S
@@ -18,12 +18,13 @@ use Rattle.sheet.specs.declared.Standing.the-variants as S
 -- ---- floats
 pub floats-few : (k : ℕ) → floats-after k ≤ 4
 unfolding floats-after
-floats-few k = by (eqb k 2 || (eqb k 3 || eqb k 4)) (eqb k 6)
+floats-few k = by (eqb k 2 || (eqb k 3 || eqb k 4)) (eqb k 6) (eqb k 7)
   where
-    by : (t u : Bool) → cond t 3 (cond u 4 0) ≤ 4
-    by true u = omega arith
-    by false true = omega arith
-    by false false = omega arith
+    by : (t u v : Bool) → cond t 3 (cond u 4 (cond v 1 0)) ≤ 4
+    by true u v = omega arith
+    by false true v = omega arith
+    by false false true = omega arith
+    by false false false = omega arith
 
 -- ---- layers in a run
 pub run-most : (most : ℕ) (src : List ℕ) (at : ℕ) → layer-run most src at ≤ most
@@ -72,9 +73,17 @@ module _ (s : Standing) (w : ℕ) where
     unfolding may
     may-two a e = simp (q, a, e)
 
-    pub may-three : is-surface done w ≡ false → is-layer edition most w ≡ false → is-end done w ≡ may (standing-of s) w
+    pub may-three : is-surface done w ≡ false → is-layer edition most w ≡ false → is-tuning edition done w ≡ true → true ≡ may (standing-of s) w
     unfolding may
-    may-three a b = simp (q, a, b)
+    may-three a b e = simp (q, a, b, e)
+
+    pub may-four : is-surface done w ≡ false → is-layer edition most w ≡ false → is-tuning edition done w ≡ false → is-end done w ≡ may (standing-of s) w
+    unfolding may
+    may-four a b c = simp (q, a, b, c)
+
+  pub may-onto : (edition done : ℕ) → s ≡ S.AtSurface edition done → is-surface done w ≡ may (standing-of s) w
+  unfolding may
+  may-onto edition done q = simp q
 
   pub may-none : s ≡ S.Ended → false ≡ may (standing-of s) w
   unfolding may
@@ -104,26 +113,40 @@ module _ (s : Standing) (w : ℕ) where
         by (comes-surface k′ d p) = d
         by (comes-layer k′ r p) = absurd (omega arith)
         by (comes-cauchy e k′ r p) = absurd (omega arith)
+        by (comes-tuning e k′ d p) = d
         by (comes-end k′ p) = absurd (omega arith)
 
-    pub one-may : may (standing-of s) w ≡ true → (kind w ≡ 3 → ⊥) → (kind w ≡ 5 → ⊥) → 1 ≤ most
-    one-may e a b = by (case e)
+    pub one-may : may (standing-of s) w ≡ true → (kind w ≡ 3 → ⊥) → (kind w ≡ 7 → ⊥) → (kind w ≡ 5 → ⊥) → 1 ≤ most
+    one-may e a b c = by (case e)
       where
         by : Case → 1 ≤ most
         by (comes-surface k d p) = absurd (a k)
         by (comes-layer k r p) = r
         by (comes-cauchy e k r p) = r
-        by (comes-end k p) = absurd (b k)
+        by (comes-tuning e k d p) = absurd (b k)
+        by (comes-end k p) = absurd (c k)
 
     pub after-three : (n : ℕ) → n ≡ layers-after (payload w) → kind w ≡ 3 → among edition (done + 1) n ≡ after (standing-of s) w
     after-three n e k = rw (q, after-surface edition done most w k, e, add-one done) refl
 
+    pub after-seven : kind w ≡ 7 → at-surface edition done ≡ after (standing-of s) w
+    after-seven k = rw (q, after-tuning edition done most w k) refl
+
     pub after-five : kind w ≡ 5 → Read.ended ≡ after (standing-of s) w
     after-five k = rw (q, after-end edition done most w k) refl
 
-    pub after-other : (kind w ≡ 3 → ⊥) → (kind w ≡ 5 → ⊥) → among edition done (most - 1) ≡ after (standing-of s) w
+    pub after-other : (kind w ≡ 3 → ⊥) → (kind w ≡ 7 → ⊥) → (kind w ≡ 5 → ⊥) → among edition done (most - 1) ≡ after (standing-of s) w
     unfolding after
-    after-other a b = simp (q, ne-eqb (kind w) 3 a, ne-eqb (kind w) 5 b)
+    after-other a b c = simp (q, ne-eqb (kind w) 3 a, ne-eqb (kind w) 7 b, ne-eqb (kind w) 5 c)
+
+  module _ (edition done : ℕ) (q : s ≡ S.AtSurface edition done) where
+    pub onto-64 : may (standing-of s) w ≡ true → done < 64
+    unfolding may
+    onto-64 e = surface-facts done w (subst (λ (z : Standing). may (standing-of z) w ≡ true) q e) .1 .0
+
+    pub after-onto : (n : ℕ) → n ≡ layers-after (payload w) → among edition (done + 1) n ≡ after (standing-of s) w
+    unfolding after
+    after-onto n e = rw (q, e, add-one done) refl
 
   pub after-ended : s ≡ S.Ended → Read.ended ≡ after (standing-of s) w
   unfolding after

@@ -13,10 +13,10 @@ use borrow.Author.Tests.{lt-ltb}
 use Rattle.ieee.specs.Functions.{joined}
 use Rattle.sheet.specs.Words.{word, count, kind, payload, float, words-of}
 use Rattle.sheet.specs.Blocks.{Block, All, flat, read}
-use Rattle.sheet.specs.Sheet.{SheetLayer, layer, cauchy, SheetSurface, no-surface, nth, Sheet, GoodSurface, WellFormed, raw-words, block, layer-block, surface-block, layers-blocks, surfaces-blocks, end-block, blocks, words, encode}
+use Rattle.sheet.specs.Sheet.{SheetLayer, layer, cauchy, Tuning, keeps, tunes, SheetSurface, no-surface, nth, Sheet, GoodSurface, WellFormed, raw-words, block, layer-block, surface-block, tuned-blocks, layers-blocks, surfaces-blocks, end-block, blocks, words, encode}
 use Rattle.sheet.specs.Read.{floats-after, raws, layer-kind, numbers, number, decode, at-open}
 use Rattle.sheet.specs.Claim.{Bytes, length-fits}
-use Rattle.sheet.specs.Internal.{next-place, place-on, layer-follows, or-none, layer-run, layer-at, surface-at, layers-at, place}
+use Rattle.sheet.specs.Internal.{next-place, place-on, layer-follows, or-none, layer-run, layer-at, tuning-at, surface-at, layers-at, onto, begin, place}
 use Rattle.sheet.proofs.KindWords.{numbers-raw, kind-of, payload-of, raw-length}
 use Rattle.sheet.proofs.Forward.{small-edition, sheet-in}
 use Rattle.sheet.proofs.Measure.{words-of-length, words-of-at, words-of-bytes, flat-good}
@@ -156,20 +156,39 @@ run-here (suc m) src at b (l ∷ ls) more h le e =
 surfaces-end : (edition n : ℕ) (ys : List SheetSurface) → n < 2 ^ 28 → All (GoodSurface edition) ys → Ends (surfaces-blocks ys (end-block n ∷ []))
 unfolding surfaces-blocks
 surfaces-end edition n [] lt g = ap (layer-kind 2) (kind-of 5 n lt)
-surfaces-end edition n (y ∷ ys) lt g = ap (layer-kind 2) (kind-of 3 (y .payload) (omega (arith, g .0 .payload)))
+surfaces-end edition n (y ∷ ys) lt g = tuned-end (y .tuning) (surface-block y) (layers-blocks (y .layers) (surfaces-blocks ys (end-block n ∷ []))) (ap (layer-kind 2) (kind-of 3 (y .payload) (omega (arith, g .0 .payload))))
+  where
+    tuned-end : (t : Tuning) (b : Block) (bs : List Block) → layer-kind 2 (kind (b .word)) ≡ false → Ends (tuned-blocks t (b ∷ bs))
+    tuned-end keeps b bs e = e
+    tuned-end (tunes v) b bs e = refl
+
+-- the kind 7 before a SURFACE, if there is one
+pub record TuningHere (src : List ℕ) (at : ℕ) (t : Tuning) (more : List Block) : Type 0 where
+  pub tuning : tuning-at src at ≡ t
+  pub beyond : Stands src (onto src at) more
+
+tuning-here : (src : List ℕ) (at : ℕ) (t : Tuning) (b : Block) (bs : List Block) → kind (b .word) ≡ 3 → Stands src at (tuned-blocks t (b ∷ bs)) → TuningHere src at t (b ∷ bs)
+unfolding onto
+tuning-here src at keeps b bs k h = let e : kind (word src at) ≡ 3 = ap kind (word-here src at b bs h) ∙ k in record { tuning = rw e refl; beyond = rw e h }
+tuning-here src at (tunes v) b bs k h =
+    let w = word-here src at (block 7 0 (v ∷ [])) (b ∷ bs) h in
+    record {
+      tuning = rw w (ap tunes (made-float src at 7 0 (v ∷ []) (b ∷ bs) h 0 1 refl (omega arith)));
+      beyond = rw w (next-stands src at (block 7 0 (v ∷ [])) (b ∷ bs) h);
+    }
 
 -- the SURFACE y stands at a place with its layers, and `more` after them
 pub record SurfaceHere (src : List ℕ) (at : ℕ) (y : SheetSurface) (more : List Block) : Type 0 where
   pub kind : kind (word src at) ≡ 3
   pub inside : at + 6 < count src
-  pub value : (ls : List SheetLayer) → surface-at src at ls ≡ record { payload = y .payload; n-incident = y .n-incident; n-substrate = y .n-substrate; angle = y .angle; layers = ls }
+  pub value : (ls : List SheetLayer) → surface-at src at ls ≡ record { tuning = keeps; payload = y .payload; n-incident = y .n-incident; n-substrate = y .n-substrate; angle = y .angle; layers = ls }
   pub run : layer-run 16 src at ≡ length (y .layers)
   pub layers : layers-at src (next-place src at) (length (y .layers)) ≡ y .layers
   pub beyond : Stands src (place-on src at (suc (length (y .layers)))) more
 
-pub surface-here : (src : List ℕ) (at edition n : ℕ) (y : SheetSurface) (ys : List SheetSurface) → n < 2 ^ 28 → All (GoodSurface edition) (y ∷ ys) → Stands src at (surfaces-blocks (y ∷ ys) (end-block n ∷ []))
+pub surface-here : (src : List ℕ) (at edition n : ℕ) (y : SheetSurface) (ys : List SheetSurface) → n < 2 ^ 28 → All (GoodSurface edition) (y ∷ ys) → Stands src at (surface-block y ∷ layers-blocks (y .layers) (surfaces-blocks ys (end-block n ∷ [])))
     → SurfaceHere src at y (surfaces-blocks ys (end-block n ∷ []))
-unfolding surfaces-blocks place-on raw-words
+unfolding place-on raw-words
 surface-here src at edition n y ys lt g h =
     let rest = surfaces-blocks ys (end-block n ∷ []) in
     let ls = layers-blocks (y .layers) rest in
@@ -182,6 +201,7 @@ surface-here src at edition n y ys lt g h =
       kind = ap kind w ∙ kind-of 3 (y .payload) small;
       inside = inside src at b ls h;
       value = λ l i. record {
+        tuning = keeps;
         payload = (ap payload w ∙ payload-of 3 (y .payload) small) i;
         n-incident = f 0 1 refl (omega arith) i;
         n-substrate = f 1 3 refl (omega arith) i;
@@ -192,6 +212,14 @@ surface-here src at edition n y ys lt g h =
       layers = all .layers;
       beyond = all .beyond;
     }
+
+-- the kind 7 before it, and the SURFACE
+pub tuned-here : (src : List ℕ) (at edition n : ℕ) (y : SheetSurface) (ys : List SheetSurface) → n < 2 ^ 28 → All (GoodSurface edition) (y ∷ ys) → Stands src at (surfaces-blocks (y ∷ ys) (end-block n ∷ []))
+    → (tuning-at src at ≡ y .tuning) × SurfaceHere src (onto src at) y (surfaces-blocks ys (end-block n ∷ []))
+unfolding surfaces-blocks
+tuned-here src at edition n y ys lt g h =
+    let t = tuning-here src at (y .tuning) (surface-block y) (layers-blocks (y .layers) (surfaces-blocks ys (end-block n ∷ []))) (kind-of 3 (y .payload) (omega (arith, g .0 .payload))) h in
+    (t .tuning, surface-here src (onto src at) edition n y ys lt g (t .beyond))
 
 -- ---- the whole sheet
 pub record Standing (src : List ℕ) (x : Sheet) : Type 0 where
@@ -212,7 +240,11 @@ surfaces-sized : (edition : ℕ) (ys : List SheetSurface) (more : List Block) �
 unfolding surfaces-blocks floats-after
 surfaces-sized edition [] more g h = h
 surfaces-sized edition (y ∷ ys) more g h =
-    (sized 3 (y .payload) (y .n-incident ∷ y .n-substrate ∷ y .angle ∷ []) (omega (arith, g .0 .payload)) refl, layers-sized (y .layers) (surfaces-blocks ys more) (surfaces-sized edition ys more (g .1) h))
+    tuned-sized (y .tuning) (surface-block y ∷ layers-blocks (y .layers) (surfaces-blocks ys more)) (sized 3 (y .payload) (y .n-incident ∷ y .n-substrate ∷ y .angle ∷ []) (omega (arith, g .0 .payload)) refl, layers-sized (y .layers) (surfaces-blocks ys more) (surfaces-sized edition ys more (g .1) h))
+  where
+    tuned-sized : (t : Tuning) (bs : List Block) → All Sized bs → All Sized (tuned-blocks t bs)
+    tuned-sized keeps bs h = h
+    tuned-sized (tunes v) bs h = (sized 7 0 (v ∷ []) (omega arith) refl, h)
 
 blocks-sized : (x : Sheet) → WellFormed x → All Sized (blocks x)
 unfolding blocks floats-after
@@ -246,22 +278,28 @@ module _ (src : List ℕ) (x : Sheet) (h : Standing src x) where
   left i = surfaces-blocks (drop i (x .surfaces)) (end-block (length (x .surfaces)) ∷ [])
 
   module _ (at i : ℕ) (lt : i < length (x .surfaces)) (s : Stands src at (left i)) where
-    pub surface-i : SurfaceHere src at (nth (x .surfaces) i) (left (suc i))
-    surface-i =
+    first : (tuning-at src at ≡ nth (x .surfaces) i .tuning) × SurfaceHere src (onto src at) (nth (x .surfaces) i) (left (suc i))
+    first =
         let c = drop-cons (x .surfaces) i no-surface lt in
-        surface-here src at (x .edition) (length (x .surfaces)) (nth (x .surfaces) i) (drop (suc i) (x .surfaces)) few (subst (All (GoodSurface (x .edition))) c (all-good i (x .surfaces) (h .formed .surfaces)))
+        tuned-here src at (x .edition) (length (x .surfaces)) (nth (x .surfaces) i) (drop (suc i) (x .surfaces)) few (subst (All (GoodSurface (x .edition))) c (all-good i (x .surfaces) (h .formed .surfaces)))
         (subst (λ (ys : List SheetSurface). Stands src at (surfaces-blocks ys (end-block (length (x .surfaces)) ∷ []))) c s)
 
-    pub surface-on : Stands src (place-on src at (suc (layer-run 16 src at))) (left (suc i))
+    pub tuning-i : tuning-at src at ≡ nth (x .surfaces) i .tuning
+    tuning-i = first .0
+
+    pub surface-i : SurfaceHere src (onto src at) (nth (x .surfaces) i) (left (suc i))
+    surface-i = first .1
+
+    pub surface-on : Stands src (place-on src (onto src at) (suc (layer-run 16 src (onto src at)))) (left (suc i))
     surface-on = rw (surface-i .run) (surface-i .beyond)
 
-  pub place-stands : (i : ℕ) → i ≤ length (x .surfaces) → Stands src (place src i) (left i)
-  unfolding place place-on
-  place-stands zero le = next-stands src (next-place src 0) _ _ beam-stands
-  place-stands (suc i) le = surface-on (place src i) i le (place-stands i (omega arith))
+  pub begin-stands : (i : ℕ) → i ≤ length (x .surfaces) → Stands src (begin src i) (left i)
+  unfolding begin place-on
+  begin-stands zero le = next-stands src (next-place src 0) _ _ beam-stands
+  begin-stands (suc i) le = surface-on (begin src i) i le (begin-stands i (omega arith))
 
   pub placed : (i : ℕ) → i < length (x .surfaces) → SurfaceHere src (place src i) (nth (x .surfaces) i) (left (suc i))
-  placed i lt = surface-i (place src i) i lt (place-stands i (omega arith))
+  placed i lt = surface-i (begin src i) i lt (begin-stands i (omega arith))
 
 -- every element of a slice of bytes is one
 abbrev pub Known : List ℕ → Type 0

@@ -21,10 +21,9 @@ A ⇔ B = (A → B) × (B → A)
 abbrev pub Bytes : List ℕ → Type 0
 Bytes src = All (λ (b : ℕ). b < 256) src
 
--- 01: 30,500 bytes. 02 slip 3: 'The longest sheet becomes 38,692 bytes for edition 2, and 4 reads that limit if the first word is
--- 0x10000002.'
+-- 01: 30,500 bytes. 02 slip 3: '4 reads that limit if the first word is 0x10000002'; slip 5: 'The edition 2 limit is 39,460 bytes.'
 abbrev pub longest : List ℕ → ℕ
-longest src = cond (eqb (word src 0) (kind-word 1 2)) 38692 30500
+longest src = cond (eqb (word src 0) (kind-word 1 2)) 39460 30500
 
 -- refusal 4 where it is not so: a multiple of 4, not under 36 and not over the longest
 abbrev pub length-fits : List ℕ → Bool

@@ -8,13 +8,14 @@ use lib.Dec.{eqb, ltb}
 use Rattle.sheet.specs.declared.Standing.{Standing}
 use Rattle.sheet.specs.declared.Standing.the-variants as S
 use Rattle.sheet.specs.Words.{word, count, kind, payload, float}
-use Rattle.sheet.specs.Sheet.{SheetLayer, layer, cauchy, SheetSurface}
+use Rattle.sheet.specs.Sheet.{SheetLayer, layer, cauchy, Tuning, keeps, tunes, SheetSurface}
 use Rattle.sheet.specs.Read as Read
 
 abbrev pub standing-of : Standing → Read.Standing
 standing-of S.AtOpen = Read.at-open
 standing-of (S.AtBeam edition) = Read.at-beam edition
 standing-of (S.Among edition done most) = Read.among edition done most
+standing-of (S.AtSurface edition done) = Read.at-surface edition done
 standing-of S.Ended = Read.ended
 
 -- one more where the kind word is a SURFACE's
@@ -43,7 +44,11 @@ unfoldable pub layer-run : ℕ → List ℕ → ℕ → ℕ
 layer-run zero src at = 0
 layer-run (suc most) src at = or-none (layer-follows src at) (suc (layer-run most src (next-place src at)))
 
--- the SURFACE or layer whose kind word is at a place
+-- the kind 7 at a place, if one is there
+abbrev pub tuning-at : List ℕ → ℕ → Tuning
+tuning-at src at = cond (eqb (kind (word src at)) 7) (tunes (float src (at + 1))) keeps
+
+-- the layer whose kind word is at a place; the SURFACE, without a kind 7 before it
 abbrev pub layer-at : List ℕ → ℕ → SheetLayer
 layer-at src at =
     cond (eqb (kind (word src at)) 6) (cauchy (float src (at + 1)) (float src (at + 3)) (float src (at + 5)) (float src (at + 7)))
@@ -52,6 +57,7 @@ layer-at src at =
 abbrev pub surface-at : List ℕ → ℕ → List SheetLayer → SheetSurface
 surface-at src at layers =
     record {
+      tuning = keeps;
       payload = payload (word src at);
       n-incident = float src (at + 1);
       n-substrate = float src (at + 3);
@@ -64,7 +70,15 @@ unfoldable pub layers-at : List ℕ → ℕ → ℕ → List SheetLayer
 layers-at src at zero = []
 layers-at src at (suc n) = layer-at src at ∷ layers-at src (next-place src at) n
 
--- the place of the i-th SURFACE: the first stands after OPEN and BEAM, each other after the layers of the one before it
-unfoldable pub place : List ℕ → ℕ → ℕ
-place src zero = place-on src 0 2
-place src (suc i) = let at = place src i in place-on src at (suc (layer-run 16 src at))
+-- the SURFACE of the blocks from a place on: after the kind 7, if one is there
+unfoldable pub onto : List ℕ → ℕ → ℕ
+onto src at = cond (eqb (kind (word src at)) 7) (next-place src at) at
+
+-- where the i-th SURFACE begins, with the kind 7 before it: the first after OPEN and BEAM, each other after the layers of the one before it
+unfoldable pub begin : List ℕ → ℕ → ℕ
+begin src zero = place-on src 0 2
+begin src (suc i) = let at = onto src (begin src i) in place-on src at (suc (layer-run 16 src at))
+
+-- the place of the i-th SURFACE
+abbrev pub place : List ℕ → ℕ → ℕ
+place src i = onto src (begin src i)

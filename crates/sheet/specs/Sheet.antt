@@ -1,4 +1,4 @@
--- 01 section 1 and 02 slip 3: a sheet of edition 1 or 2 as data, its blocks, and from these its words, its bytes and the places of its kind
+-- 01 section 1 and 02 slips 3 and 5: a sheet of edition 1 or 2 as data, its blocks, and from these its words, its bytes and the places of its kind
 -- words. There is no reader here. Definitions only. A float is its 64-bit pattern: the payload of a NaN is part of the bytes.
 use mathlib.Core.Path.{_≡_}
 use mathlib.Core.Logic.{_⊎_}
@@ -13,8 +13,14 @@ pub data SheetLayer : Type 0 where
   layer : ℕ → ℕ → ℕ → SheetLayer
   cauchy : ℕ → ℕ → ℕ → ℕ → SheetLayer
 
--- SURFACE: its payload, n_incident, n_substrate, angle rad; and the layers after it
+-- 02 slip 5: 'kind 7, payload 0, one float: at most one before each SURFACE', a wavelength nm
+pub data Tuning : Type 0 where
+  keeps : Tuning
+  tunes : ℕ → Tuning
+
+-- SURFACE: the kind 7 before it; its payload, n_incident, n_substrate, angle rad; and the layers after it
 pub record SheetSurface : Type 0 where
+  pub tuning : Tuning
   pub payload : ℕ
   pub n-incident : ℕ
   pub n-substrate : ℕ
@@ -31,7 +37,7 @@ pub record Sheet : Type 0 where
 
 -- the i-th of some surfaces, counted from 0
 abbrev pub no-surface : SheetSurface
-no-surface = record { payload = 0; n-incident = 0; n-substrate = 0; angle = 0; layers = [] }
+no-surface = record { tuning = keeps; payload = 0; n-incident = 0; n-substrate = 0; angle = 0; layers = [] }
 
 abbrev pub nth : List SheetSurface → ℕ → SheetSurface
 nth ys i = getD ys i no-surface
@@ -45,8 +51,14 @@ abbrev pub GoodLayer : ℕ → SheetLayer → Type 0
 GoodLayer edition (layer n k thickness) = Pattern n × (Pattern k × Pattern thickness)
 GoodLayer edition (cauchy a b c thickness) = (edition ≡ 2) × (Pattern a × (Pattern b × (Pattern c × Pattern thickness)))
 
+-- 'Edition 2 also gets kind 7'
+abbrev pub GoodTuning : ℕ → Tuning → Type 0
+GoodTuning edition keeps = Unit
+GoodTuning edition (tunes wavelength) = (edition ≡ 2) × Pattern wavelength
+
 -- payload 0 to 15; 0 to 16 layers, and only after a coating 5
 pub record GoodSurface (edition : ℕ) (y : SheetSurface) : Type 0 where
+  pub tuning : GoodTuning edition (y .tuning)
   pub payload : y .payload ≤ 15
   pub n-incident : Pattern (y .n-incident)
   pub n-substrate : Pattern (y .n-substrate)
@@ -86,15 +98,20 @@ layer-block (cauchy a b c thickness) = block 6 0 (a ∷ b ∷ c ∷ thickness �
 abbrev pub surface-block : SheetSurface → Block
 surface-block y = block 3 (y .payload) (y .n-incident ∷ y .n-substrate ∷ y .angle ∷ [])
 
+-- kind 7, where there is one, with `more` blocks after it
+abbrev pub tuned-blocks : Tuning → List Block → List Block
+tuned-blocks keeps more = more
+tuned-blocks (tunes wavelength) more = block 7 0 (wavelength ∷ []) ∷ more
+
 -- layers with `more` blocks after them
 unfoldable pub layers-blocks : List SheetLayer → List Block → List Block
 layers-blocks [] more = more
 layers-blocks (l ∷ ls) more = layer-block l ∷ layers-blocks ls more
 
--- SURFACEs, each before its layers, with `more` blocks after them
+-- SURFACEs, each after its kind 7 and before its layers, with `more` blocks after them
 unfoldable pub surfaces-blocks : List SheetSurface → List Block → List Block
 surfaces-blocks [] more = more
-surfaces-blocks (y ∷ ys) more = surface-block y ∷ layers-blocks (y .layers) (surfaces-blocks ys more)
+surfaces-blocks (y ∷ ys) more = tuned-blocks (y .tuning) (surface-block y ∷ layers-blocks (y .layers) (surfaces-blocks ys more))
 
 -- kind 5: the count of SURFACEs
 abbrev pub end-block : ℕ → Block

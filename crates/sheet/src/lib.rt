@@ -1,12 +1,12 @@
-// Sheets of document 01, section 1, and of document 02, slip 3: the reader of their words, and the grammar.
+// Sheets of document 01, section 1, and of document 02, slips 3 and 5: the reader of their words, and the grammar.
 ghost use mathlib.Core.Path.{_≡_};
 ghost use mathlib.Core.Bool.{true};
-ghost use Prim.Native.Nat.{_/_, _<_};
+ghost use Prim.Native.Nat.{suc, _/_, _<_};
 ghost use lib.Ieee.{binary64, ofBits};
 ghost use Rattle.sheet.specs.Words.{big-endian, word as wordOf, kind, float};
 ghost use Rattle.sheet.specs.Read as Read;
 ghost use Rattle.sheet.specs.Read.{outcome, grammar};
-ghost use Rattle.sheet.specs.Internal.{standing-of, counted, next-place, place-on, layer-run, place};
+ghost use Rattle.sheet.specs.Internal.{standing-of, counted, next-place, place-on, layer-run, onto, begin, place};
 
 // ---- words
 
@@ -68,6 +68,9 @@ fn floats_after(kind: u32) -> usize
     }
     if kind == 6 {
         return 4;
+    }
+    if kind == 7 {
+        return 1;
     }
     0
 }
@@ -139,11 +142,12 @@ pub fn float_from(src: &[u8], at: usize) -> f64
 // ---- grammar
 
 // Where one stands between two blocks: before OPEN, before BEAM (the edition), among the blocks after it
-// (the edition, SURFACEs so far, layers that may come), after END.
+// (the edition, SURFACEs so far, layers that may come), after a kind 7 (the edition, SURFACEs so far), after END.
 pub enum Standing {
     AtOpen,
     AtBeam(u32),
     Among(u32, u32, u32),
+    AtSurface(u32, u32),
     Ended,
 }
 
@@ -184,6 +188,13 @@ fn is_layer(edition: u32, most: u32, w: u32) -> bool
     w % 0x1000_0000 == 0
 }
 
+// Kind 7: in edition 2, before one of 64 SURFACEs.
+fn is_tuning(edition: u32, done: u32, w: u32) -> bool
+    ensures { λ r. ⌜ r ≡ Read.is-tuning edition done w ⌝ }
+{
+    edition == 2 && (w / 0x1000_0000 == 7 && (done < 64 && w % 0x1000_0000 == 0))
+}
+
 fn is_end(done: u32, w: u32) -> bool
     ensures { λ r. ⌜ r ≡ Read.is-end done w ⌝ }
 {
@@ -212,8 +223,12 @@ fn may(s: Standing, w: u32) -> bool
             if is_layer(edition, most, w) {
                 return true;
             }
+            if is_tuning(edition, done, w) {
+                return true;
+            }
             is_end(done, w)
         }
+        Standing::AtSurface(_, done) => is_surface(done, w),
         Standing::Ended => false,
     }
 }
@@ -237,10 +252,16 @@ fn after(s: Standing, w: u32) -> Standing
             if w / 0x1000_0000 == 3 {
                 return Standing::Among(edition, done + 1, layers_after(w % 0x1000_0000));
             }
+            if w / 0x1000_0000 == 7 {
+                return Standing::AtSurface(edition, done);
+            }
             if w / 0x1000_0000 == 5 {
                 return Standing::Ended;
             }
             Standing::Among(edition, done, most - 1)
+        }
+        Standing::AtSurface(edition, done) => {
+            Standing::Among(edition, done + 1, layers_after(w % 0x1000_0000))
         }
         Standing::Ended => Standing::Ended,
     }
@@ -253,6 +274,7 @@ fn has_ended(s: Standing) -> bool
         Standing::AtOpen => false,
         Standing::AtBeam(_) => false,
         Standing::Among(_, _, _) => false,
+        Standing::AtSurface(_, _) => false,
         Standing::Ended => true,
     }
 }
@@ -330,15 +352,39 @@ pub fn layer_run(src: &[u8], at: usize) -> usize
     n
 }
 
-// The place of the n-th SURFACE of a sheet in grammar, counted from 0.
-pub fn place_of(src: &[u8], n: u32) -> usize
-    ensures { λ r. ⌜ r ≡ place (now (src .entry)) n ⌝ }
+// The SURFACE of the blocks from a place on: after the kind 7, if one is there.
+pub fn onto(src: &[u8], at: usize) -> usize
+    ensures { λ r. ⌜ r ≡ onto (now (src .entry)) at ⌝ }
+{
+    if kind_at(src, at) == 7 {
+        return next_place(src, at);
+    }
+    at
+}
+
+// The place after a SURFACE and its layers.
+pub fn after_layers(src: &[u8], at: usize) -> usize
+    ensures { λ r. ⌜ r ≡ place-on (now (src .entry)) at (suc (layer-run 16 (now (src .entry)) at)) ⌝ }
+{
+    place_on(src, at, layer_run(src, at) + 1)
+}
+
+// Where the n-th SURFACE of a sheet in grammar begins, counted from 0, with the kind 7 before it.
+pub fn begin_of(src: &[u8], n: u32) -> usize
+    ensures { λ r. ⌜ r ≡ begin (now (src .entry)) n ⌝ }
 {
     let mut at = place_on(src, 0, 2);
     let mut i = 0;
     while i < n {
-        at = place_on(src, at, layer_run(src, at) + 1);
+        at = after_layers(src, onto(src, at));
         i += 1;
     }
     at
+}
+
+// The place of the n-th SURFACE of a sheet in grammar, counted from 0.
+pub fn place_of(src: &[u8], n: u32) -> usize
+    ensures { λ r. ⌜ r ≡ place (now (src .entry)) n ⌝ }
+{
+    onto(src, begin_of(src, n))
 }

@@ -27,17 +27,18 @@ use Rattle.fresnel_near.specs.Claim.{Both}
 use Rattle.fresnel_near.proofs.Claim.{every-pair}
 use Rattle.gate_limits.specs.declared.Interface.the-variants.{Bare, Coated}
 use Rattle.gate_limits.specs.Coating.{coded, interface}
-use Rattle.gate_limits.specs.Limits.{within, surface-passes, passes}
+use Rattle.gate_limits.specs.Limits.{within, surface-passes}
 use Rattle.gate_limits.proofs.Ranges.{wavelength-in, surface-in}
 use Rattle.surface.specs.Answers.{assembled, coated-powers, coated-answers, bare-powers, bare-answers, answers-of, answers}
 use Rattle.surface.proofs.Bare.{bare-jones}
 use Rattle.sheet.specs.Sheet.{SheetSurface, SheetLayer, nth, Sheet}
-use Rattle.sheet_values.specs.Values.{value, films, surface-value}
+use Rattle.sheet_values.specs.Values.{value, films, surface-value, met-at}
 use Rattle.gate.specs.Gate.{gated}
 use Rattle.gate.specs.Claim.{WithinLimits}
+use Rattle.gate.proofs.Wavelengths.{met}
 use Rattle.gate.proofs.Claim.{gate-claim}
 use Rattle.sheet_surfaces.specs.Surfaces.{answers-to, surface-answers}
-use Rattle.sheet_surfaces.proofs.Answers.{all-nth, Good, wavelength-within}
+use Rattle.sheet_surfaces.proofs.Answers.{all-nth}
 use Rattle.sheet_head_on.specs.Claim.{Straight, CustomAnswers, BareAnswers, HeadOnClaim}
 
 -- an index that passes is one from 1 to 4
@@ -58,11 +59,10 @@ module _ (src : List ℕ) (x : Sheet) (is-admitted : gated src ≡ answer x) (in
   y = nth (x .surfaces) i
 
   abbrev w : Float
-  w = value (x .wavelength)
+  w = met-at (value (x .wavelength)) (x .surfaces) i
 
   good : T (surface-passes (surface-value y))
-  unfolding passes
-  good = and-l (surface-passes (surface-value y)) _ (all-nth (Good w) (x .surfaces) i (inside .surfaces) l)
+  good = all-nth _ (x .surfaces) i (inside .surfaces) l
 
   incident : Index (value (y .n-incident))
   unfolding surface-passes
@@ -79,7 +79,7 @@ module _ (src : List ℕ) (x : Sheet) (is-admitted : gated src ≡ answer x) (in
   custom : {bound : ℕ} → EverySurface (λ n1 n2. Conserves bound) → y .payload / 2 ≡ 5 → y .layers ≡ [] → Straight y → CustomAnswers bound src i
   unfolding answers-of coated-answers assembled coated-powers films
   custom every five none z =
-      let c = every (value (y .n-incident)) (value (y .n-substrate)) (value (y .angle)) w incident substrate (ofBits-fits binary64 (y .angle)) z (subst T (sym (in-positive (wavelength-in w (wavelength-within x inside)) tt)) tt) in
+      let c = every (value (y .n-incident)) (value (y .n-substrate)) (value (y .angle)) w incident substrate (ofBits-fits binary64 (y .angle)) z (subst T (sym (in-positive (wavelength-in w (met x inside i l .0)) tt)) tt) in
       record {
         answers = coated-answers (c .response);
         is =

@@ -6,14 +6,14 @@ use native.Mathlib.Omega.{arith}
 use lib.Dec.{T}
 use lib.ListN.{length}
 use lib.Ieee.{Float}
-use lib.Ieee.Fits.{and-l}
-use Rattle.gate_limits.specs.Limits.{wavelength-passes, beam-passes, passes}
+use Rattle.gate_limits.specs.Limits.{wavelength-passes, passes}
 use Rattle.surface.specs.Finite.{Answered}
 use Rattle.surface.proofs.Finite.{every-surface-answered}
 use Rattle.sheet.specs.Blocks.{All}
-use Rattle.sheet.specs.Sheet.{SheetLayer, SheetSurface, nth, Sheet}
-use Rattle.sheet_values.specs.Values.{value, films, surface-value}
+use Rattle.sheet.specs.Sheet.{SheetLayer, SheetSurface, nth, Sheet, WellFormed}
+use Rattle.sheet_values.specs.Values.{value, films, surface-value, met-at}
 use Rattle.gate.specs.Claim.{WithinLimits}
+use Rattle.gate.proofs.Wavelengths.{met}
 
 pub all-nth : (P : SheetSurface → Type 0) (ys : List SheetSurface) (i : ℕ) → All P ys → i < length ys → P (nth ys i)
 all-nth P [] i a h = absurd (omega arith)
@@ -25,10 +25,6 @@ unfolding films
 films-length w [] = λ i. 0
 films-length w (l ∷ ls) = ap suc (films-length w ls)
 
-pub wavelength-within : (x : Sheet) → WithinLimits x → T (wavelength-passes (value (x .wavelength)))
-unfolding beam-passes
-wavelength-within x h = and-l (wavelength-passes (value (x .wavelength))) _ (h .beam)
-
 -- within the limits at a wavelength
 abbrev pub Good : Float → SheetSurface → Type 0
 Good w y = T (passes w (surface-value y) (films w (y .layers)))
@@ -36,3 +32,7 @@ Good w y = T (passes w (surface-value y) (films w (y .layers)))
 -- a surface within the limits, with 16 layers at the most
 pub answered : (w : Float) → T (wavelength-passes w) → (y : SheetSurface) → Good w y → length (y .layers) ≤ 16 → Answered w (surface-value y) (films w (y .layers))
 answered w t y p h = every-surface-answered w (surface-value y) (films w (y .layers)) t p (omega (arith, films-length w (y .layers)))
+
+-- the i-th surface of an admitted sheet, by a list of steps alone
+pub nth-answered : (x : Sheet) → WellFormed x → WithinLimits x → (i : ℕ) → i < length (x .surfaces) → let w = met-at (value (x .wavelength)) (x .surfaces) i in let y = nth (x .surfaces) i in Answered w (surface-value y) (films w (y .layers))
+nth-answered x f h i lt = let m = met x h i lt in answered (met-at (value (x .wavelength)) (x .surfaces) i) (m .0) (nth (x .surfaces) i) (m .1) (all-nth _ (x .surfaces) i (f .surfaces) lt .few)

@@ -13,30 +13,29 @@ use Rattle.gate_limits.specs.declared.Surface as Value
 use Rattle.sheet.specs.Sheet.{SheetSurface, nth, Sheet, surfaces-blocks, end-block}
 use Rattle.sheet.specs.Internal.{next-place, place-on, layer-run, layer-at, surface-at, layers-at, place}
 use Rattle.sheet.proofs.Stands.{SurfaceHere, Known, placed}
-use Rattle.sheet_values.specs.declared.Beam.{Beam}
-use Rattle.sheet_values.specs.Values.{value, film, films, surface-value}
-use Rattle.sheet_values.specs.Internal.{beam-at}
-use Rattle.sheet_values.proofs.Here.{beam-here, value-here, films-here}
+use Rattle.sheet_values.specs.Values.{value, film, films, surface-value, met-at}
+use Rattle.sheet_values.specs.Internal.{wavelength-at}
+use Rattle.sheet_values.proofs.Here.{value-here, films-here, wavelength-here}
 use Rattle.sheet_answers.proofs.After as After
 use Rattle.gate.specs.Gate.{gate, gated}
 use Rattle.gate.proofs.Admitted.{Admitted, admitted, turned-back}
 use Rattle.sheet_surfaces.specs.Surfaces.{of-surface, numbered, nth-surface, no-film, layer-of, nth-layer}
 
 -- ---- what is said of the i-th surface
-module _ {A : Type 0} (f : Sheet → SheetSurface → Outcome A) (src : List ℕ) (i : ℕ) where
+module _ {A : Type 0} (f : Float → SheetSurface → Outcome A) (src : List ℕ) (i : ℕ) where
   module _ (n : ℕ) (a : Admitted src n) where
     pub none : n ≤ i → refusal 7 0 ≡ of-surface f i (gated src)
     none h = sym (ap (of-surface f i) (a .is) ∙ rw (le-ltb i (length (a .sheet .surfaces)) (omega (arith, a .counts))))
 
-    pub there : i < n → f (a .sheet) (nth (a .sheet .surfaces) i) ≡ of-surface f i (gated src)
+    pub there : i < n → f (met-at (value (a .sheet .wavelength)) (a .sheet .surfaces) i) (nth (a .sheet .surfaces) i) ≡ of-surface f i (gated src)
     there h = sym (ap (of-surface f i) (a .is) ∙ rw (lt-ltb i (length (a .sheet .surfaces)) (omega (arith, a .counts))))
 
   pub not-admitted : (r : Refusal) → refused r ≡ gate src → refused r ≡ of-surface f i (gated src)
   not-admitted r e = sym (ap (of-surface f i) (turned-back src (r .number) (r .place) e))
 
 module _ (src : List ℕ) (i : ℕ) where
-  abbrev itself : Sheet → SheetSurface → Outcome SheetSurface
-  itself x y = answer y
+  abbrev itself : Float → SheetSurface → Outcome SheetSurface
+  itself w y = answer y
 
   module _ (n : ℕ) (known : Known src) (e : answer n ≡ gate src) where
     abbrev a : Admitted src n
@@ -45,6 +44,13 @@ module _ (src : List ℕ) (i : ℕ) where
     -- where it stands
     pub here : (h : i < n) → SurfaceHere src (place src i) (nth (a .sheet .surfaces) i) (surfaces-blocks (drop (suc i) (a .sheet .surfaces)) (end-block (length (a .sheet .surfaces)) ∷ []))
     here h = placed src (a .sheet) (a .stands) i (omega (arith, a .counts))
+
+    -- the wavelength that it is met with
+    abbrev pub met-there : Float
+    met-there = met-at (value (a .sheet .wavelength)) (a .sheet .surfaces) i
+
+    pub met-is : i < n → (v : Float) → v ≡ wavelength-at src i → v ≡ met-there
+    met-is h v ev = ev ∙ wavelength-here src (a .sheet) (a .stands) i (omega (arith, a .counts))
 
     -- ---- its words
     pub no-surface-there : n ≤ i → refusal 7 0 ≡ nth-surface src i
@@ -75,11 +81,11 @@ module _ (src : List ℕ) (i : ℕ) where
         unfolding nth-layer
         past-layers l = sym (rw (le-ltb j (length (y .layers)) (omega (arith, many)))) ∙ there (layer-of j) src i n a h
 
-        pub layer-there : j < m → (b : Beam) → b ≡ beam-at src (next-place src 0) → (z : ThinFilmLayer) → z ≡ film (b .«wavelength_nm») (layer-at src (place-on src (next-place src at) j)) → answer z ≡ nth-layer src i j
+        pub layer-there : j < m → (u : Float) → u ≡ wavelength-at src i → (z : ThinFilmLayer) → z ≡ film u (layer-at src (place-on src (next-place src at) j)) → answer z ≡ nth-layer src i j
         unfolding nth-layer
-        layer-there l b eb z ez =
-            let w = value (a .sheet .wavelength) in
-            let v : b .«wavelength_nm» ≡ w = ap (λ (k : Beam). k .«wavelength_nm») (eb ∙ beam-here src (a .sheet) (a .stands)) in
+        layer-there l u eu z ez =
+            let w = met-there in
+            let v : u ≡ w = met-is h u eu in
             let all : films w (layers-at src (next-place src at) m) ≡ films w (y .layers) = ap (λ (k : ℕ). films w (layers-at src (next-place src k) m)) q ∙ films-here src (place src i) y _ (here h) w m (em ∙ ap (layer-run 16 src) q) in
             ap answer (ez ∙ ap (λ (k : Float). film k (layer-at src (place-on src (next-place src at) j))) v ∙ sym (After.nth w src (next-place src at) m j no-film l) ∙ ap (λ (ls : List ThinFilmLayer). getD ls j no-film) all)
             ∙ sym (rw (lt-ltb j (length (y .layers)) (omega (arith, many)))) ∙ there (layer-of j) src i n a h

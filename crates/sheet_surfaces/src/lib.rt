@@ -25,7 +25,7 @@ fn refused(refusal: Refusal) -> SurfaceReply
     SurfaceReply { refusal, answers }
 }
 
-// Of the i-th surface, counted from 0.
+// Of the i-th surface, counted from 0, at the wavelength that a list of steps alone meets it with.
 pub fn surface_answers(src: &[u8], i: u32) -> SurfaceReply
     ensures { λ r. ⌜ r ≡ given (surface-answers (now (src .entry)) i) ⌝ }
 {
@@ -40,8 +40,8 @@ pub fn surface_answers(src: &[u8], i: u32) -> SurfaceReply
             let at = sheet::place_of(src, i);
             let n = sheet::layer_run(src, at);
             let surface = sheet_values::surface_at(src, at);
-            let beam = sheet_values::beam_of(src);
-            let reply = sheet_answers::answers_at(src, at, n, surface, beam.wavelength_nm);
+            let wavelength_nm = sheet_values::wavelength_of(src, i);
+            let reply = sheet_answers::answers_at(src, at, n, surface, wavelength_nm);
             let answers = reply.answers;
             SurfaceReply {
                 refusal: Refusal {
@@ -94,7 +94,7 @@ pub enum NthLayer {
     Refused(Refusal),
 }
 
-// The j-th layer of the i-th surface, at the BEAM's wavelength.
+// The j-th layer of the i-th surface, at the wavelength that a list of steps alone meets it with.
 pub fn nth_layer(src: &[u8], i: u32, j: usize) -> NthLayer
     ensures { λ r. ⌜ layer-outcome r ≡ nth-layer (now (src .entry)) i j ⌝ }
 {
@@ -113,8 +113,8 @@ pub fn nth_layer(src: &[u8], i: u32, j: usize) -> NthLayer
                     place: 0,
                 });
             }
-            let beam = sheet_values::beam_of(src);
-            NthLayer::Layer(sheet_answers::layer_after(src, at, j, beam.wavelength_nm))
+            let wavelength_nm = sheet_values::wavelength_of(src, i);
+            NthLayer::Layer(sheet_answers::layer_after(src, at, j, wavelength_nm))
         }
         Gated::Refused(r) => NthLayer::Refused(r),
     }

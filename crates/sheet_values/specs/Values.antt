@@ -1,13 +1,13 @@
--- 01 section 1 and 02 slip 3: the values that the blocks of a sheet stand for. Definitions only.
+-- 01 section 1 and 02 slips 3 and 5: the values that the blocks of a sheet stand for. Definitions only.
 use mathlib.Core.List.{List, [], _∷_}
-use Prim.Native.Nat.{ℕ, _+_, _/_, _%_}
+use Prim.Native.Nat.{ℕ, zero, suc, _+_, _/_, _%_}
 use lib.Dec.{eqb}
 use lib.Ieee.{Float, binary64, ofBits}
 use Rattle.ieee.specs.Operators.{_⊕_, _⊗_, _⊘_}
 use Rattle.ieee.specs.Functions.{zero-f}
 use Rattle.thin_film_solver.specs.declared.ThinFilmLayer.{ThinFilmLayer}
 use Rattle.gate_limits.specs.declared.Surface as Coated
-use Rattle.sheet.specs.Sheet.{SheetLayer, layer, cauchy, SheetSurface, Sheet}
+use Rattle.sheet.specs.Sheet.{SheetLayer, layer, cauchy, Tuning, keeps, tunes, SheetSurface, nth, Sheet}
 use Rattle.sheet_values.specs.declared.Beam.{Beam}
 use Rattle.sheet_values.specs.declared.Cauchy.{Cauchy}
 
@@ -61,3 +61,13 @@ surface-value y = record {
   «n_substrate» = value (y .n-substrate);
   «angle_rad» = value (y .angle);
 }
+
+-- the wavelength that a SURFACE is met with: a kind 7 before it 'acts when that SURFACE is stepped, over any retune made earlier'
+abbrev pub met-with : Float → Tuning → Float
+met-with held keeps = held
+met-with held (tunes wavelength) = value wavelength
+
+-- the wavelength that the i-th of some SURFACEs is met with by a list of steps alone, counted from 0
+unfoldable pub met-at : Float → List SheetSurface → ℕ → Float
+met-at held ys zero = met-with held (nth ys 0 .tuning)
+met-at held ys (suc i) = met-with (met-at held ys i) (nth ys (suc i) .tuning)

@@ -1,9 +1,9 @@
-// The BEAM, the SURFACEs and the layers of a sheet as values: document 01, section 1, and document 02, slip 3.
+// The BEAM, the SURFACEs and the layers of a sheet as values: document 01, section 1, and document 02, slips 3 and 5.
 ghost use mathlib.Core.Path.{_≡_};
 ghost use mathlib.Core.List.{[]};
-ghost use Rattle.sheet.specs.Internal.{next-place, layer-at, surface-at};
-ghost use Rattle.sheet_values.specs.Values.{cauchy-index, cauchy-film, film, surface-value};
-ghost use Rattle.sheet_values.specs.Internal.{beam-at, plain-at, cauchy-at};
+ghost use Rattle.sheet.specs.Internal.{next-place, layer-at, tuning-at, surface-at};
+ghost use Rattle.sheet_values.specs.Values.{cauchy-index, cauchy-film, film, surface-value, met-with};
+ghost use Rattle.sheet_values.specs.Internal.{beam-at, plain-at, cauchy-at, wavelength-at};
 use gate_limits::Surface;
 use thin_film_solver::ThinFilmLayer;
 
@@ -138,4 +138,34 @@ pub fn layer_at(src: &[u8], at: usize, wavelength_nm: f64) -> ThinFilmLayer
         return cauchy_film(wavelength_nm, cauchy_at(src, at));
     }
     plain_at(src, at)
+}
+
+// ---- kind 7
+
+// The wavelength that a SURFACE is met with whose first block is at a place: its own kind 7's, or else the one held.
+pub fn met_with(src: &[u8], at: usize, held_nm: f64) -> f64
+    ensures { λ r. ⌜ r ≡ met-with «held_nm» (tuning-at (now (src .entry)) at) ⌝ }
+{
+    if at < src.len() / 4 {
+        if sheet::kind_at(src, at) == 7 {
+            return sheet::float_from(src, at + 1);
+        }
+    }
+    held_nm
+}
+
+// The wavelength that the n-th SURFACE is met with by steps alone, counted from 0.
+pub fn wavelength_of(src: &[u8], n: u32) -> f64
+    ensures { λ r. ⌜ r ≡ wavelength-at (now (src .entry)) n ⌝ }
+{
+    let beam = beam_of(src);
+    let mut at = sheet::begin_of(src, 0);
+    let mut held_nm = met_with(src, at, beam.wavelength_nm);
+    let mut i = 0;
+    while i < n {
+        at = sheet::after_layers(src, sheet::onto(src, at));
+        held_nm = met_with(src, at, held_nm);
+        i += 1;
+    }
+    held_nm
 }

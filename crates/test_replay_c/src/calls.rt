@@ -1,5 +1,5 @@
-// The functions 180 to 196, the exports, and 155, which is one of them too. Each gives what a call returns and all of the list that it was
-// lent, in so many words; none where it is not one of these or its list is too long to lend.
+// The functions 180 to 197, the exports, and 155, which is one of them too. Each gives what a call returns and all of the list, or of the state, that it
+// was lent, in so many words; none where it is not one of these or its list is too long to lend.
 
 // What a call returned, and the first n numbers of the list; the words behind them do not count.
 fn returned(out: &mut [u64; 256], number: u64, list: &[f64; 200], n: usize) -> usize {
@@ -13,22 +13,50 @@ fn gate_call(src: &[u8], out: &mut [u64; 256]) -> usize {
     1
 }
 
-fn start_call(n: usize, src: &[u8], out: &mut [u64; 256]) -> usize {
-    let mut list = [-7.25f64; 200];
-    if n > 200 {
-        return 0;
-    }
-    let number = dihkelu::dihkelu_start(src, &mut list[..n]);
-    returned(out, number, &list, n)
+// What a call returned, and the state as it left it.
+fn state_out(
+    out: &mut [u64; 256],
+    number: u64,
+    done: u32,
+    s: f64,
+    p: f64,
+    wavelength_nm: f64,
+) -> usize {
+    let floats = [s, p, wavelength_nm];
+    out[0] = number;
+    out[1] = done as u64;
+    test_records::write(out, 2, &floats);
+    5
 }
 
-fn step_call(n: usize, done: u32, s: f64, p: f64, src: &[u8], out: &mut [u64; 256]) -> usize {
-    let mut list = [-7.25f64; 200];
-    if n > 200 {
-        return 0;
-    }
-    let number = dihkelu::dihkelu_step(src, done, s, p, &mut list[..n]);
-    returned(out, number, &list, n)
+fn start_call(src: &[u8], out: &mut [u64; 256]) -> usize {
+    let mut done: u32 = 7;
+    let mut s = -7.25f64;
+    let mut p = -7.25f64;
+    let mut wavelength_nm = -7.25f64;
+    let number = dihkelu::dihkelu_start(src, &mut done, &mut s, &mut p, &mut wavelength_nm);
+    state_out(out, number, done, s, p, wavelength_nm)
+}
+
+fn step_call(a: &[u8], out: &mut [u64; 256]) -> usize {
+    let mut done = test_records::small_at(a, 0);
+    let mut s = test_records::float_at(a, 1);
+    let mut p = test_records::float_at(a, 2);
+    let mut wavelength_nm = test_records::float_at(a, 3);
+    let src = test_records::bytes_at(a, 4);
+    let number = dihkelu::dihkelu_step(src, &mut done, &mut s, &mut p, &mut wavelength_nm);
+    state_out(out, number, done, s, p, wavelength_nm)
+}
+
+fn retune_call(a: &[u8], out: &mut [u64; 256]) -> usize {
+    let done = test_records::small_at(a, 1);
+    let s = test_records::float_at(a, 2);
+    let p = test_records::float_at(a, 3);
+    let mut wavelength_nm = test_records::float_at(a, 4);
+    let src = test_records::bytes_at(a, 5);
+    let new = test_records::float_at(a, 0);
+    let number = dihkelu::dihkelu_retune(src, done, &mut wavelength_nm, new);
+    state_out(out, number, done, s, p, wavelength_nm)
 }
 
 fn run_call(n: usize, src: &[u8], out: &mut [u64; 256]) -> usize {
@@ -181,12 +209,8 @@ pub fn call(f: usize, a: &[u8], out: &mut [u64; 256]) -> usize {
     match f {
         155 => quarter_waves_call(a, out),
         180 => gate_call(test_records::bytes_at(a, 0), out),
-        181 => start_call(n, test_records::bytes_at(a, 1), out),
-        182 => {
-            let s = test_records::float_at(a, 2);
-            let p = test_records::float_at(a, 3);
-            step_call(n, done, s, p, test_records::bytes_at(a, 4), out)
-        }
+        181 => start_call(test_records::bytes_at(a, 0), out),
+        182 => step_call(a, out),
         183 => run_call(n, test_records::bytes_at(a, 1), out),
         184 => answers_call(n, done, test_records::bytes_at(a, 2), out),
         185 => evaluate_call(n, a, out),
@@ -204,6 +228,7 @@ pub fn call(f: usize, a: &[u8], out: &mut [u64; 256]) -> usize {
             out,
             c_scalars::dihkelu_atan2(x, test_records::float_at(a, 1)),
         ),
+        197 => retune_call(a, out),
         _ => 0,
     }
 }

@@ -1,4 +1,4 @@
-// The functions 160 to 174: of sheets and trains. Each gives its count of words; 0 where it is not one
+// The functions 160 to 175: of sheets and trains. Each gives its count of words; 0 where it is not one
 // of these, or where a run changed what it must leave.
 ghost use Prim.Native.Nat.{_≤_};
 use super::answers::answers_out;
@@ -14,11 +14,11 @@ fn refusal_out(out: &mut [u64; 256], r: Refusal) -> usize {
 }
 
 fn state_out(out: &mut [u64; 256], state: State) -> usize {
-    let w = [state.s, state.p];
+    let w = [state.s, state.p, state.wavelength_nm];
     out[0] = 0;
     out[1] = state.done as u64;
     test_records::write(out, 2, &w);
-    4
+    5
 }
 
 fn gate_call(src: &[u8], out: &mut [u64; 256]) -> usize {
@@ -46,43 +46,95 @@ fn step_call(src: &[u8], state: State, out: &mut [u64; 256]) -> usize {
     }
 }
 
-// The state that a step returns, and 1 where it was refused.
-struct Moved {
-    state: State,
-    refused: u64,
+fn retune_call(src: &[u8], state: State, wavelength_nm: f64, out: &mut [u64; 256]) -> usize {
+    match train_steps::retune(src, state, wavelength_nm) {
+        TrainReply::State(next) => state_out(out, next),
+        TrainReply::Refused(r) => refusal_out(out, r),
+    }
 }
 
-fn one_step(src: &[u8], state: State) -> Moved
-    ensures { λ r. ⌜ r .refused ≤ 1 ⌝ }
-{
+// The state that an action returns, and the number that it was refused with, or 0.
+struct Moved {
+    state: State,
+    number: u64,
+}
+
+fn stepped(src: &[u8], state: State) -> Moved {
     match train_steps::step(src, state) {
         TrainReply::State(next) => Moved {
             state: next,
-            refused: 0,
+            number: 0,
         },
-        TrainReply::Refused(_) => Moved { state, refused: 1 },
+        TrainReply::Refused(r) => Moved {
+            state,
+            number: r.number as u64,
+        },
     }
 }
 
-// A list of n steps from Start: the last state, and how many were refused.
-fn steps_from(src: &[u8], first: State, n: u32, out: &mut [u64; 256]) -> usize {
+fn retuned(src: &[u8], state: State, wavelength_nm: f64) -> Moved {
+    match train_steps::retune(src, state, wavelength_nm) {
+        TrainReply::State(next) => Moved {
+            state: next,
+            number: 0,
+        },
+        TrainReply::Refused(r) => Moved {
+            state,
+            number: r.number as u64,
+        },
+    }
+}
+
+// The action of the i-th word: a step, or a retune to the wavelength of that pattern.
+fn act(src: &[u8], state: State, a: &[u8], i: usize) -> Moved {
+    if test_records::word_at(a, i) == 0xFFFF_FFFF_FFFF_FFFF {
+        stepped(src, state)
+    } else {
+        retuned(src, state, test_records::float_at(a, i))
+    }
+}
+
+// A sum turned by one bit, and a word added without carry.
+fn turned(sum: u64, word: u64) -> u64 {
+    (sum << 1 | sum >> 63) ^ word
+}
+
+// The same with all words of a state, and the number before them.
+fn digested(sum: u64, number: u64, state: State) -> u64 {
+    let done = turned(turned(sum, number), state.done as u64);
+    let powers = turned(
+        turned(done, test_records::bits(state.s)),
+        test_records::bits(state.p),
+    );
+    turned(powers, test_records::bits(state.wavelength_nm))
+}
+
+// A list of n actions from Start: the last state, all states and numbers in one word, and each number.
+fn acts_from(src: &[u8], first: State, n: usize, a: &[u8], out: &mut [u64; 256]) -> usize
+    requires { ⌜ n ≤ 200 ⌝ }
+{
     let mut state = first;
-    let mut refused: u64 = 0;
+    let mut sum: u64 = 0;
     let mut i = 0;
     while i < n {
-        let moved = one_step(src, state);
+        let moved = act(src, state, a, i + 1);
         state = moved.state;
-        refused += moved.refused;
+        sum = digested(sum, moved.number, state);
+        out[i + 6] = moved.number;
         i += 1;
     }
-    out[4] = refused;
+    out[5] = sum;
     state_out(out, state);
-    5
+    n + 6
 }
 
-fn steps_call(src: &[u8], n: u32, out: &mut [u64; 256]) -> usize {
+fn actions_call(n: usize, a: &[u8], out: &mut [u64; 256]) -> usize {
+    if n > 200 {
+        return 0;
+    }
+    let src = test_records::bytes_at(a, n + 1);
     match train_steps::start(src) {
-        TrainReply::State(state) => steps_from(src, state, n, out),
+        TrainReply::State(state) => acts_from(src, state, n, a, out),
         TrainReply::Refused(r) => refusal_out(out, r),
     }
 }
@@ -144,11 +196,14 @@ fn answers_call(src: &[u8], i: u32, out: &mut [u64; 256]) -> usize {
     }
 }
 
-fn state_at(a: &[u8]) -> State {
+fn state_at(a: &[u8], i: usize) -> State
+    requires { ⌜ i ≤ 1 ⌝ }
+{
     State {
-        done: test_records::small_at(a, 0),
-        s: test_records::float_at(a, 1),
-        p: test_records::float_at(a, 2),
+        done: test_records::small_at(a, i),
+        s: test_records::float_at(a, i + 1),
+        p: test_records::float_at(a, i + 2),
+        wavelength_nm: test_records::float_at(a, i + 3),
     }
 }
 
@@ -157,10 +212,19 @@ pub fn call(f: usize, a: &[u8], out: &mut [u64; 256]) -> usize {
     match f {
         160 => gate_call(test_records::bytes_at(a, 0), out),
         170 => start_call(test_records::bytes_at(a, 0), out),
-        171 => step_call(test_records::bytes_at(a, 3), state_at(a), out),
+        171 => step_call(test_records::bytes_at(a, 4), state_at(a, 0), out),
         172 => run_call(test_records::bytes_at(a, 1), n as usize, out),
         173 => answers_call(test_records::bytes_at(a, 1), n, out),
-        174 => steps_call(test_records::bytes_at(a, 1), n, out),
+        174 => actions_call(n as usize, a, out),
+        175 => {
+            let wavelength_nm = test_records::float_at(a, 0);
+            retune_call(
+                test_records::bytes_at(a, 5),
+                state_at(a, 1),
+                wavelength_nm,
+                out,
+            )
+        }
         _ => 0,
     }
 }

@@ -15,7 +15,7 @@ fn agrees(f: usize, a: &[u8], want: &[u8], first: bool) -> bool {
 
 // The same of a record's words, all of which were read.
 fn body_agrees(h: Header, body: &[u8], first: bool) -> bool {
-    if h.args > 5120 {
+    if h.args > 5376 {
         return false;
     }
     if h.results > 256 {
@@ -31,7 +31,7 @@ fn body_agrees(h: Header, body: &[u8], first: bool) -> bool {
 
 // Reads a record's words; whether they were all there.
 fn read_body(h: Header, body: &mut [u8]) -> bool {
-    if h.args > 5120 {
+    if h.args > 5376 {
         return false;
     }
     if h.results > 256 {
@@ -45,7 +45,7 @@ fn read_body(h: Header, body: &mut [u8]) -> bool {
 }
 
 // One record: whether there was one.
-fn replay(all: &mut [u32; 256], agreed: &mut [u32; 256], body: &mut [u8; 43008]) -> bool {
+fn replay(all: &mut [u32; 256], agreed: &mut [u32; 256], body: &mut [u8; 45056]) -> bool {
     let mut header = [0u8; 8];
     if io::read_full(0, &mut header) != 8 {
         return false;
@@ -66,7 +66,7 @@ fn replay(all: &mut [u32; 256], agreed: &mut [u32; 256], body: &mut [u8; 43008])
 fn main() {
     let mut all = [0u32; 256];
     let mut agreed = [0u32; 256];
-    let mut body = [0u8; 43008];
+    let mut body = [0u8; 45056];
     for _ in 0..0xffff_ffffu32 {
         if !replay(&mut all, &mut agreed, &mut body) {
             break;

@@ -19,6 +19,7 @@ use Rattle.gate_limits.specs.Limits.{within, power-passes}
 use Rattle.surface.proofs.Finite.{product-falls, sum-falls}
 use Rattle.train_steps.specs.declared.Chosen.{Chosen}
 use Rattle.train_steps.specs.declared.State.{State}
+use Rattle.train_steps.specs.Train.{with-wavelength}
 use Rattle.train_claim.specs.Claim.{Falls}
 
 -- ---- a state whose powers are f64 from 0 to 1
@@ -64,16 +65,16 @@ pub power-finite : (x : Float) → T (power-passes x) → T (finite x)
 power-finite x t = between x t .mag .fine
 
 -- ---- a step that is refused, and one that is taken
-pub stays : (st : State) → Unit-powers st → Falls st st
-stays st h = record {
+pub stays : (st : State) (w : Float) → Unit-powers st → Falls st (with-wavelength w st)
+stays st w h = record {
   s = and-i (le zero-f (st .s)) (le (st .s) (st .s)) (from-zero (st .s) (h .s)) (same (st .s) (h .s));
   p = and-i (le zero-f (st .p)) (le (st .p) (st .p)) (from-zero (st .p) (h .p)) (same (st .p) (h .p));
   sum = and-i (le zero-f (st .s ⊕ st .p)) (le (st .s ⊕ st .p) (st .s ⊕ st .p)) (sum-from-zero (st .s) (st .p) (h .s) (h .p)) (sum-le (between (st .s) (h .s)) (between (st .p) (h .p)) (between (st .s) (h .s)) (between (st .p) (h .p)) (le-refl _) (le-refl _));
 }
 
-module _ (st : State) (h : Unit-powers st) (done : ℕ) (c : Chosen) (cs : T (power-passes (c .s))) (cp : T (power-passes (c .p))) where
+module _ (st : State) (h : Unit-powers st) (done : ℕ) (w : Float) (c : Chosen) (cs : T (power-passes (c .s))) (cp : T (power-passes (c .p))) where
   abbrev next : State
-  next = record { done = done; s = st .s ⊗ c .s; p = st .p ⊗ c .p }
+  next = record { done = done; s = st .s ⊗ c .s; p = st .p ⊗ c .p; «wavelength_nm» = w }
 
   unit-s : T (power-passes (st .s ⊗ c .s))
   unit-s = passes _ (product-unit (between (st .s) (h .s)) (between (c .s) cs))
@@ -91,5 +92,5 @@ module _ (st : State) (h : Unit-powers st) (done : ℕ) (c : Chosen) (cs : T (po
   pub unit : Unit-powers next
   unit = record { s-held = mul-fits binary64 (st .s) (c .s); p-held = mul-fits binary64 (st .p) (c .p); s = unit-s; p = unit-p }
 
-pub begun : (done a b : ℕ) → T (power-passes (ofBits binary64 a)) → T (power-passes (ofBits binary64 b)) → Unit-powers (record { done = done; s = ofBits binary64 a; p = ofBits binary64 b })
-begun done a b t u = record { s-held = ofBits-fits binary64 a; p-held = ofBits-fits binary64 b; s = t; p = u }
+pub begun : (done a b : ℕ) (w : Float) → T (power-passes (ofBits binary64 a)) → T (power-passes (ofBits binary64 b)) → Unit-powers (record { done = done; s = ofBits binary64 a; p = ofBits binary64 b; «wavelength_nm» = w })
+begun done a b w t u = record { s-held = ofBits-fits binary64 a; p-held = ofBits-fits binary64 b; s = t; p = u }

@@ -15,17 +15,20 @@ use Rattle.thin_film_solver.specs.Solve.{dielectric}
 use Rattle.thin_film_presets.specs.Layers.{bragg-layers, broadband-layers}
 use Rattle.thin_film.specs.Coating.{mgf2-layers, mirror-layers, layers-of}
 use Rattle.gate_limits.specs.Coating.{coded, interface}
-use Rattle.gate_limits.specs.Limits.{within, beam-passes, layer-within, layers-within, angle-passes, surface-passes, passes}
+use Rattle.gate_limits.specs.Limits.{within, beam-passes, layer-within, layers-within, angle-passes, surface-passes}
 use Rattle.sheet.specs.Blocks.{All}
-use Rattle.sheet.specs.Sheet.{SheetLayer, layer, cauchy, SheetSurface, Sheet, GoodLayer, GoodSurface, WellFormed}
-use Rattle.sheet_values.specs.Values.{value, cauchy-index, films, surface-value}
-use Rattle.gate.specs.Gate.{coefficients-finite}
-use Rattle.gate.specs.Claim.{WithinLimits}
+use Rattle.sheet.specs.Sheet.{SheetLayer, layer, cauchy, Tuning, keeps, tunes, SheetSurface, Sheet, GoodLayer, GoodTuning, GoodSurface, WellFormed}
+use Rattle.sheet_values.specs.Values.{value, cauchy-index, films}
+use Rattle.gate.specs.Wavelength.{layers-admitted, layers-hold, holds}
+use Rattle.gate.specs.Claim.{HoldsFrom, WithinLimits}
 use Rattle.train_claim.specs.Claim.{EveryPayload}
 
 -- 1 to 1.5, angle 0
+abbrev tuned-pane : Tuning → ℕ → List SheetLayer → SheetSurface
+tuned-pane tuning payload layers = record { tuning = tuning; payload = payload; n-incident = 0x3FF0_0000_0000_0000; n-substrate = 0x3FF8_0000_0000_0000; angle = 0; layers = layers }
+
 abbrev pane : ℕ → List SheetLayer → SheetSurface
-pane payload layers = record { payload = payload; n-incident = 0x3FF0_0000_0000_0000; n-substrate = 0x3FF8_0000_0000_0000; angle = 0; layers = layers }
+pane payload layers = tuned-pane keeps payload layers
 
 -- n 2, k 0, 64 nm
 abbrev coat : SheetLayer
@@ -35,14 +38,17 @@ coat = layer 0x4000_0000_0000_0000 0 0x4050_0000_0000_0000
 abbrev glass : SheetLayer
 glass = cauchy 0x3FF8_0000_0000_0000 0x3F70_0000_0000_0000 0x3F30_0000_0000_0000 0x4050_0000_0000_0000
 
-abbrev panes : List SheetLayer → List SheetSurface
-panes ls =
-    pane 0 [] ∷ pane 1 [] ∷ pane 2 [] ∷ pane 3 [] ∷ pane 4 [] ∷ pane 5 [] ∷ pane 6 [] ∷ pane 7 [] ∷ pane 8 [] ∷ pane 9 [] ∷ pane 10 (coat ∷ []) ∷ pane 11 ls
-    ∷ pane 12 [] ∷ pane 13 [] ∷ pane 14 [] ∷ pane 15 [] ∷ []
+abbrev last-panes : List SheetSurface
+last-panes = pane 12 [] ∷ pane 13 [] ∷ pane 14 [] ∷ pane 15 [] ∷ []
+
+abbrev panes : Tuning → List SheetLayer → List SheetSurface
+panes t ls =
+    pane 0 [] ∷ pane 1 [] ∷ pane 2 [] ∷ pane 3 [] ∷ pane 4 [] ∷ pane 5 [] ∷ pane 6 [] ∷ pane 7 [] ∷ pane 8 [] ∷ pane 9 [] ∷ pane 10 (coat ∷ []) ∷ tuned-pane t 11 ls
+    ∷ last-panes
 
 -- 512 nm, s = p = 1
-abbrev sheet : ℕ → List SheetLayer → Sheet
-sheet edition ls = record { edition = edition; wavelength = 0x4080_0000_0000_0000; s = 0x3FF0_0000_0000_0000; p = 0x3FF0_0000_0000_0000; surfaces = panes ls }
+abbrev sheet : ℕ → Tuning → List SheetLayer → Sheet
+sheet edition t ls = record { edition = edition; wavelength = 0x4080_0000_0000_0000; s = 0x3FF0_0000_0000_0000; p = 0x3FF0_0000_0000_0000; surfaces = panes t ls }
 
 coats : (edition n : ℕ) → All (GoodLayer edition) (replicate n coat)
 coats edition zero = tt
@@ -50,31 +56,32 @@ coats edition (suc n) = ((omega arith, (omega arith, omega arith)), coats editio
 
 module _ (edition : ℕ) where
   plain : (p : ℕ) → p ≤ 15 → GoodSurface edition (pane p [])
-  plain p le = record { payload = le; n-incident = omega arith; n-substrate = omega arith; angle = omega arith; layers = tt; few = omega arith; custom = inl refl }
+  plain p le = record { tuning = tt; payload = le; n-incident = omega arith; n-substrate = omega arith; angle = omega arith; layers = tt; few = omega arith; custom = inl refl }
 
-  custom : (p : ℕ) (ls : List SheetLayer) → p ≤ 15 → p / 2 ≡ 5 → length ls ≤ 16 → All (GoodLayer edition) ls → GoodSurface edition (pane p ls)
-  custom p ls le e few g = record { payload = le; n-incident = omega arith; n-substrate = omega arith; angle = omega arith; layers = g; few = few; custom = inr e }
+  custom : (t : Tuning) (p : ℕ) (ls : List SheetLayer) → GoodTuning edition t → p ≤ 15 → p / 2 ≡ 5 → length ls ≤ 16 → All (GoodLayer edition) ls → GoodSurface edition (tuned-pane t p ls)
+  custom t p ls tunes-well le e few g = record { tuning = tunes-well; payload = le; n-incident = omega arith; n-substrate = omega arith; angle = omega arith; layers = g; few = few; custom = inr e }
 
-  formed : (ls : List SheetLayer) → (edition ≡ 1) ⊎ (edition ≡ 2) → length ls ≤ 16 → All (GoodLayer edition) ls → WellFormed (sheet edition ls)
-  formed ls e few g = record {
+  formed : (t : Tuning) (ls : List SheetLayer) → GoodTuning edition t → (edition ≡ 1) ⊎ (edition ≡ 2) → length ls ≤ 16 → All (GoodLayer edition) ls → WellFormed (sheet edition t ls)
+  formed t ls tunes-well e few g = record {
     edition = e;
     wavelength = omega arith;
     s = omega arith;
     p = omega arith;
-    surfaces = (plain 0 (omega arith), (plain 1 (omega arith), (plain 2 (omega arith), (plain 3 (omega arith), (plain 4 (omega arith), (plain 5 (omega arith), (plain 6 (omega arith), (plain 7 (omega arith), (plain 8 (omega arith), (plain 9 (omega arith), (custom 10 (coat ∷ []) (omega arith) refl (omega arith) (coats edition 1), (custom 11 ls (omega arith) refl few g, (plain 12 (omega arith), (plain 13 (omega arith), (plain 14 (omega arith), (plain 15 (omega arith), tt))))))))))))))));
+    surfaces = (plain 0 (omega arith), (plain 1 (omega arith), (plain 2 (omega arith), (plain 3 (omega arith), (plain 4 (omega arith), (plain 5 (omega arith), (plain 6 (omega arith), (plain 7 (omega arith), (plain 8 (omega arith), (plain 9 (omega arith), (custom keeps 10 (coat ∷ []) tt (omega arith) refl (omega arith) (coats edition 1), (custom t 11 ls tunes-well (omega arith) refl few g, (plain 12 (omega arith), (plain 13 (omega arith), (plain 14 (omega arith), (plain 15 (omega arith), tt))))))))))))))));
     few = omega arith;
   }
 
--- the layers of the last coating 5 within the limits at 512 nm
-abbrev Inside : List SheetLayer → Type 0
-Inside ls = let w = value 0x4080_0000_0000_0000 in T (passes w (surface-value (pane 11 ls)) (films w ls)) × All (λ (l : SheetLayer). T (coefficients-finite l)) ls
+-- the layers within the limits at 512 nm, and from a kind 7 on at its own
+abbrev Inside : Tuning → List SheetLayer → Type 0
+Inside t ls = T (holds (value 0x4080_0000_0000_0000) (panes t ls)) × HoldsFrom t (pane 11 ls ∷ last-panes)
 
-inside : (edition : ℕ) (ls : List SheetLayer) → Inside ls → WithinLimits (sheet edition ls)
-unfolding dielectric mgf2-layers mirror-layers layers-of bragg-layers broadband-layers within beam-passes layer-within layers-within angle-passes surface-passes passes coded interface films wrap fold second-fold series sin-at sin cos-at cos-of cos abs clamp Ieee.rem Ieee.lt Ieee.le Ieee.eq Ieee.add Ieee.sub Ieee.mul Ieee.div Ieee.neg Ieee.ofInt Ieee.isNan ofBits
-inside edition ls h = record {
+inside : (edition : ℕ) (t : Tuning) (ls : List SheetLayer) → Inside t ls → WithinLimits (sheet edition t ls)
+unfolding dielectric mgf2-layers mirror-layers layers-of bragg-layers broadband-layers within beam-passes layer-within layers-within angle-passes surface-passes coded interface films wrap fold second-fold series sin-at sin cos-at cos-of cos abs clamp Ieee.rem Ieee.lt Ieee.le Ieee.eq Ieee.add Ieee.sub Ieee.mul Ieee.div Ieee.neg Ieee.ofInt Ieee.isNan ofBits
+inside edition t ls h = record {
   beam = of-true _ refl;
-  surfaces = (of-true _ refl, (of-true _ refl, (of-true _ refl, (of-true _ refl, (of-true _ refl, (of-true _ refl, (of-true _ refl, (of-true _ refl, (of-true _ refl, (of-true _ refl, (of-true _ refl, (h .0, (of-true _ refl, (of-true _ refl, (of-true _ refl, (of-true _ refl, tt))))))))))))))));
-  coefficients = (tt, (tt, (tt, (tt, (tt, (tt, (tt, (tt, (tt, (tt, ((tt, tt), (h .1, (tt, (tt, (tt, (tt, tt))))))))))))))));
+  surfaces = (of-true _ refl, (of-true _ refl, (of-true _ refl, (of-true _ refl, (of-true _ refl, (of-true _ refl, (of-true _ refl, (of-true _ refl, (of-true _ refl, (of-true _ refl, (of-true _ refl, (of-true _ refl, (of-true _ refl, (of-true _ refl, (of-true _ refl, (of-true _ refl, tt))))))))))))))));
+  holds = h .0;
+  tuned = (tt, (tt, (tt, (tt, (tt, (tt, (tt, (tt, (tt, (tt, (tt, (h .1, (tt, (tt, (tt, (tt, tt))))))))))))))));
 }
 
 abbrev first-layers : List SheetLayer
@@ -83,23 +90,36 @@ first-layers = replicate 16 coat
 abbrev second-layers : List SheetLayer
 second-layers = coat ∷ glass ∷ replicate 14 coat
 
-first-inside : Inside first-layers
-unfolding layers-of within layer-within layers-within angle-passes surface-passes passes coded interface films wrap fold second-fold series sin-at sin cos-at cos-of cos abs clamp Ieee.rem Ieee.lt Ieee.le Ieee.eq Ieee.add Ieee.sub Ieee.mul Ieee.div Ieee.neg Ieee.ofInt Ieee.isNan ofBits
-first-inside = (of-true _ refl, (tt, (tt, (tt, (tt, (tt, (tt, (tt, (tt, (tt, (tt, (tt, (tt, (tt, (tt, (tt, (tt, tt)))))))))))))))))
+-- 1,024 nm
+abbrev second-line : Tuning
+second-line = tunes 0x4090_0000_0000_0000
 
-second-inside : Inside second-layers
-unfolding cauchy-index layers-of within layer-within layers-within angle-passes surface-passes passes coded interface films wrap fold second-fold series sin-at sin cos-at cos-of cos abs clamp Ieee.rem Ieee.lt Ieee.le Ieee.eq Ieee.add Ieee.sub Ieee.mul Ieee.div Ieee.neg Ieee.ofInt Ieee.isNan ofBits
-second-inside = (of-true _ refl, (tt, (of-true _ refl, (tt, (tt, (tt, (tt, (tt, (tt, (tt, (tt, (tt, (tt, (tt, (tt, (tt, (tt, tt)))))))))))))))))
+first-inside : Inside keeps first-layers
+unfolding holds layers-hold layers-admitted layer-within within sin sin-at wrap fold second-fold series cos-at cos-of cos abs clamp Ieee.rem Ieee.lt Ieee.le Ieee.eq Ieee.add Ieee.sub Ieee.mul Ieee.div Ieee.neg Ieee.ofInt Ieee.isNan ofBits
+first-inside = (of-true _ refl, tt)
 
-pub one : EveryPayload 1 (replicate 16 4)
-one = record { sheet = sheet 1 first-layers; formed = formed 1 first-layers (inl refl) (omega arith) (coats 1 16); within = inside 1 first-layers first-inside; edition-is = refl; payloads = refl; layers = refl }
+second-inside : Inside second-line second-layers
+unfolding cauchy-index holds layers-hold layers-admitted layer-within within sin sin-at wrap fold second-fold series cos-at cos-of cos abs clamp Ieee.rem Ieee.lt Ieee.le Ieee.eq Ieee.add Ieee.sub Ieee.mul Ieee.div Ieee.neg Ieee.ofInt Ieee.isNan ofBits
+second-inside = (of-true _ refl, of-true _ refl)
 
-pub two : EveryPayload 2 (4 ∷ 6 ∷ replicate 14 4)
-two = record {
-  sheet = sheet 2 second-layers;
-  formed = formed 2 second-layers (inr refl) (omega arith) (coats 2 1 .0, ((refl, (omega arith, (omega arith, (omega arith, omega arith)))), coats 2 14));
-  within = inside 2 second-layers second-inside;
+pub one : EveryPayload 1 (replicate 16 4) keeps
+one = record {
+  sheet = sheet 1 keeps first-layers;
+  formed = formed 1 keeps first-layers tt (inl refl) (omega arith) (coats 1 16);
+  within = inside 1 keeps first-layers first-inside;
   edition-is = refl;
   payloads = refl;
   layers = refl;
+  tunings = refl;
+}
+
+pub two : EveryPayload 2 (4 ∷ 6 ∷ replicate 14 4) (tunes 0x4090_0000_0000_0000)
+two = record {
+  sheet = sheet 2 second-line second-layers;
+  formed = formed 2 second-line second-layers (refl, omega arith) (inr refl) (omega arith) (coats 2 1 .0, ((refl, (omega arith, (omega arith, (omega arith, omega arith)))), coats 2 14));
+  within = inside 2 second-line second-layers second-inside;
+  edition-is = refl;
+  payloads = refl;
+  layers = refl;
+  tunings = refl;
 }

@@ -15,14 +15,15 @@ use Rattle.surface.specs.Finite.{Answered}
 use Rattle.surface.proofs.Alone.{powers-answered}
 use Rattle.sheet.specs.Blocks.{Block}
 use Rattle.sheet.specs.Sheet.{SheetSurface, nth, Sheet, surfaces-blocks, end-block}
-use Rattle.sheet.specs.Internal.{next-place, place-on, layer-run, surface-at, layers-at, place}
+use Rattle.sheet.specs.Internal.{next-place, layer-run, tuning-at, surface-at, layers-at, onto, begin, place}
 use Rattle.sheet.proofs.Stands.{Standing, SurfaceHere, placed}
 use Rattle.sheet_values.specs.declared.Beam.{Beam}
-use Rattle.sheet_values.specs.Values.{value, beam-value, films, surface-value}
+use Rattle.sheet_values.specs.Values.{value, beam-value, films, surface-value, met-with}
 use Rattle.sheet_values.specs.Internal.{beam-at}
-use Rattle.sheet_values.proofs.Here.{beam-here, value-here, films-here}
+use Rattle.sheet_values.proofs.Here.{beam-here, value-here, films-here, tuning-here}
 use Rattle.gate.specs.Claim.{WithinLimits}
-use Rattle.sheet_surfaces.proofs.Answers.{all-nth, wavelength-within, answered}
+use Rattle.gate.proofs.Wavelengths.{Met}
+use Rattle.sheet_surfaces.proofs.Answers.{all-nth, answered}
 use Rattle.train_steps.specs.declared.Chosen as Declared
 use Rattle.train_steps.specs.declared.State.{State}
 use Rattle.train_steps.specs.Train.{chosen-of, chosen-powers, after-one}
@@ -33,7 +34,7 @@ unfolding chosen-alone chosen-powers
 alone w y a =
     ap (chosen-of (surface-value y .reflected)) (powers-answered w (surface-value y) (films w (y .layers)) (a .value) (a .is) ∙ sym (ap (map (λ (v : Answers). v .powers)) (a .is)))
 
--- ---- the i-th surface of an admitted sheet, at its place
+-- ---- the i-th surface of an admitted sheet, where it begins
 module _ (src : List ℕ) (x : Sheet) (stands : Standing src x) (within : WithinLimits x) where
   pub beam-is : (b : Beam) → b ≡ beam-at src (next-place src 0) → b ≡ beam-value x
   beam-is b e = e ∙ beam-here src x stands
@@ -45,17 +46,20 @@ module _ (src : List ℕ) (x : Sheet) (stands : Standing src x) (within : Within
     here : SurfaceHere src (place src i) y (surfaces-blocks (drop (suc i) (x .surfaces)) (end-block (length (x .surfaces)) ∷ []))
     here = placed src x stands i lt
 
-    its-answer : Answered (value (x .wavelength)) (surface-value y) (films (value (x .wavelength)) (y .layers))
-    its-answer = answered (value (x .wavelength)) (wavelength-within x within) y (all-nth _ (x .surfaces) i (within .surfaces) lt) (all-nth _ (x .surfaces) i (stands .formed .surfaces) lt .few)
+    -- the wavelength that it is met with
+    pub met-here : (at : ℕ) → at ≡ begin src i → (held : Float) → met-with held (tuning-at src at) ≡ met-with held (y .tuning)
+    met-here at q held = ap (λ (k : ℕ). met-with held (tuning-at src k)) q ∙ ap (met-with held) (tuning-here src x stands i lt)
 
-    pub chosen-here : (at : ℕ) → at ≡ place src i → (m : ℕ) → m ≡ layer-run 16 src at → chosen-at src at m (value (x .wavelength)) ≡ chosen-powers (value (x .wavelength)) y
+    pub chosen-here : (w : Float) → Met w y → (at : ℕ) → at ≡ place src i → (m : ℕ) → m ≡ layer-run 16 src at → chosen-at src at m w ≡ chosen-powers w y
     unfolding chosen-at
-    chosen-here at q m e =
-        let w = value (x .wavelength) in
+    chosen-here w good at q m e =
         let t : surface-value (surface-at src at []) ≡ surface-value y = ap (λ (k : ℕ). surface-value (surface-at src k [])) q ∙ value-here src (place src i) y _ here in
         let l : films w (layers-at src (next-place src at) m) ≡ films w (y .layers) = ap (λ (k : ℕ). films w (layers-at src (next-place src k) m)) q ∙ films-here src (place src i) y _ here w m (e ∙ ap (layer-run 16 src) q) in
-        (λ k. chosen-alone w (t k) (l k)) ∙ alone w y its-answer
+        (λ k. chosen-alone w (t k) (l k)) ∙ alone w y (answered w (good .0) y (good .1) (all-nth _ (x .surfaces) i (stands .formed .surfaces) lt .few))
 
-    pub moved-here : (at : ℕ) → at ≡ place src i → (st : State) → moved-at src at (value (x .wavelength)) st ≡ after-one (value (x .wavelength)) st y
+    pub moved-here : (at : ℕ) → at ≡ begin src i → (st : State) → Met (met-with (st .«wavelength_nm») (y .tuning)) y → moved-at src at st ≡ after-one st y
     unfolding moved-at after-one
-    moved-here at q st = ap (λ (c : Declared.Chosen). record { done = st .done + 1; s = st .s ⊗ c .s; p = st .p ⊗ c .p }) (chosen-here at q (layer-run 16 src at) refl)
+    moved-here at q st good =
+        let w = met-with (st .«wavelength_nm») (y .tuning) in
+        ap (λ (v : Float). let c = chosen-at src (onto src at) (layer-run 16 src (onto src at)) v in record { done = st .done + 1; s = st .s ⊗ c .s; p = st .p ⊗ c .p; «wavelength_nm» = v }) (met-here at q (st .«wavelength_nm»))
+        ∙ ap (λ (c : Declared.Chosen). record { done = st .done + 1; s = st .s ⊗ c .s; p = st .p ⊗ c .p; «wavelength_nm» = w }) (chosen-here w good (onto src at) (ap (onto src) q) (layer-run 16 src (onto src at)) refl)

@@ -1,14 +1,13 @@
-// The train of document 01, section 7: start, step and whole run. Each is handed the sheet's bytes and
-// gates them anew.
+// The train of document 01, section 7, and of document 02, slip 5: start, step, retune and whole run. Each is
+// handed the sheet's bytes and gates them anew.
 ghost use mathlib.Core.Path.{_≡_};
 ghost use mathlib.Core.List.{_++_};
 ghost use Prim.Native.Nat.{_+_, _*_, _≤_, _<_};
 ghost use lib.ListN.{length, drop};
 ghost use Rattle.refusal.specs.Outcome.{answer};
 ghost use Rattle.sheet.specs.Sheet.{Sheet};
-ghost use Rattle.sheet_values.specs.Values.{value};
 ghost use Rattle.gate.specs.Gate as Gate;
-ghost use Rattle.train_steps.specs.Train.{chosen, fresh, start, outcome, step, after-each, run, sum};
+ghost use Rattle.train_steps.specs.Train.{chosen, fresh, start, outcome, step, retune, after-each, run, sum};
 ghost use Rattle.train_steps.specs.Internal.{chosen-at, moved-at};
 use gate::Gated;
 use refusal::Refusal;
@@ -56,11 +55,12 @@ fn chosen_at(src: &[u8], at: usize, n: usize, wavelength_nm: f64) -> Chosen
 
 // ---- the train
 
-// Document 01's State: surfaces done, s and p.
+// Document 01's State: surfaces done, s and p; and the wavelength that is held.
 pub struct State {
     pub done: u32,
     pub s: f64,
     pub p: f64,
+    pub wavelength_nm: f64,
 }
 
 pub fn sum(s: f64, p: f64) -> f64
@@ -86,22 +86,26 @@ pub fn start(src: &[u8]) -> TrainReply
                 done: 0,
                 s: beam.s,
                 p: beam.p,
+                wavelength_nm: beam.wavelength_nm,
             })
         }
         Gated::Refused(r) => TrainReply::Refused(r),
     }
 }
 
-// The state after the surface whose SURFACE word is at a place.
-fn moved_at(src: &[u8], at: usize, wavelength_nm: f64, state: State) -> State
+// The state after the surface that begins at a place, which is met with its own kind 7's wavelength or the one held.
+fn moved_at(src: &[u8], begin: usize, state: State) -> State
     requires { ⌜ state .done < 0xFFFF_FFFF ⌝ }
-    ensures { λ r. ⌜ r ≡ moved-at (now (src .entry)) at «wavelength_nm» state ⌝ }
+    ensures { λ r. ⌜ r ≡ moved-at (now (src .entry)) begin state ⌝ }
 {
+    let wavelength_nm = sheet_values::met_with(src, begin, state.wavelength_nm);
+    let at = sheet::onto(src, begin);
     let c = chosen_at(src, at, sheet::layer_run(src, at), wavelength_nm);
     State {
         done: state.done + 1,
         s: state.s * c.s,
         p: state.p * c.p,
+        wavelength_nm,
     }
 }
 
@@ -117,9 +121,37 @@ pub fn step(src: &[u8], state: State) -> TrainReply
                     place: 0,
                 });
             }
-            let at = sheet::place_of(src, state.done);
-            let beam = sheet_values::beam_of(src);
-            TrainReply::State(moved_at(src, at, beam.wavelength_nm, state))
+            if !gate::holds(src, state.done, count, state.wavelength_nm) {
+                return TrainReply::Refused(Refusal {
+                    number: 11,
+                    place: 0,
+                });
+            }
+            let begin = sheet::begin_of(src, state.done);
+            TrainReply::State(moved_at(src, begin, state))
+        }
+        Gated::Refused(r) => TrainReply::Refused(r),
+    }
+}
+
+// A new wavelength for the surfaces not yet done, from any state; a refusal leaves the state as it was.
+pub fn retune(src: &[u8], state: State, wavelength_nm: f64) -> TrainReply
+    ensures { λ r. ⌜ outcome r ≡ retune (now (src .entry)) state «wavelength_nm» ⌝ }
+{
+    match gate::gate(src) {
+        Gated::Admitted(count) => {
+            if !gate::holds(src, state.done, count, wavelength_nm) {
+                return TrainReply::Refused(Refusal {
+                    number: 11,
+                    place: 0,
+                });
+            }
+            TrainReply::State(State {
+                done: state.done,
+                s: state.s,
+                p: state.p,
+                wavelength_nm,
+            })
         }
         Gated::Refused(r) => TrainReply::Refused(r),
     }
@@ -130,21 +162,24 @@ pub fn step(src: &[u8], state: State) -> TrainReply
 // The powers after each of count surfaces, written to a list that has room for them.
 fn write_each(src: &[u8], count: usize, list: &mut [f64])
     requires { ⌜ (count ≤ 0xFFFF_FFFF) × (2 * count ≤ length (now list)) ⌝ }
-    ensures { λ r. ⌜ ((x : Sheet) → Gate.gated (now (src .entry)) ≡ answer x → length (x .surfaces) ≡ count → now (list .exit) ≡ after-each (value (x .wavelength)) (fresh x) (x .surfaces) ++ drop (2 * count) (now (list .entry))) ⌝ }
+    ensures { λ r. ⌜ ((x : Sheet) → Gate.gated (now (src .entry)) ≡ answer x → length (x .surfaces) ≡ count → now (list .exit) ≡ after-each (fresh x) (x .surfaces) ++ drop (2 * count) (now (list .entry))) ⌝ }
 {
     let beam = sheet_values::beam_of(src);
     let mut s = beam.s;
     let mut p = beam.p;
-    let mut at = sheet::place_of(src, 0);
+    let mut wavelength_nm = beam.wavelength_nm;
+    let mut begin = sheet::begin_of(src, 0);
     let mut i = 0;
     while i < count {
+        wavelength_nm = sheet_values::met_with(src, begin, wavelength_nm);
+        let at = sheet::onto(src, begin);
         let n = sheet::layer_run(src, at);
-        let c = chosen_at(src, at, n, beam.wavelength_nm);
+        let c = chosen_at(src, at, n, wavelength_nm);
         s = s * c.s;
         p = p * c.p;
         list[2 * i] = s;
         list[2 * i + 1] = p;
-        at = sheet::place_on(src, at, n + 1);
+        begin = sheet::place_on(src, at, n + 1);
         i += 1;
     }
 }

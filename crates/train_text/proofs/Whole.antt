@@ -10,7 +10,6 @@ use lib.ListN.{length, take, drop}
 use lib.Ieee.{Float}
 use Rattle.refusal.specs.Outcome.{Outcome, answer, refusal, map}
 use Rattle.sheet.specs.Sheet.{Sheet}
-use Rattle.sheet_values.specs.Values.{value}
 use Rattle.gate.specs.Gate.{gated}
 use Rattle.train_steps.specs.declared.State.{State}
 use Rattle.train_steps.specs.Train.{fresh, start, after-each, Ran, ran, run}
@@ -60,7 +59,7 @@ module _ (src : List ℕ) (list : List Float) (long : length list ≡ 128) where
     ran-text {p} {q} {r} n is h = go (gated src) refl e
       where
         at : (x : Sheet) → gated src ≡ answer x → (b : Bool) → leb (2 * length (x .surfaces)) (length list) ≡ b
-            → record { result = g; list = out } ≡ cond {A = Ran} b (record { result = answer (length (x .surfaces)); list = after-each (value (x .wavelength)) (fresh x) (x .surfaces) ++ drop (2 * length (x .surfaces)) list }) (record { result = refusal 8 0; list = list })
+            → record { result = g; list = out } ≡ cond {A = Ran} b (record { result = answer (length (x .surfaces)); list = after-each (fresh x) (x .surfaces) ++ drop (2 * length (x .surfaces)) list }) (record { result = refusal 8 0; list = list })
             → Appended p 0 (text (cond b (answer x) (refusal 8 0))) r q
         at x f true t d =
             let k : answer (length (x .surfaces)) ≡ answer n = sym (ap (λ (z : Ran). z .result) d) ∙ is in

@@ -7,7 +7,6 @@ use lib.ListN.{length, take}
 use lib.Ieee.{Float}
 use Rattle.refusal.specs.Outcome.{Outcome, answer, refusal}
 use Rattle.sheet.specs.Sheet.{Sheet}
-use Rattle.sheet_values.specs.Values.{value}
 use Rattle.gate.specs.Gate.{gated}
 use Rattle.sheet_surfaces.specs.declared.NumberedSurface.{NumberedSurface}
 use Rattle.train_steps.specs.Train.{fresh, after-each}
@@ -30,4 +29,4 @@ pub record RunOf (src : List ℕ) (x : Sheet) (s p : Float) (count : ℕ) (list 
   pub begins-p : p ≡ fresh x .p
   pub counts : length (x .surfaces) ≡ count
   pub rest : List Float
-  pub wrote : list ≡ after-each (value (x .wavelength)) (fresh x) (x .surfaces) ++ rest
+  pub wrote : list ≡ after-each (fresh x) (x .surfaces) ++ rest

@@ -9,7 +9,7 @@ use lib.ListN.{length, drop}
 use lib.Ieee.{Float, binary64, eq, toBits}
 use Rattle.refusal.specs.Outcome.{Outcome, answer, refusal, refused}
 use Rattle.sheet.specs.Sheet.{SheetSurface, Sheet}
-use Rattle.sheet_values.specs.Values.{value, surface-value}
+use Rattle.sheet_values.specs.Values.{surface-value}
 use Rattle.gate.specs.Gate.{gated}
 use Rattle.train_steps.specs.declared.State.{State}
 use Rattle.train_steps.specs.Train.{fresh, after-one, sum}
@@ -61,14 +61,14 @@ unfoldable pub refused-line : ℕ → ℕ → List ℕ
 refused-line number place = 114 ∷ 101 ∷ 102 ∷ 117 ∷ 115 ∷ 101 ∷ 100 ∷ 32 ∷ (decimal number ++ (32 ∷ (decimal place ++ (10 ∷ []))))
 
 -- the lines of the surfaces that are left of a train in a state: one for each step, with the surfaces done then; last the sum's
-unfoldable pub lines : Float → State → List SheetSurface → List ℕ
-lines wavelength st [] = sum-line (st .s) (st .p)
-lines wavelength st (y ∷ ys) =
-    let next = after-one wavelength st y in
-    surface-line (next .done) (surface-value y .reflected) (next .s) (next .p) ++ lines wavelength next ys
+unfoldable pub lines : State → List SheetSurface → List ℕ
+lines st [] = sum-line (st .s) (st .p)
+lines st (y ∷ ys) =
+    let next = after-one st y in
+    surface-line (next .done) (surface-value y .reflected) (next .s) (next .p) ++ lines next ys
 
 unfoldable pub text : Outcome Sheet → List ℕ
-text (answer x) = lines (value (x .wavelength)) (fresh x) (x .surfaces)
+text (answer x) = lines (fresh x) (x .surfaces)
 text (refusal number place) = refused-line number place
 
 -- a run of the sheet has a list of 128 places. That is enough for the 64 surfaces that a sheet has at the most (specs/Claim.antt), so that

@@ -21,7 +21,7 @@ refused n1-low n1-high n2-low n2-high r n list e is =
     refuses ranged r o n list e (sound-apart o (sound n1-low n1-high n2-low n2-high)) is
 
 returns : tie.Need-returns
-returns c = answers ranged _ _ _ _ (sym (ap outcome (c .before .before .before .before .before .reply .given .1)) ∙ c .before .before .before .before .before .before .before .reflectance-range .ensures) (c .before .before .put-powers .ensures)
+returns c = answers ranged _ _ _ _ (sym (ap outcome (c .before .before .before .before .before .reply .given .1)) ∙ c .before .before .before .before .before .before .before .reflectance-range .ensures) (c .before .before .put-both .ensures)
 
 returns-2 : tie.Need-returns-2
 returns-2 c = refused _ _ _ _ _ _ _ (sym (ap outcome (c .before .before .reply2 .given .1)) ∙ c .before .before .before .before .reflectance-range .ensures) (c .packed .ensures)

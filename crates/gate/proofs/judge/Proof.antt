@@ -9,7 +9,7 @@ use borrow.Author.Needs.{needs}
 use borrow.Author.Tests.{eq-eqb, ne-eqb}
 use Rattle.gate_limits.specs.declared.Judgement.{Judgement}
 use Rattle.gate_limits.specs.declared.Surface.{Surface}
-use Rattle.gate_limits.specs.Limits.{beam-passes, layer-within, judgement}
+use Rattle.gate_limits.specs.Limits.{wavelength-passes, beam-passes, layer-within, judgement}
 use Rattle.thin_film_solver.specs.declared.ThinFilmLayer.{ThinFilmLayer}
 use Rattle.sheet.specs.Words.{word, kind}
 use Rattle.sheet.specs.Internal.{surface-at}
@@ -38,9 +38,13 @@ module _ (src : List ℕ) (at k : ℕ) (v b : Float) (is : k ≡ kind (word src 
   unfolding judgement-at
   cauchy e g g-is t t-is = simp (t-is, g-is, sym is, e)
 
-  other : (k ≡ 2 → ⊥) → (k ≡ 3 → ⊥) → (k ≡ 4 → ⊥) → (k ≡ 6 → ⊥) → record { passes = Bool.true; snell = b } ≡ judgement-at src at v b
+  tuning : k ≡ 7 → (t : Bool) → t ≡ wavelength-passes v → record { passes = t; snell = b } ≡ judgement-at src at v b
   unfolding judgement-at
-  other p q r s = simp (sym is, ne-eqb _ _ p, ne-eqb _ _ q, ne-eqb _ _ r, ne-eqb _ _ s)
+  tuning e t t-is = simp (t-is, sym is, e)
+
+  other : (k ≡ 2 → ⊥) → (k ≡ 3 → ⊥) → (k ≡ 4 → ⊥) → (k ≡ 6 → ⊥) → (k ≡ 7 → ⊥) → record { passes = Bool.true; snell = b } ≡ judgement-at src at v b
+  unfolding judgement-at
+  other p q r s t = simp (sym is, ne-eqb _ _ p, ne-eqb _ _ q, ne-eqb _ _ r, ne-eqb _ _ s, ne-eqb _ _ t)
 
 returns : tie.Need-returns
 returns c = beam _ _ _ _ _ (c .before .before .before .kind-at .ensures) (c .before .before .if1 .taken) _ (c .before .beam-at .ensures) _ (c .beam-passes .ensures)
@@ -55,7 +59,10 @@ returns-4 : tie.Need-returns-4
 returns-4 c = cauchy _ _ _ _ _ (c .before .before .before .before .before .before .kind-at .ensures) (c .before .before .if4 .taken) _ (c .before .cauchy-at .ensures) _ (c .cauchy-passes .ensures)
 
 returns-5 : tie.Need-returns-5
-returns-5 c = other _ _ _ _ _ (c .before .before .before .before .kind-at .ensures) (c .before .before .before .if1 .left) (c .before .before .if2 .left) (c .before .if3 .left) (c .if4 .left)
+returns-5 c = tuning _ _ _ _ _ (c .before .before .before .before .before .before .kind-at .ensures) (c .before .if5 .taken) _ (c .wavelength-passes .ensures)
+
+returns-6 : tie.Need-returns-6
+returns-6 c = other _ _ _ _ _ (c .before .before .before .before .before .kind-at .ensures) (c .before .before .before .before .if1 .left) (c .before .before .before .if2 .left) (c .before .before .if3 .left) (c .before .if4 .left) (c .if5 .left)
 
 pub judge-spec : {M : Type 1} → statement M
-judge-spec = tie.close (tie.spec (λ c κs. search needs) (λ c κs. search needs) (λ c κs. search needs) returns (λ c κs. search needs) (λ c κs. search needs) returns-2 (λ c κs. search needs) (λ c κs. search needs) returns-3 (λ c κs. search needs) (λ c κs. search needs) returns-4 returns-5)
+judge-spec = tie.close (tie.spec (λ c κs. search needs) (λ c κs. search needs) (λ c κs. search needs) returns (λ c κs. search needs) (λ c κs. search needs) returns-2 (λ c κs. search needs) (λ c κs. search needs) returns-3 (λ c κs. search needs) (λ c κs. search needs) returns-4 (λ c κs. search needs) returns-5 returns-6)

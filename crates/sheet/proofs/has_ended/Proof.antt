@@ -6,4 +6,4 @@ use Rattle.sheet.proofs.has_ended.Tie as tie
 
 pub has-ended-spec : {M : Type 1} → statement M
 unfolding may-end
-has-ended-spec = tie.close (tie.spec (λ c. search needs) (λ c. search needs) (λ c. search needs) (λ c. search needs) (λ c. search needs) (λ c. search needs) (λ c. search needs) (λ c. search needs))
+has-ended-spec = tie.close (tie.spec (λ c. search needs) (λ c. search needs) (λ c. search needs) (λ c. search needs) (λ c. search needs) (λ c. search needs) (λ c. search needs) (λ c. search needs) (λ c. search needs) (λ c. search needs))

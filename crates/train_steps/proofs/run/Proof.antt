@@ -11,7 +11,6 @@ use Rattle.refusal.specs.declared.Refusal.{Refusal}
 use Rattle.refusal.specs.Outcome.{answer, refusal, refused}
 use Rattle.sheet.specs.Sheet.{Sheet}
 use Rattle.sheet.proofs.Stands.{Known}
-use Rattle.sheet_values.specs.Values.{value}
 use Rattle.gate.specs.Gate as Gate
 use Rattle.gate.specs.Gate.{gated, gate}
 use Rattle.gate.proofs.Admitted.{admitted, turned-back}
@@ -28,13 +27,13 @@ module _ (src : List ℕ) (list : List Float) where
         rw (a .is, lt-leb (2 * length (a .sheet .surfaces)) (length list) (omega (arith, a .counts)))
 
     whole : 2 * n ≤ length list → (out : List Float)
-        → ((x : Sheet) → gated src ≡ answer x → length (x .surfaces) ≡ n → out ≡ after-each (value (x .wavelength)) (fresh x) (x .surfaces) ++ drop (2 * n) list) → record { result = answer n; list = out } ≡ run src list
+        → ((x : Sheet) → gated src ≡ answer x → length (x .surfaces) ≡ n → out ≡ after-each (fresh x) (x .surfaces) ++ drop (2 * n) list) → record { result = answer n; list = out } ≡ run src list
     unfolding run
     whole h out f =
         let a = admitted src n known e in
         let xs = a .sheet .surfaces in
-        let o : out ≡ after-each (value (a .sheet .wavelength)) (fresh (a .sheet)) xs ++ drop (2 * length xs) list =
-        f (a .sheet) (a .is) (a .counts) ∙ ap (λ (k : ℕ). after-each (value (a .sheet .wavelength)) (fresh (a .sheet)) xs ++ drop (2 * k) list) (sym (a .counts))
+        let o : out ≡ after-each (fresh (a .sheet)) xs ++ drop (2 * length xs) list =
+        f (a .sheet) (a .is) (a .counts) ∙ ap (λ (k : ℕ). after-each (fresh (a .sheet)) xs ++ drop (2 * k) list) (sym (a .counts))
         in
         rw (a .is, le-leb (2 * length xs) (length list) (omega (arith, a .counts)), a .counts) (λ i. record { result = answer n; list = rw (a .counts) at o i })
 

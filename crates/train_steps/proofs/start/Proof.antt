@@ -20,7 +20,7 @@ use Rattle.train_steps.proofs.start.Statement.{statement}
 use Rattle.train_steps.proofs.start.Tie as tie
 
 abbrev begin : Beam → State
-begin b = record { done = 0; s = b .s; p = b .p }
+begin b = record { done = 0; s = b .s; p = b .p; «wavelength_nm» = b .«wavelength_nm» }
 
 begun : (src : List ℕ) (n : ℕ) → Known src → answer n ≡ gate src → (b : Beam) → b ≡ beam-at src (next-place src 0) → answer (begin b) ≡ start src
 unfolding start

@@ -1,26 +1,29 @@
 -- `train_steps::step` meets its contract. Assumes nothing.
-use mathlib.Core.Path.{_≡_, sym, ap, _∙_}
+use mathlib.Core.Path.{_≡_, refl, sym, ap, _∙_}
+use mathlib.Core.Bool.{Bool, true, false, not}
 use mathlib.Core.List.{List}
 use Prim.Native.Nat.{ℕ, _-_, _≤_, _<_}
 use native.Mathlib.Omega.{arith}
 use borrow.Author.Needs.{needs}
-use borrow.Author.Tests.{lt-ltb, le-ltb}
-use lib.ListN.{length}
+use borrow.Author.Tests.{lt-ltb, le-ltb, not-true, not-false}
+use lib.ListN.{length, drop}
 use lib.Ieee.{Float}
 use Rattle.refusal.specs.declared.Refusal.{Refusal}
 use Rattle.refusal.specs.Outcome.{Outcome, answer, refusal, refused, bind}
 use Rattle.sheet.specs.Sheet.{Sheet}
-use Rattle.sheet.specs.Internal.{next-place, place}
+use Rattle.sheet.specs.Internal.{begin}
 use Rattle.sheet.proofs.Stands.{Known}
-use Rattle.sheet_values.specs.declared.Beam.{Beam}
-use Rattle.sheet_values.specs.Internal.{beam-at}
+use Rattle.ieee.proofs.Signs.{of-true}
+use Rattle.gate.specs.Wavelength.{holds}
+use Rattle.gate.specs.Internal.{holds-at}
 use Rattle.gate.specs.Gate as Gate
 use Rattle.gate.specs.Gate.{gate}
 use Rattle.gate.proofs.Admitted.{admitted, turned-back}
 use Rattle.train_steps.specs.declared.State.{State}
 use Rattle.train_steps.specs.Train.{stepped, step}
 use Rattle.train_steps.specs.Internal.{moved-at}
-use Rattle.train_steps.proofs.Here.{beam-is, moved-here}
+use Rattle.train_steps.proofs.Takes.{takes, tested}
+use Rattle.train_steps.proofs.Here.{moved-here}
 use Rattle.train_steps.proofs.step.Statement.{statement}
 use Rattle.train_steps.proofs.step.Tie as tie
 
@@ -32,13 +35,22 @@ module _ (src : List ℕ) (st : State) where
         let a = admitted src n known e in
         rw (a .is, le-ltb (st .done) (length (a .sheet .surfaces)) (omega (arith, a .counts)))
 
-    one-more : st .done < n → (at : ℕ) → at ≡ place src (st .done) → (b : Beam) → b ≡ beam-at src (next-place src 0) → (next : State) → next ≡ moved-at src at (b .«wavelength_nm») st → answer next ≡ step src st
-    unfolding step
-    one-more h at q b eb next en =
-        let a = admitted src n known e in
-        let d : st .done < length (a .sheet .surfaces) = omega (arith, a .counts) in
-        rw (a .is, lt-ltb (st .done) (length (a .sheet .surfaces)) d)
-        (ap answer (en ∙ ap (λ (z : Beam). moved-at src at (z .«wavelength_nm») st) (beam-is src (a .sheet) (a .stands) (a .within) b eb) ∙ moved-here src (a .sheet) (a .stands) (a .within) (st .done) d at q st))
+    module _ (h : st .done < n) (t : Bool) (t-is : t ≡ holds-at src (st .done) n (st .«wavelength_nm»)) where
+      bad-wavelength : not t ≡ true → refusal 11 0 ≡ step src st
+      unfolding step
+      bad-wavelength f =
+          let a = admitted src n known e in
+          rw (a .is, lt-ltb (st .done) (length (a .sheet .surfaces)) (omega (arith, a .counts)), sym (tested src n a (st .done) (st .«wavelength_nm») t t-is) ∙ not-true t f) refl
+
+      one-more : not t ≡ false → (at : ℕ) → at ≡ begin src (st .done) → (next : State) → next ≡ moved-at src at st → answer next ≡ step src st
+      unfolding step
+      one-more f at q next en =
+          let a = admitted src n known e in
+          let d : st .done < length (a .sheet .surfaces) = omega (arith, a .counts) in
+          let g : holds (st .«wavelength_nm») (drop (st .done) (a .sheet .surfaces)) ≡ true = sym (tested src n a (st .done) (st .«wavelength_nm») t t-is) ∙ not-false t f in
+          let m = takes (a .sheet) (a .within) (st .«wavelength_nm») (st .done) (of-true _ g) d in
+          rw (a .is, lt-ltb (st .done) (length (a .sheet .surfaces)) d, g)
+          (ap answer (en ∙ moved-here src (a .sheet) (a .stands) (a .within) (st .done) d at q st (m .0)))
 
   not-taken : (r : Refusal) → refused r ≡ gate src → refused r ≡ step src st
   unfolding step
@@ -47,14 +59,17 @@ module _ (src : List ℕ) (st : State) where
 returns : tie.Need-returns
 returns c = no-more _ _ _ (c .before .before .before .before .before .before .shared-slice-known .given) (sym (ap Gate.outcome (c .before .before .before .count .given .1)) ∙ c .before .before .before .before .before .gate .ensures) (c .if1 .taken)
 
-moved-at-requires : tie.Need-moved-at-requires
-moved-at-requires c κs = omega (arith, c .before .before .if1 .left)
-
 returns-2 : tie.Need-returns-2
-returns-2 c = one-more _ _ _ (c .before .before .before .before .before .before .before .before .before .shared-slice-known .given) (sym (ap Gate.outcome (c .before .before .before .before .before .before .count .given .1)) ∙ c .before .before .before .before .before .before .before .before .gate .ensures) (c .before .before .before .if1 .left) _ (c .before .before .place-of .ensures) _ (c .before .beam-of .ensures) _ (c .moved-at .ensures)
+returns-2 c = bad-wavelength _ _ _ (c .before .before .before .before .before .before .before .before .shared-slice-known .given) (sym (ap Gate.outcome (c .before .before .before .before .before .count .given .1)) ∙ c .before .before .before .before .before .before .before .gate .ensures) (c .before .before .if1 .left) _ (c .before .holds .ensures) (c .if2 .taken)
+
+moved-at-requires : tie.Need-moved-at-requires
+moved-at-requires c κs = omega (arith, c .before .before .before .if1 .left)
 
 returns-3 : tie.Need-returns-3
-returns-3 c = not-taken _ _ _ (sym (ap Gate.outcome (c .before .r .given .1)) ∙ c .before .before .before .gate .ensures)
+returns-3 c = one-more _ _ _ (c .before .before .before .before .before .before .before .before .before .before .shared-slice-known .given) (sym (ap Gate.outcome (c .before .before .before .before .before .before .before .count .given .1)) ∙ c .before .before .before .before .before .before .before .before .before .gate .ensures) (c .before .before .before .before .if1 .left) _ (c .before .before .before .holds .ensures) (c .before .before .if2 .left) _ (c .before .begin-of .ensures) _ (c .moved-at .ensures)
+
+returns-4 : tie.Need-returns-4
+returns-4 c = not-taken _ _ _ (sym (ap Gate.outcome (c .before .r .given .1)) ∙ c .before .before .before .gate .ensures)
 
 pub step-spec : {M : Type 1} → statement M
-step-spec = tie.close (tie.spec (λ c κs. search needs) (λ c. search needs) returns (λ c κs. search needs) (λ c κs. search needs) moved-at-requires (λ c. search needs) returns-2 returns-3)
+step-spec = tie.close (tie.spec (λ c κs. search needs) (λ c. search needs) returns (λ c κs. search needs) returns-2 (λ c κs. search needs) moved-at-requires (λ c. search needs) returns-3 returns-4)
