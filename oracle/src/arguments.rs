@@ -54,15 +54,17 @@ pub enum Arg {
     Sheet,
     /// A sheet, with fewer fixed cases.
     Start,
-    /// Surfaces done, s and p, then a sheet.
+    /// Surfaces done, s, p and the wavelength held, then a sheet.
     Step,
+    /// A wavelength, then the same.
+    Retune,
     /// A list's length, then a sheet.
     Run,
     /// A surface's number, counted from 0, then a sheet.
     Answers,
-    /// A count of steps, then a sheet.
-    Steps,
-    /// The length of a list that holds s and p.
+    /// A count of actions, each of them, then a sheet.
+    Actions,
+    /// The length of a list that holds two numbers.
     Pair,
     /// The length of a list that holds a response or a surface's answers.
     Room,
@@ -205,7 +207,8 @@ impl Arg {
             Arg::Step => train::push_step(rng, words),
             Arg::Run => train::push_run(rng, words),
             Arg::Answers => train::push_answers(rng, words),
-            Arg::Steps => train::push_steps(rng, words),
+            Arg::Retune => train::push_retune(rng, words),
+            Arg::Actions => train::push_actions(rng, words),
             Arg::Pair => words.push(rng.pick(&[0, 1, 2, 2, 2, 3])),
             Arg::Room => words.push(rng.pick(&exports::ROOMS)),
             Arg::StackRoom if rng.one_in(2) => words.push(200),

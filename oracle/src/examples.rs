@@ -1,13 +1,14 @@
 // Named example sheets: every coating in both directions, no surfaces and 64, layers, and each refusal at several places.
 
 use crate::sheet_cases::from_words;
-use crate::sheets::{example, largest, largest_of_two, mixed, plain, varied, Face, Plan};
+use crate::sheets::{example, largest, largest_of_two, mixed, plain, retuned, varied, Face, Plan};
 
 fn face(payload: u32, numbers: [f64; 3], layers: &[[f64; 3]]) -> Face {
     Face {
         payload,
         numbers,
         layers: plain(layers),
+        retune: None,
     }
 }
 
@@ -82,6 +83,13 @@ fn admitted() -> Vec<(String, Vec<u8>)> {
     add("64_surfaces_of_16_glasses", largest_of_two());
     add("edition_2", of_two(varied()));
     add("glasses_and_layers", mixed());
+    add("retuned_twice", retuned());
+    add("retuned_before_the_first", {
+        let mut sheet = of_two(plan(vec![face(10, [1.0, 1.52, 0.3], &LAYERS)]));
+        sheet.surfaces[0].layers[1] = GLASS.to_vec();
+        sheet.surfaces[0].retune = Some(1064.0);
+        sheet
+    });
     add("glasses_from_the_denser_side", {
         let mut sheet = of_two(plan(vec![face(11, [1.52, 1.0, 0.3], &LAYERS)]));
         sheet.surfaces[0].layers[1] = GLASS.to_vec();
@@ -126,10 +134,10 @@ fn refused() -> Vec<(String, Vec<u8>)> {
     add("4_30504_bytes", [&longest[..], &[0; 4]].concat());
     let longest_of_two = largest_of_two().bytes();
     add(
-        "4_38692_bytes_of_edition_1",
+        "4_39460_bytes_of_edition_1",
         [&whole[..4], &longest_of_two[4..]].concat(),
     );
-    add("4_38696_bytes", [&longest_of_two[..], &[0; 4]].concat());
+    add("4_39464_bytes", [&longest_of_two[..], &[0; 4]].concat());
     // 5
     add("5_edition_0", with(0, 0x1000_0000));
     add("5_edition_3", with(0, 0x1000_0003));
@@ -146,6 +154,24 @@ fn refused() -> Vec<(String, Vec<u8>)> {
         sheet.edition = 2;
         sheet.surfaces[0].layers = vec![GLASS.to_vec(); 17];
         sheet.bytes()
+    });
+    add("5_retuned_in_edition_1", {
+        let mut sheet = varied();
+        sheet.surfaces[1].retune = Some(632.8);
+        sheet.bytes()
+    });
+    add("5_retuned_at_the_end", {
+        let mut words = of_two(example()).write().words;
+        words.splice(15..15, [0x7000_0000, 0x4080_0000, 0]);
+        from_words(&words)
+    });
+    add("5_retuned_twice_at_once", {
+        let mut words = of_two(example()).write().words;
+        words.splice(
+            8..8,
+            [0x7000_0000, 0x4080_0000, 0, 0x7000_0000, 0x4080_0000, 0],
+        );
+        from_words(&words)
     });
     add("5_no_beam", with(1, 0x3000_0000));
     add("5_payload_16", with(8, 0x3000_0010));
@@ -227,5 +253,16 @@ fn refused() -> Vec<(String, Vec<u8>)> {
         glass(2, [1.5, f64::INFINITY, 0.0, 80.0]),
     );
     add("6_glass_too_thick", glass(2, [1.5, 0.0042, 0.0, 100_001.0]));
+    add("6_retuned_to_99", {
+        let mut sheet = retuned();
+        sheet.surfaces[1].retune = Some(99.0);
+        sheet.bytes()
+    });
+    add("6_glass_fails_at_its_retune", {
+        let mut sheet = retuned();
+        sheet.surfaces[2].retune = Some(100.0);
+        sheet.surfaces[2].layers[0] = vec![1.45, 0.035, 0.0, 10.0];
+        sheet.bytes()
+    });
     list
 }

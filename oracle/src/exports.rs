@@ -1,18 +1,19 @@
-// The train through the static library `dihkelu`: gate, start, step, whole run and answers, held against `sheet` and
-// `train`, with what a refusal leaves in the lent list.
+// The train through the static library `dihkelu`: gate, start, step, retune, lists of these, whole run and answers, held
+// against `sheet` and `train`, with what a refusal leaves in what was lent.
 
 use crate::arguments::{random, Arg};
 use crate::dihkelu;
 use crate::functions::born_wolf::to_mueller_born_wolf;
 use crate::functions::exports::{mueller, reflectance_range, stack};
 use crate::functions::quarter_waves::{multiples, quarter_waves};
+use crate::functions::train::{actions, tune};
 use crate::progress::Progress;
 use crate::ranges;
 use crate::record::{bits, numbers, Arguments};
 use crate::reference::polarization::JonesMatrix;
 use crate::sheet::{gate, Refusal};
 use crate::sheets::sheet;
-use crate::train::{answers, run, start, step, Light, State};
+use crate::train::{answers, listed, retune, run, start, step, Action, Light, State};
 use crate::values::{any, Rng};
 
 // What each call returned, as one number.
@@ -21,13 +22,45 @@ pub fn linked_gate(sheet: &[u8]) -> u64 {
     returned(dihkelu::gate(sheet))
 }
 
-pub fn linked_start(sheet: &[u8], list: &mut [f64]) -> u64 {
-    returned(dihkelu::start(sheet, list))
+/// A state as the library takes it, and back.
+fn train_of(state: State) -> dihkelu::Train {
+    dihkelu::Train {
+        surfaces_done: state.done as u32,
+        s: state.s,
+        p: state.p,
+        wavelength_nm: state.wavelength,
+    }
 }
 
-pub fn linked_step(sheet: &[u8], state: State, list: &mut [f64]) -> u64 {
-    let done = state.done as u32;
-    returned(dihkelu::step(sheet, done, state.s, state.p, list))
+fn state_of(train: dihkelu::Train) -> State {
+    State {
+        done: u64::from(train.surfaces_done),
+        s: train.s,
+        p: train.p,
+        wavelength: train.wavelength_nm,
+    }
+}
+
+/// What a call returned, and the state that it left of the one that it was lent.
+fn moved(
+    lent: State,
+    call: impl FnOnce(&mut dihkelu::Train) -> Result<u32, dihkelu::Refusal>,
+) -> (u64, State) {
+    let mut train = train_of(lent);
+    let outcome = call(&mut train);
+    (returned(outcome), state_of(train))
+}
+
+pub fn linked_start(sheet: &[u8], lent: State) -> (u64, State) {
+    moved(lent, |train| dihkelu::start(sheet, train))
+}
+
+pub fn linked_step(sheet: &[u8], lent: State) -> (u64, State) {
+    moved(lent, |train| dihkelu::step(sheet, train))
+}
+
+pub fn linked_retune(sheet: &[u8], lent: State, wavelength: f64) -> (u64, State) {
+    moved(lent, |train| dihkelu::retune(sheet, train, wavelength))
 }
 
 pub fn linked_run(sheet: &[u8], list: &mut [f64]) -> u64 {
@@ -109,12 +142,88 @@ fn expected(answer: Result<(u64, Vec<f64>), Refusal>, room: usize) -> (u64, Vec<
     }
 }
 
-fn step_agrees(bytes: &[u8], state: State, room: usize) -> bool {
-    let mut list = filled(room);
-    let returned = linked_step(bytes, state, &mut list);
-    let answer = step(bytes, state).map(|next| (next.done, vec![next.s, next.p]));
-    let (number, written) = expected(answer, room);
-    left(returned, number, &list, &written)
+/// A state whose floats are NaNs of their own: a store, even of a NaN, would show.
+fn odd_state() -> State {
+    State {
+        done: 7,
+        s: odd(0),
+        p: odd(1),
+        wavelength: odd(2),
+    }
+}
+
+/// Whether a call returned what it should and left the state so: the next one, all NaNs being one, or each bit as lent.
+fn stands(ours: (u64, State), lent: State, theirs: Result<(u64, State), Refusal>) -> bool {
+    let floats = |state: State| [state.s, state.p, state.wavelength];
+    let (number, state, pattern): (u64, State, fn(f64) -> u64) = match theirs {
+        Ok((number, state)) => (number, state, bits),
+        Err(refusal) => (packed(refusal), lent, f64::to_bits),
+    };
+    ours.0 == number
+        && ours.1.done == state.done
+        && floats(ours.1).map(pattern) == floats(state).map(pattern)
+}
+
+fn step_agrees(bytes: &[u8], state: State) -> bool {
+    let next = step(bytes, state).map(|next| (next.done, next));
+    stands(linked_step(bytes, state), state, next)
+}
+
+fn retune_agrees(bytes: &[u8], state: State, wavelength: f64) -> bool {
+    let next = retune(bytes, state, wavelength).map(|next| (next.done, next));
+    stands(linked_retune(bytes, state, wavelength), state, next)
+}
+
+/// A list of actions from Start: each number and each state, held to those that the sheet and the list alone give.
+fn list_agrees(bytes: &[u8], actions: &[Action], spoiled: bool) -> bool {
+    let Ok(sheet) = gate(bytes) else {
+        return true;
+    };
+    let mut state = linked_start(bytes, odd_state()).1;
+    let listed = listed(&sheet, actions);
+    actions.iter().zip(listed).all(|(action, (number, next))| {
+        let number = number ^ u64::from(spoiled);
+        let ours = match action {
+            Action::Step => linked_step(bytes, state),
+            Action::Retune(wavelength) => linked_retune(bytes, state, *wavelength),
+        };
+        let theirs = match number {
+            0 => Ok((next.done, next)),
+            _ => Err(Refusal { number, place: 0 }),
+        };
+        let agrees = stands(ours, state, theirs) && ours.1.done == next.done;
+        state = ours.1;
+        agrees && [state.s, state.p].map(bits) == [next.s, next.p].map(bits)
+    })
+}
+
+/// Holds lists of up to 200 steps and retunes on random sheets against the slip's words. Returns actions, and lists that
+/// differ.
+pub fn compare_lists(seed: u64, count: u64, spoiled: Option<u64>) -> (u64, u64) {
+    let mut rng = Rng::new(seed);
+    let mut progress = Progress::new("lists", count);
+    let (mut made, mut different) = (0, 0);
+    for number in 0..count {
+        let bytes = loop {
+            let bytes = sheet(&mut rng);
+            if gate(&bytes).is_ok() {
+                break bytes;
+            }
+        };
+        let mut list = actions(&mut rng, &bytes);
+        if spoiled == Some(number) {
+            list.push(Action::Step);
+        }
+        made += list.len() as u64;
+        if !list_agrees(&bytes, &list, spoiled == Some(number)) {
+            if different == 0 {
+                println!("list: sheet {bytes:02X?}, {list:?}");
+            }
+            different += 1;
+        }
+        progress.step();
+    }
+    (made, different)
 }
 
 /// A surface's answers as `dihkelu_answers` lays them out; 7 where there is no such surface.
@@ -124,8 +233,9 @@ fn laid_out(bytes: &[u8], surface: u32) -> Result<Vec<f64>, Refusal> {
         number: 7,
         place: 0,
     };
-    let surface = sheet.surfaces.get(surface as usize).ok_or(none)?;
-    let answers = answers(surface, sheet.wavelength);
+    let number = surface as usize;
+    let surface = sheet.surfaces.get(number).ok_or(none)?;
+    let answers = answers(surface, sheet.met(number));
     let (coated, powers, response) = match &answers.light {
         Light::Bare(p) => (0.0, [p.reflected, p.transmitted].concat(), Vec::new()),
         Light::Coated(r) => {
@@ -169,15 +279,10 @@ fn sheet_agrees(bytes: &[u8], rng: &mut Rng, spoiled: bool) -> (u64, Option<&'st
     if linked_gate(bytes) != number ^ u64::from(spoiled) {
         return (calls, Some("gate"));
     }
-    for room in [0, 1, 2, 3] {
-        let mut list = filled(room);
-        let returned = linked_start(bytes, &mut list);
-        let answer = gate(bytes).map(|x| (count as u64, vec![start(&x).s, start(&x).p]));
-        let (number, written) = expected(answer, room);
-        calls += 1;
-        if !left(returned, number, &list, &written) {
-            return (calls, Some("start"));
-        }
+    let fresh = gate(bytes).map(|x| (count as u64, start(&x)));
+    calls += 1;
+    if !stands(linked_start(bytes, odd_state()), odd_state(), fresh) {
+        return (calls, Some("start"));
     }
     for room in [0, (2 * count).saturating_sub(1), 2 * count, 2 * count + 3] {
         let mut list = filled(room);
@@ -190,17 +295,10 @@ fn sheet_agrees(bytes: &[u8], rng: &mut Rng, spoiled: bool) -> (u64, Option<&'st
             return (calls, Some("run"));
         }
     }
-    let mut state = gated.as_ref().map_or(
-        State {
-            done: 0,
-            s: 1.0,
-            p: 1.0,
-        },
-        start,
-    );
+    let mut state = gated.as_ref().map_or_else(|_| odd_state(), start);
     for _ in 0..count.min(6) + 2 {
         calls += 1;
-        if !step_agrees(bytes, state, 2 + rng.below(2)) {
+        if !step_agrees(bytes, state) {
             return (calls, Some("step"));
         }
         state = step(bytes, state).unwrap_or(state);
@@ -212,14 +310,19 @@ fn sheet_agrees(bytes: &[u8], rng: &mut Rng, spoiled: bool) -> (u64, Option<&'st
         rng.bits() >> 32,
         u64::from(u32::MAX),
     ] {
+        let near = gated.as_ref().map_or(550.0, |sheet| sheet.wavelength);
         let state = State {
             done,
             s: any(rng),
             p: any(rng),
+            wavelength: tune(rng, near),
         };
-        calls += 1;
-        if !step_agrees(bytes, state, rng.below(4)) {
+        calls += 2;
+        if !step_agrees(bytes, state) {
             return (calls, Some("step of any state"));
+        }
+        if !retune_agrees(bytes, state, tune(rng, near)) {
+            return (calls, Some("retune of any state"));
         }
     }
     for surface in [0, rng.below(count + 1), count, rng.bits() as usize >> 3] {

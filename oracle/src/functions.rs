@@ -39,7 +39,7 @@ pub const SAMPLE_RANDOM: usize = 10_000;
 pub const SAMPLE_BYTES: usize = 4 << 20;
 
 /// The most bytes of a sample of all groups together.
-pub const WHOLE_SAMPLE_BYTES: usize = 6 << 20;
+pub const WHOLE_SAMPLE_BYTES: usize = 7 << 20;
 
 pub struct Function {
     pub number: u16,

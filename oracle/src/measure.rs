@@ -182,6 +182,7 @@ fn candidate(rng: &mut Rng, wavelength: f64) -> Surface {
         n_substrate,
         angle: angle(rng, n_incident, least),
         layers: Vec::new(),
+        retune: None,
     };
     let mut films = Vec::new();
     for n in indices {

@@ -84,16 +84,16 @@ fn evaluations() -> Vec<Option<Work>> {
     works.extend(crate::bench::gate_sheets().into_iter().map(gate));
     let step = |sheet: Vec<u8>| -> Option<Work> {
         let count = crate::exports::linked_gate(&sheet);
-        let (s, p) = (1.0, 1.0);
+        let read = crate::sheet::gate(&sheet).expect("admitted");
         let state = crate::train::State {
             done: count - 1,
-            s,
-            p,
+            s: 1.0,
+            p: 1.0,
+            wavelength: read.wavelength,
         };
         Some(Box::new(move || {
-            let mut list = [0.0; 2];
-            crate::exports::linked_step(&sheet, state, &mut list);
-            list[0] + list[1]
+            let (_, next) = crate::exports::linked_step(&sheet, state);
+            next.s + next.p
         }))
     };
     works.extend(crate::bench::step_sheets().into_iter().map(step));
@@ -212,12 +212,15 @@ pub fn compare(seed: u64, count: u64, spoiled: Option<u64>) -> Option<bool> {
         let sheets = (count / 10).max(count.min(1));
         let (calls, different) = crate::exports::compare_trains(seed, sheets, spoiled);
         all_agree &= agree(
-            "gate, start, step, run, answers",
+            "gate, start, step, retune, run, answers",
             sheets,
             different,
             " sheets",
         );
         println!("  in {calls} calls");
+        let (actions, different) = crate::exports::compare_lists(seed, sheets, spoiled);
+        all_agree &= agree("steps and retunes", sheets, different, " lists");
+        println!("  in {actions} actions");
     }
     Some(all_agree)
 }

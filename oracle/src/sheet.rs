@@ -1,4 +1,4 @@
-// Document 01, sections 1 and 3, and document 02, slip 3: the sheet's words and grammar (refusals 4 and 5) and the gate (refusal 6).
+// Document 01, sections 1 and 3, and document 02, slips 3 and 5: the sheet's words and grammar (refusals 4 and 5) and the gate (refusal 6).
 
 use crate::reference::thin_film::{Coating, SurfaceCoating, ThinFilmLayer};
 use crate::section2::{abs, cos, sin};
@@ -37,6 +37,30 @@ pub struct Surface {
     pub angle: f64,
     /// The layers with the places of their kind words.
     pub layers: Vec<(usize, Layer)>,
+    /// The kind 7 before it: the place of its kind word, and its wavelength.
+    pub retune: Option<(usize, f64)>,
+}
+
+impl Sheet {
+    /// The wavelength that a list of steps alone meets a surface with: that of the nearest kind 7 at or before it.
+    pub fn met(&self, surface: usize) -> f64 {
+        let kinds = self.surfaces[..=surface].iter().rev();
+        kinds
+            .filter_map(|y| y.retune)
+            .map(|(_, wavelength)| wavelength)
+            .next()
+            .unwrap_or(self.wavelength)
+    }
+
+    /// Slip 5's test of a wavelength where so many surfaces are done: of those left, the ones before the next kind 7.
+    pub fn holds(&self, done: u64, wavelength: f64) -> bool {
+        let left = self.surfaces.iter().skip(done as usize);
+        in_band(wavelength)
+            && left
+                .take_while(|y| y.retune.is_none())
+                .flat_map(|y| y.layers.iter().map(move |(_, layer)| (y, layer)))
+                .all(|(y, layer)| layer_at(y, layer, wavelength))
+    }
 }
 
 impl Surface {
@@ -93,7 +117,7 @@ pub fn gate(bytes: &[u8]) -> Result<Sheet, Refusal> {
 /// Section 1: length and grammar.
 pub fn read(bytes: &[u8]) -> Result<Sheet, Refusal> {
     let most = if bytes.starts_with(&[0x10, 0, 0, 2]) {
-        38_692
+        39_460
     } else {
         30_500
     };
@@ -114,6 +138,7 @@ pub fn read(bytes: &[u8]) -> Result<Sheet, Refusal> {
     }
     let [wavelength, s, p] = floats(1);
     let mut surfaces: Vec<Surface> = Vec::new();
+    let mut retune = None;
     let mut at = 8;
     loop {
         if at == words.len() {
@@ -121,6 +146,9 @@ pub fn read(bytes: &[u8]) -> Result<Sheet, Refusal> {
         }
         let (kind, payload) = (words[at] >> 28, words[at] & 0x0FFF_FFFF);
         let floats_fit = at + 6 < words.len();
+        if retune.is_some() && kind != 3 {
+            return refuse(5, at);
+        }
         match kind {
             3 => {
                 if surfaces.len() == MOST_SURFACES || payload > 15 || !floats_fit {
@@ -135,6 +163,7 @@ pub fn read(bytes: &[u8]) -> Result<Sheet, Refusal> {
                     n_substrate,
                     angle,
                     layers: Vec::new(),
+                    retune: retune.take(),
                 });
                 at += 7;
             }
@@ -169,6 +198,14 @@ pub fn read(bytes: &[u8]) -> Result<Sheet, Refusal> {
                 }
                 break;
             }
+            7 => {
+                let full = surfaces.len() == MOST_SURFACES;
+                if edition == 1 || full || payload != 0 || at + 2 >= words.len() {
+                    return refuse(5, at);
+                }
+                retune = Some((at, float(at + 1)));
+                at += 3;
+            }
             _ => return refuse(5, at),
         }
     }
@@ -180,25 +217,34 @@ pub fn read(bytes: &[u8]) -> Result<Sheet, Refusal> {
     })
 }
 
-/// Section 3: the first BEAM, SURFACE or layer outside the limits.
+/// Section 3: the first BEAM, kind 7, SURFACE or layer outside the limits.
 pub fn limits(sheet: &Sheet) -> Result<(), Refusal> {
-    let beam = within(sheet.wavelength, 100.0, 10_000.0)
-        && within(sheet.s, 0.0, 1.0)
-        && within(sheet.p, 0.0, 1.0);
+    let beam = in_band(sheet.wavelength) && within(sheet.s, 0.0, 1.0) && within(sheet.p, 0.0, 1.0);
     if !beam {
         return refuse(6, 1);
     }
-    for surface in &sheet.surfaces {
+    for (i, surface) in sheet.surfaces.iter().enumerate() {
+        if let Some((word, _)) = surface.retune.filter(|(_, w)| !in_band(*w)) {
+            return refuse(6, word);
+        }
         if !surface_passes(surface) {
             return refuse(6, surface.word);
         }
         for (word, layer) in &surface.layers {
-            if !layer.is_finite() || !layer_passes(surface, &layer.film(sheet.wavelength)) {
+            if !layer_at(surface, layer, sheet.met(i)) {
                 return refuse(6, *word);
             }
         }
     }
     Ok(())
+}
+
+fn in_band(wavelength: f64) -> bool {
+    within(wavelength, 100.0, 10_000.0)
+}
+
+fn layer_at(surface: &Surface, layer: &Layer, wavelength: f64) -> bool {
+    layer.is_finite() && layer_passes(surface, &layer.film(wavelength))
 }
 
 /// By value, both ends included; NaN is outside.

@@ -2,7 +2,7 @@
 
 use crate::section2::{abs, cos, sin, T};
 use crate::sheet::Layer;
-use crate::sheets::{example, largest, largest_of_two, mixed, plain, varied, Face, Plan};
+use crate::sheets::{example, largest, largest_of_two, mixed, plain, retuned, varied, Face, Plan};
 use crate::values::neighbour;
 
 /// All fixed sheets; only the last ones are long.
@@ -11,12 +11,13 @@ pub fn cases() -> Vec<Vec<u8>> {
         example().bytes(),
         varied().bytes(),
         mixed().bytes(),
+        retuned().bytes(),
         empty().bytes(),
     ];
     list.extend(lengths());
     list.extend(truncations());
     list.extend(flips(&example().bytes()));
-    list.extend(flips(&mixed().bytes()));
+    list.extend(flips(&retuned().bytes()));
     list.extend(edges());
     list.extend(
         limits()
@@ -45,6 +46,7 @@ fn one(payload: u32, numbers: [f64; 3], layers: &[[f64; 3]]) -> Plan {
             payload,
             numbers,
             layers: plain(layers),
+            retune: None,
         }],
     }
 }
@@ -120,7 +122,7 @@ fn edges() -> Vec<Vec<u8>> {
         list.push(one(payload, [1.0, 1.5, 0.5], &[[1.38, 0.0, 99.0]]).bytes());
     }
     // Each word of a sheet replaced by each kind word.
-    for whole in [varied().write(), mixed().write()] {
+    for whole in [varied().write(), mixed().write(), retuned().write()] {
         let ends = [0, whole.words.len() - 1];
         for place in whole.kinds.iter().chain(&ends) {
             for kind in 0..16 {
@@ -129,6 +131,25 @@ fn edges() -> Vec<Vec<u8>> {
                     words[*place] = kind << 28 | payload;
                     list.push(from_words(&words));
                 }
+            }
+        }
+    }
+    // A kind 7 in edition 1, before END, before another, with a payload, after 63 and 64 surfaces.
+    for edition in [1, 2] {
+        for surfaces in [0, 1, 63, 64, 65] {
+            let mut plan = example();
+            plan.edition = edition;
+            plan.surfaces = vec![plan.surfaces[0].clone(); surfaces];
+            if let Some(last) = plan.surfaces.last_mut() {
+                last.retune = Some(632.8);
+            }
+            list.push(plan.bytes());
+            for (twice, word) in [(1, 0x7000_0000), (2, 0x7000_0000), (1, 0x7000_0001)] {
+                let mut words = plan.write().words;
+                let end = words.len() - 1;
+                let kind = [word, 0x4080_0000, 0];
+                words.splice(end..end, kind.repeat(twice));
+                list.push(from_words(&words));
             }
         }
     }
@@ -191,6 +212,35 @@ pub fn limits() -> Vec<(Vec<u8>, Vec<u8>)> {
         list.push(pair(&plan, |plan| &mut plan.beam[1], inside, outside));
         list.push(pair(&plan, |plan| &mut plan.beam[2], inside, outside));
     }
+    // Kind 7: its own range, and the index of a kind 6 at it.
+    let plan = retuned();
+    for (inside, outside) in [down(100.0), up(10_000.0)] {
+        for place in [1, 2] {
+            let mut plan = plan.clone();
+            plan.surfaces[2].layers.clear();
+            list.push(pair(
+                &plan,
+                |plan| plan.surfaces[place].retune.as_mut().expect("a kind 7"),
+                inside,
+                outside,
+            ));
+        }
+    }
+    let glass = [1.8, 0.1, 0.0, 99.0];
+    let index = |x: f64| {
+        Layer::Cauchy([glass[0], glass[1], glass[2]], glass[3])
+            .film(x)
+            .n
+    };
+    let (inside, outside) = boundary(1064.0, 100.0, |x| index(x) <= 4.0);
+    let mut glassy = plan.clone();
+    glassy.surfaces[2].layers[0] = glass.to_vec();
+    list.push(pair(
+        &glassy,
+        |plan| plan.surfaces[2].retune.as_mut().expect("a kind 7"),
+        inside,
+        outside,
+    ));
     // SURFACE, its indices: for every coating.
     for code in 0..8 {
         let plan = one(2 * code, [2.0, 2.0, 0.0], &[]);
@@ -359,7 +409,7 @@ const SPECIAL: [f64; 10] = [
 /// Every field of a sheet of either edition with each special value.
 fn fields() -> Vec<Vec<u8>> {
     let mut list = Vec::new();
-    for whole in [varied().write(), mixed().write()] {
+    for whole in [varied().write(), mixed().write(), retuned().write()] {
         for kind in &whole.kinds {
             for field in 0..whole.floats(*kind) {
                 for x in SPECIAL {
@@ -379,7 +429,7 @@ fn long() -> Vec<Vec<u8>> {
     let mut list = Vec::new();
     for (whole, length) in [
         (largest().bytes(), 30_500),
-        (largest_of_two().bytes(), 38_692),
+        (largest_of_two().bytes(), 39_460),
     ] {
         assert!(whole.len() == length);
         list.push(whole[..length - 4].to_vec());

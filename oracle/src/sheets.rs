@@ -20,6 +20,8 @@ pub struct Face {
     pub numbers: [f64; 3],
     /// n, k, thickness of a LAYER; A, B, C, thickness of a kind 6.
     pub layers: Vec<Vec<f64>>,
+    /// The wavelength of a kind 7 before it.
+    pub retune: Option<f64>,
 }
 
 /// LAYERs.
@@ -45,7 +47,11 @@ impl Written {
 
     /// How many floats follow the kind word at a place.
     pub fn floats(&self, place: usize) -> usize {
-        3 + usize::from(self.words[place] >> 28 == 6)
+        match self.words[place] >> 28 {
+            6 => 4,
+            7 => 1,
+            _ => 3,
+        }
     }
 
     pub fn bytes(&self) -> Vec<u8> {
@@ -64,6 +70,9 @@ impl Plan {
         };
         out.block(0x2000_0000, &self.beam);
         for face in &self.surfaces {
+            if let Some(wavelength) = face.retune {
+                out.block(0x7000_0000, &[wavelength]);
+            }
             out.block(0x3000_0000 | face.payload, &face.numbers);
             for layer in &face.layers {
                 let kind = if layer.len() == 3 { 4 } else { 6 };
@@ -88,6 +97,7 @@ pub fn example() -> Plan {
             payload: 0,
             numbers: [1.0, 3.0, 0.0],
             layers: Vec::new(),
+            retune: None,
         }],
     }
 }
@@ -98,6 +108,7 @@ pub fn varied() -> Plan {
         payload,
         numbers,
         layers: plain(layers),
+        retune: None,
     };
     Plan {
         edition: 1,
@@ -124,15 +135,28 @@ pub fn largest() -> Plan {
     even(64, 16)
 }
 
-/// The largest sheet of edition 2, 38,692 bytes: the same with kinds 6.
+/// The same with a kind 7 before its second and third surface, at which the kinds 6 pass.
+pub fn retuned() -> Plan {
+    let mut plan = mixed();
+    plan.surfaces[1].retune = Some(632.8);
+    plan.surfaces[2].retune = Some(1064.0);
+    plan
+}
+
+/// The largest sheet of edition 2, 39,460 bytes: the same with kinds 6, and a kind 7 before each surface.
 pub fn largest_of_two() -> Plan {
-    glasses(64, 16)
+    let mut plan = glasses(64, 16);
+    let wavelength = plan.beam[0];
+    for face in &mut plan.surfaces {
+        face.retune = Some(wavelength);
+    }
+    plan
 }
 
 /// So many surfaces with so many kinds 6 each.
 pub fn glasses(surfaces: usize, layers: usize) -> Plan {
     let mut plan = even(surfaces, layers);
-    let mut rng = Rng::new(38_692);
+    let mut rng = Rng::new(39_460);
     plan.edition = 2;
     for layer in plan.surfaces.iter_mut().flat_map(|face| &mut face.layers) {
         // No smaller than it was, so that the light is bent no further.
@@ -211,6 +235,7 @@ fn valid_face(rng: &mut Rng, edition: u32, wavelength: f64, payload: u32, layers
             payload,
             numbers: [index(rng), index(rng), 0.0],
             layers: Vec::new(),
+            retune: None,
         };
         if code == 5 {
             face.layers.extend((0..layers).map(|_| layer(rng)));
@@ -246,19 +271,33 @@ fn valid_face(rng: &mut Rng, edition: u32, wavelength: f64, payload: u32, layers
     }
 }
 
+/// A wavelength that passes by itself.
+pub fn line(rng: &mut Rng) -> f64 {
+    match rng.below(4) {
+        0 => rng.pick(&[100.0, 10_000.0, 550.0, 632.8]),
+        _ => rng.uniform(100.0, 10_000.0),
+    }
+}
+
 /// A sheet of an edition that passes the gate, with so many surfaces and at most so many layers each.
 pub fn random_plan(rng: &mut Rng, edition: u32, surfaces: usize, layers: usize) -> Plan {
     let power = |rng: &mut Rng| match rng.below(4) {
         0 => rng.pick(&[0.0, -0.0, 1.0, 0.5, f64::from_bits(1)]),
         _ => rng.unit(),
     };
-    let wavelength = match rng.below(4) {
-        0 => rng.pick(&[100.0, 10_000.0, 550.0, 632.8]),
-        _ => rng.uniform(100.0, 10_000.0),
-    };
+    let mut wavelength = line(rng);
     let beam = [wavelength, power(rng), power(rng)];
     let mut list = Vec::new();
+    let often = if edition == 2 {
+        rng.pick(&[0, 0, 2, 5])
+    } else {
+        0
+    };
     for _ in 0..surfaces {
+        let tunes = often > 0 && rng.one_in(often);
+        if tunes {
+            wavelength = line(rng);
+        }
         let custom = rng.one_in(3);
         let payload = if custom {
             10 + rng.below(2)
@@ -266,7 +305,9 @@ pub fn random_plan(rng: &mut Rng, edition: u32, surfaces: usize, layers: usize) 
             rng.below(16)
         };
         let count = rng.below(layers + 1);
-        list.push(valid_face(rng, edition, wavelength, payload as u32, count));
+        let mut face = valid_face(rng, edition, wavelength, payload as u32, count);
+        face.retune = tunes.then_some(wavelength);
+        list.push(face);
     }
     Plan {
         edition,
@@ -299,7 +340,7 @@ pub fn valid(rng: &mut Rng) -> Plan {
 /// Kind words, right and wrong.
 fn kind_word(rng: &mut Rng) -> u32 {
     let payload = rng.pick(&[0, 1, 2, 3, 10, 11, 15, 16, 17, 64, 0x0100_000A, 0x0FFF_FFFF]);
-    let kind = rng.pick(&[0, 1, 2, 3, 3, 4, 4, 5, 5, 6, 6, 7, 15]);
+    let kind = rng.pick(&[0, 1, 2, 3, 3, 4, 4, 5, 5, 6, 6, 7, 7, 15]);
     kind << 28 | payload
 }
 

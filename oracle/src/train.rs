@@ -1,4 +1,5 @@
-// Document 01, section 7: a surface's answers, the train's state, steps, the whole run and the program.
+// Document 01, section 7, and document 02, slip 5: a surface's answers, the train's state, steps, retunes, lists of
+// them, the whole run and the program.
 
 use crate::reference::fresnel::fresnel_dielectric;
 use crate::reference::polarization::{
@@ -8,12 +9,19 @@ use crate::reference::thin_film::{Coating, CoatingResponse, SurfaceCoating};
 use crate::section2::cos;
 use crate::sheet::{gate, Refusal, Sheet, Surface};
 
-/// Surfaces done, s, p.
+/// Surfaces done, s, p and the wavelength held.
 #[derive(Clone, Copy, Debug, PartialEq)]
 pub struct State {
     pub done: u64,
     pub s: f64,
     pub p: f64,
+    pub wavelength: f64,
+}
+
+#[derive(Clone, Copy, Debug, PartialEq)]
+pub enum Action {
+    Step,
+    Retune(f64),
 }
 
 /// R_s, R_p, T_s, T_p.
@@ -105,11 +113,13 @@ pub fn start(sheet: &Sheet) -> State {
         done: 0,
         s: sheet.s,
         p: sheet.p,
+        wavelength: sheet.wavelength,
     }
 }
 
-fn pass(sheet: &Sheet, surface: &Surface, state: State) -> State {
-    let powers = powers(&light(surface, sheet.wavelength));
+fn pass(surface: &Surface, state: State) -> State {
+    let wavelength = surface.retune.map_or(state.wavelength, |(_, own)| own);
+    let powers = powers(&light(surface, wavelength));
     let [s, p] = if surface.reflected {
         powers.reflected
     } else {
@@ -119,47 +129,98 @@ fn pass(sheet: &Sheet, surface: &Surface, state: State) -> State {
         done: state.done + 1,
         s: state.s * s,
         p: state.p * p,
+        wavelength,
     }
 }
 
-/// One step: 4, 5, 6, 7 in that order, each with the state as before.
+fn refused(number: u64) -> Refusal {
+    Refusal { number, place: 0 }
+}
+
+/// One step: 4, 5, 6, 7, 11 in that order, each with the state as before.
 pub fn step(bytes: &[u8], state: State) -> Result<State, Refusal> {
     let sheet = gate(bytes)?;
     if state.done >= sheet.surfaces.len() as u64 {
-        return Err(Refusal {
-            number: 7,
-            place: 0,
-        });
+        return Err(refused(7));
     }
-    let surface = &sheet.surfaces[state.done as usize];
-    Ok(pass(&sheet, surface, state))
+    if !sheet.holds(state.done, state.wavelength) {
+        return Err(refused(11));
+    }
+    Ok(pass(&sheet.surfaces[state.done as usize], state))
 }
 
-/// A list of steps from Start: the last state, and how many were refused.
-pub fn steps(bytes: &[u8], count: u64) -> Result<(State, u64), Refusal> {
-    let mut state = start(&gate(bytes)?);
-    let mut refused = 0;
-    for _ in 0..count {
-        match step(bytes, state) {
-            Ok(next) => state = next,
-            Err(_) => refused += 1,
-        }
+/// A retune: 4, 5, 6, 11 in that order, each with the state as before.
+pub fn retune(bytes: &[u8], state: State, wavelength: f64) -> Result<State, Refusal> {
+    let sheet = gate(bytes)?;
+    if !sheet.holds(state.done, wavelength) {
+        return Err(refused(11));
     }
-    Ok((state, refused))
+    Ok(State {
+        wavelength,
+        ..state
+    })
+}
+
+/// A list of actions from Start, by the slip's words and no call: how each is answered (0, 7 or 11) and the state after
+/// it. A step takes the surface of its own number among the steps; an action's wavelength is found by looking back.
+pub fn listed(sheet: &Sheet, actions: &[Action]) -> Vec<(u64, State)> {
+    let count = sheet.surfaces.len();
+    let mut before = 0;
+    // How many steps stand before each action, and how it is answered.
+    let mut told = Vec::new();
+    for action in actions {
+        let number = match action {
+            Action::Step => 7 * u64::from(before >= count),
+            Action::Retune(w) => 11 * u64::from(!sheet.holds(before.min(count) as u64, *w)),
+        };
+        told.push((before, number));
+        before += usize::from(*action == Action::Step);
+    }
+    // The wavelength that an action leaves behind, where it leaves one.
+    let left = |k: usize| match (actions[k], told[k]) {
+        (Action::Retune(w), (_, 0)) => Some(w),
+        (Action::Step, (surface, 0)) => sheet.surfaces[surface].retune.map(|(_, own)| own),
+        _ => None,
+    };
+    let held = |k: usize| (0..=k).rev().find_map(left).unwrap_or(sheet.wavelength);
+    let mut powers_after = vec![[sheet.s, sheet.p]];
+    let mut list = Vec::new();
+    for (k, (before, number)) in told.iter().enumerate() {
+        if actions[k] == Action::Step && *number == 0 {
+            let surface = &sheet.surfaces[*before];
+            let [s, p] = powers_after[*before];
+            let Powers {
+                reflected,
+                transmitted,
+            } = powers(&light(surface, held(k)));
+            let [by_s, by_p] = if surface.reflected {
+                reflected
+            } else {
+                transmitted
+            };
+            powers_after.push([s * by_s, p * by_p]);
+        }
+        let [s, p] = powers_after[powers_after.len() - 1];
+        let state = State {
+            done: powers_after.len() as u64 - 1,
+            s,
+            p,
+            wavelength: held(k),
+        };
+        list.push((*number, state));
+    }
+    list
 }
 
 /// A whole run: 4, 5, 6, 8 in that order; the count of surfaces, and s, p after each of them in the list.
 pub fn run(bytes: &[u8], list: &mut [f64]) -> Result<usize, Refusal> {
     let sheet = gate(bytes)?;
     if list.len() < 2 * sheet.surfaces.len() {
-        return Err(Refusal {
-            number: 8,
-            place: 0,
-        });
+        return Err(refused(8));
     }
     let mut state = start(&sheet);
     for (i, surface) in sheet.surfaces.iter().enumerate() {
-        state = pass(&sheet, surface, state);
+        state = pass(surface, state);
         list[2 * i] = state.s;
         list[2 * i + 1] = state.p;
     }
@@ -175,7 +236,7 @@ pub fn program(bytes: &[u8]) -> String {
     let mut state = start(&sheet);
     let mut text = String::new();
     for surface in &sheet.surfaces {
-        state = pass(&sheet, surface, state);
+        state = pass(surface, state);
         let letter = if surface.reflected { 'R' } else { 'T' };
         let (s, p) = (state.s.to_bits(), state.p.to_bits());
         text += &format!("{} {letter} {s:016X} {p:016X}\n", state.done);

@@ -1,10 +1,11 @@
 // Group exports: the calls of the C interface (include/dihkelu.h). A record has what a call returns, and after it the
-// whole list that it was lent, as it left it.
+// whole list, or each number of the state, that it was lent, as it left it.
 
 use crate::arguments::Arg::{self, *};
 use crate::arguments::Style;
 use crate::functions::born_wolf::to_mueller_born_wolf;
 use crate::functions::thin_film::surface_coating;
+use crate::functions::train::state_of;
 use crate::functions::{shorthand, Function};
 use crate::ranges::{self, Ends};
 use crate::record::{absorptance, Arguments, Words};
@@ -12,7 +13,7 @@ use crate::reference::polarization::{JonesMatrix, MuellerMatrix};
 use crate::reference::thin_film::{CoatingResponse, ThinFilmLayer};
 use crate::section2;
 use crate::sheet::{gate, Refusal};
-use crate::train::{answers, run, start, step, Light, State};
+use crate::train::{answers, retune, run, start, step, Light, State};
 use crate::values::{neighbour, Rng};
 
 /// The one number of a list before the call.
@@ -47,6 +48,22 @@ fn leave(r: &mut Words, room: u64, answer: Result<(u64, Vec<f64>), Refusal>) {
     r.floats(&vec![BEFORE; room - written.len()]);
 }
 
+/// The state that dihkelu_start is lent.
+const LENT: State = State {
+    done: 7,
+    s: BEFORE,
+    p: BEFORE,
+    wavelength: BEFORE,
+};
+
+/// What is returned, and the state that was lent: the next one, or as it was.
+fn leave_state(r: &mut Words, answer: Result<(u64, State), Refusal>, lent: State) {
+    let (returned, state) = answer.unwrap_or_else(|refusal| (packed(refusal), lent));
+    r.int(returned);
+    r.int(state.done);
+    r.floats(&[state.s, state.p, state.wavelength]);
+}
+
 fn response(r: &CoatingResponse) -> Vec<f64> {
     let parts = [r.rs, r.rp, r.ts, r.tp];
     let mut list: Vec<f64> = parts.iter().flat_map(|z| [z.re, z.im]).collect();
@@ -64,7 +81,7 @@ fn response(r: &CoatingResponse) -> Vec<f64> {
 fn surface(bytes: &[u8], number: u64) -> Result<(u64, Vec<f64>), Refusal> {
     let sheet = gate(bytes)?;
     let surface = sheet.surfaces.get(number as usize).ok_or(refused(7))?;
-    let answers = answers(surface, sheet.wavelength);
+    let answers = answers(surface, sheet.met(number as usize));
     let mut list = Vec::new();
     let last = match &answers.light {
         Light::Bare(powers) => {
@@ -198,19 +215,14 @@ pub fn table() -> Vec<Function> {
             let gated = gate(&a.bytes());
             r.int(gated.map_or_else(packed, |sheet| sheet.surfaces.len() as u64));
         }),
-        export(181, "dihkelu_start", &[Pair, Start], 1, |a, r| {
-            let room = a.int();
-            let fresh = gate(&a.bytes()).map(|sheet| {
-                let state = start(&sheet);
-                (sheet.surfaces.len() as u64, vec![state.s, state.p])
-            });
-            leave(r, room, fresh);
+        export(181, "dihkelu_start", &[Start], 1, |a, r| {
+            let fresh = gate(&a.bytes()).map(|x| (x.surfaces.len() as u64, start(&x)));
+            leave_state(r, fresh, LENT);
         }),
-        export(182, "dihkelu_step", &[Pair, Step], 1, |a, r| {
-            let room = a.int();
-            let (done, s, p) = (a.int(), a.float(), a.float());
-            let next = step(&a.bytes(), State { done, s, p });
-            leave(r, room, next.map(|next| (next.done, vec![next.s, next.p])));
+        export(182, "dihkelu_step", &[Step], 1, |a, r| {
+            let state = state_of(a);
+            let next = step(&a.bytes(), state);
+            leave_state(r, next.map(|next| (next.done, next)), state);
         }),
         export(183, "dihkelu_run", &[Run], 1, |a, r| {
             let room = a.int();
@@ -295,6 +307,12 @@ pub fn table() -> Vec<Function> {
         }),
         export(196, "dihkelu_atan2", &[Any, Any], 4, |a, r| {
             r.float(section2::atan2(a.float(), a.float()));
+        }),
+        export(197, "dihkelu_retune", &[Retune], 1, |a, r| {
+            let wavelength = a.float();
+            let state = state_of(a);
+            let next = retune(&a.bytes(), state, wavelength);
+            leave_state(r, next.map(|next| (next.done, next)), state);
         }),
     ]
 }

@@ -30,6 +30,7 @@ fn sheet(wavelength: f64, ends: [f64; 3], layers: &[[f64; 3]]) -> Sheet {
                 .iter()
                 .map(|layer| (15, Layer::Fixed(film(layer))))
                 .collect(),
+            retune: None,
         }],
     }
 }

@@ -74,7 +74,7 @@ fn the_sample_is_large_and_small_enough() {
         );
     }
     for record in &list {
-        assert!(record.arguments.len() <= 5120 && record.results.len() <= 256);
+        assert!(record.arguments.len() <= 5376 && record.results.len() <= 256);
     }
     for group in &GROUPS[..7] {
         let bytes = sample(&[group.to_string()], 1);

@@ -1,10 +1,13 @@
 // 01's example and edges, each limit of the gate, and the train over random sheets.
 
 use crate::examples::examples;
+use crate::functions::train::actions;
 use crate::sheet::{gate, Layer, Refusal};
 use crate::sheet_cases::{cases, limits};
-use crate::sheets::{damaged, example, largest, largest_of_two, mixed, sheet, valid, varied};
-use crate::train::{program, run, start, step, steps, State};
+use crate::sheets::{
+    damaged, example, largest, largest_of_two, mixed, retuned, sheet, valid, varied,
+};
+use crate::train::{listed, program, retune, run, start, step, Action, State};
 use crate::values::Rng;
 
 const EXAMPLE: [u32; 16] = [
@@ -77,15 +80,15 @@ fn lengths() {
 #[test]
 fn lengths_by_the_first_word() {
     let whole = largest_of_two().bytes();
-    assert_eq!(whole.len(), 38_692);
+    assert_eq!(whole.len(), 39_460);
     assert_eq!(refused(&whole), (0, 64));
     for first in [0x1000_0001, 0x1000_0002, 0x1000_0003, 0x2000_0002, 2, 0] {
         let most = if first == 0x1000_0002_u32 {
-            38_692
+            39_460
         } else {
             30_500
         };
-        for length in (30_490..=30_510).chain(38_680..=38_700) {
+        for length in (30_490..=30_510).chain(39_450..=39_470) {
             let mut bytes = whole.clone();
             bytes.resize(length, 0);
             bytes[..4].copy_from_slice(&first.to_be_bytes());
@@ -228,6 +231,7 @@ fn refusals_of_step_and_run() {
                 done,
                 s: 1.0,
                 p: 1.0,
+                wavelength: 550.0,
             },
         )
     };
@@ -269,8 +273,135 @@ fn a_run_is_step_after_step_and_never_grows() {
             assert!(0.0 <= state.p && state.p <= before.p);
         }
         assert_eq!(step(&bytes, state).map_err(|r| r.number), Err(7));
-        assert_eq!(steps(&bytes, count as u64 + 2), Ok((state, 2)));
+        let list = listed(&sheet, &vec![Action::Step; count + 2]);
+        assert_eq!(list[count + 1], (7, state));
+        assert!(list[..count].iter().all(|(number, _)| *number == 0));
     }
+}
+
+/// Slip 5's grammar and gate.
+#[test]
+fn kind_7() {
+    let plan = retuned();
+    assert_eq!(refused(&plan.bytes()), (0, 3));
+    let words = plan.write().words;
+    // OPEN and BEAM, a SURFACE with a LAYER and a kind 6; then the kind 7.
+    let at = 8 + 7 + 7 + 9;
+    assert_eq!(words[at], 0x7000_0000);
+    let changed = |place: usize, word: u32| {
+        let mut words = words.clone();
+        words[place] = word;
+        refused(&bytes(&words))
+    };
+    assert_eq!(changed(0, 0x1000_0001), (5, 22));
+    assert_eq!(changed(at, 0x7000_0001), (5, at as u64));
+    for word in [0x7000_0000, 0x4000_0000, 0x5000_0001, 0x3000_0010, 0] {
+        assert_eq!(changed(at + 3, word), (5, at as u64 + 3));
+    }
+    // Its raw words past the end, and nothing after it.
+    assert_eq!(refused(&bytes(&words[..at + 2])), (5, at as u64));
+    assert_eq!(refused(&bytes(&words[..at + 3])), (5, at as u64 + 3));
+    // Edition 1 has none; after a 64th surface it is at the kind 7 itself.
+    let mut bare = example();
+    bare.surfaces[0].retune = Some(632.8);
+    assert_eq!(refused(&bare.bytes()), (5, 8));
+    bare.edition = 2;
+    assert_eq!(refused(&bare.bytes()), (0, 1));
+    bare.surfaces = vec![example().surfaces[0].clone(); 65];
+    bare.surfaces[64].retune = Some(632.8);
+    assert_eq!(refused(&bare.bytes()), (5, 8 + 64 * 7));
+    // 6 at its own word, or at the layer that fails at it.
+    let mut plan = plan.clone();
+    for wavelength in [f64::NAN, 99.0, 10_001.0, f64::INFINITY] {
+        plan.surfaces[1].retune = Some(wavelength);
+        assert_eq!(refused(&plan.bytes()), (6, at as u64));
+    }
+    plan.surfaces[1].retune = Some(632.8);
+    plan.surfaces[2].retune = Some(100.0);
+    plan.surfaces[2].layers[0] = vec![1.45, 0.035, 0.0, 0.0];
+    let layer = at as u64 + 3 + 7 + 3 + 7;
+    assert_eq!(refused(&plan.bytes()), (6, layer));
+}
+
+/// By hand: the kind 7 wins over a retune and lasts; a refused retune keeps what was held; after the last surface a
+/// retune is allowed.
+#[test]
+fn retunes_by_hand() {
+    let sheet = gate(&retuned().bytes()).expect("admitted");
+    let list = [
+        Action::Retune(600.0),
+        Action::Step,
+        Action::Retune(99.0),
+        Action::Retune(700.0),
+        Action::Step,
+        Action::Retune(f64::NAN),
+        Action::Step,
+        Action::Step,
+        Action::Retune(5000.0),
+    ];
+    let told: Vec<(u64, u64, f64)> = listed(&sheet, &list)
+        .into_iter()
+        .map(|(number, state)| (number, state.done, state.wavelength))
+        .collect();
+    let expected = [
+        (0, 0, 600.0),
+        (0, 1, 600.0),
+        (11, 1, 600.0),
+        (0, 1, 700.0),
+        (0, 2, 632.8),
+        (11, 2, 632.8),
+        (0, 3, 1064.0),
+        (7, 3, 1064.0),
+        (0, 3, 5000.0),
+    ];
+    assert_eq!(told, expected);
+}
+
+/// A step from a state that holds a bad wavelength: 7, then 11, also where the next surface has a kind 7.
+#[test]
+fn elevens() {
+    let sheet = retuned().bytes();
+    let state = |done, wavelength| State {
+        done,
+        s: 1.0,
+        p: 1.0,
+        wavelength,
+    };
+    let number = |outcome: Result<State, Refusal>| outcome.map_or_else(|r| r.number, |_| 0);
+    for wavelength in [f64::NAN, 99.999, 10_000.1, f64::INFINITY] {
+        for done in 0..3 {
+            assert_eq!(number(step(&sheet, state(done, wavelength))), 11);
+        }
+        assert_eq!(number(step(&sheet, state(3, wavelength))), 7);
+        assert_eq!(number(retune(&sheet, state(4, 550.0), wavelength)), 11);
+        assert_eq!(number(retune(&sheet, state(4, wavelength), 550.0)), 0);
+    }
+    assert_eq!(number(step(&[], state(9, f64::NAN))), 4);
+    assert_eq!(number(retune(&[], state(9, f64::NAN), 0.0)), 4);
+}
+
+/// The list as a whole is one call after another.
+#[test]
+fn a_list_is_one_call_after_another() {
+    let mut rng = Rng::new(14);
+    let mut met = [0; 12];
+    for _ in 0..300 {
+        let bytes = valid(&mut rng).bytes();
+        let sheet = gate(&bytes).expect("valid");
+        let list = actions(&mut rng, &bytes);
+        let mut state = start(&sheet);
+        for (action, (number, next)) in list.iter().zip(listed(&sheet, &list)) {
+            let outcome = match action {
+                Action::Step => step(&bytes, state),
+                Action::Retune(wavelength) => retune(&bytes, state, *wavelength),
+            };
+            met[number as usize] += 1;
+            assert_eq!(outcome.map_or_else(|r| r.number, |_| 0), number);
+            state = outcome.unwrap_or(state);
+            assert_eq!(state, next);
+        }
+    }
+    assert!([0, 7, 11].iter().all(|n| met[*n] > 100), "{met:?}");
 }
 
 #[test]
@@ -285,7 +416,7 @@ fn the_examples_have_their_refusals() {
     }
     names.sort();
     names.dedup();
-    assert_eq!(names.len(), 67);
+    assert_eq!(names.len(), 74);
 }
 
 #[test]
