@@ -19,21 +19,23 @@
  *      stack: an index or the design wavelength is not positive and finite; to_mueller, mueller_born_wolf: there are
  *      not 8 numbers
  *   3  evaluate: more than 64 layers, where the code is that of explicit layers (any other ignores them)
- *   4  the sheet's bytes are no multiple of 4, under 36 or over 30,500 (38,692 where the first word is 0x10000002)
+ *   4  the sheet's bytes are no multiple of 4, under 36 or over 30,500 (39,460 where the first word is 0x10000002)
  *   5  the word at this place is out of grammar
- *   6  the BEAM, SURFACE or layer at this place is outside the limits
+ *   6  the BEAM, SURFACE, layer or kind 7 at this place is outside the limits
  *   7  there is no such surface: it is the sheet's count or more
  *   8  the list is too short; after all other refusals
  *   9  stack: no text can have the byte at this place; the place is the count of bytes where the text stops early, and
  *      255 for a text over 255 bytes
  *  10  stack: more than 64 layers
+ *  11  step, retune: the wavelength is NaN or outside 100 to 10,000 nm, or a layer still to come fails at it, of those up
+ *      to the next kind 7
  *  13  reflectance_range: a low end is above its high end, or an end is NaN or outside 1 to 4
  *  14  quarter_waves: n is outside 1 to 4, the thickness outside 0 to 100,000 or the wavelength outside 100 to 10,000, or
  *      one of them is no number
  *
- * A call that refuses writes nothing. (That is proved of the numbers in the list, so up to the bits of a NaN that
+ * A call that refuses writes nothing. (That is proved of the numbers that are lent, so up to the bits of a NaN that
  * stands there; the tests look at every bit.) A call that answers writes the front of the list and leaves the rest of
- * it. Every call answers or refuses for all bytes, all numbers and all counts; no call keeps anything between calls,
+ * it, or each number of a state. Every call answers or refuses for all bytes, all numbers and all counts; no call keeps anything between calls,
  * and any number of threads may call at once. Where an answer is not a number its bits may be those of any NaN.
  *
  * Link with libdihkelu.a and the C library's mathematics (-lm): its fmod is called. The library is for x86-64.
@@ -43,6 +45,8 @@
  *     count of elements (bytes or doubles), two arguments one after the other. So many elements are there, readable, and
  *     writable in the list; a pointer to doubles is aligned for them. Where the count is 0 the pointer may be anything,
  *     null too: nothing is read or written through it.
+ *   - A number that is written, such as a state's s, is passed as a pointer to it, which is never null. The numbers of a
+ *     state are apart from each other and from the sheet.
  *   - The list overlaps neither the sheet nor the text nor the layers nor the Jones matrix, and no other thread writes
  *     any of them meanwhile.
  *   - One double that is written, remainder_nm, is a pointer that is not null, to a double that is there, aligned and writable.
@@ -89,7 +93,7 @@ extern "C" {
 
 /* ---- the version: major × 2^16 + minor. A program can hold the header it was compiled with against the library */
 
-#define DIHKELU_VERSION 0x00000002u
+#define DIHKELU_VERSION 0x00000003u
 DIHKELU_MUST_USE uint32_t dihkelu_version(void);
 
 /* ---- what a call returned, taken apart */
@@ -138,23 +142,34 @@ DIHKELU_MUST_USE static inline int dihkelu_environment_ok(void) {
 #define DIHKELU_BARE 53
 #define DIHKELU_COATED 69
 
-/* The gate. A sheet is of edition 1, or of edition 2, in which a layer may be of kind 6: a glass whose index changes with
- * colour. Returns the count of surfaces; refuses with 4, 5, 6. */
+/* The gate. A sheet is of edition 1, or of edition 2, in which a layer may be of kind 6, a glass whose index changes with
+ * colour, and a kind 7 may stand before a surface: the wavelength from there on. Returns the count of surfaces; refuses
+ * with 4, 5, 6. */
 DIHKELU_MUST_USE uint64_t dihkelu_gate(const uint8_t *sheet, size_t sheet_count);
 
-/* A fresh train. Writes the BEAM's s and p, 2 doubles, and returns the count of surfaces; refuses with 4, 5, 6, 8. */
-DIHKELU_MUST_USE uint64_t dihkelu_start(const uint8_t *sheet, size_t sheet_count, double *list, size_t list_count);
+/* A train's state is four numbers: surfaces done, s, p and the wavelength held in nm. The calls take any state, also one
+ * that no train has been in. Up to version 0.2 a state had no wavelength, and start and step wrote s and p to a list.
+ *
+ * A fresh train: no surface done, the BEAM's s, p and wavelength. Returns the count of surfaces; refuses with 4, 5, 6. */
+DIHKELU_MUST_USE uint64_t dihkelu_start(const uint8_t *sheet, size_t sheet_count, uint32_t *surfaces_done, double *s,
+                                        double *p, double *wavelength_nm);
 
-/* A step from a state: surfaces done, s and p. Writes the next s and p, 2 doubles, and returns the surfaces done then;
- * refuses with 4, 5, 6, 7, 8, and the state is as before. */
-DIHKELU_MUST_USE uint64_t dihkelu_step(const uint8_t *sheet, size_t sheet_count, uint32_t surfaces_done, double s,
-                                       double p, double *list, size_t list_count);
+/* A step: takes the surface after those done, at the wavelength of the kind 7 before it or else at the one held, which is
+ * held then. Returns the surfaces done then; refuses with 4, 5, 6, 7, 11, and the state is as before. */
+DIHKELU_MUST_USE uint64_t dihkelu_step(const uint8_t *sheet, size_t sheet_count, uint32_t *surfaces_done, double *s,
+                                       double *p, double *wavelength_nm);
+
+/* A retune: another wavelength for the surfaces not yet done; those done keep their powers. Returns the surfaces done;
+ * refuses with 4, 5, 6, 11, and the wavelength held is as before. */
+DIHKELU_MUST_USE uint64_t dihkelu_retune(const uint8_t *sheet, size_t sheet_count, uint32_t surfaces_done,
+                                         double *wavelength_nm, double new_wavelength_nm);
 
 /* A whole run from the start. Writes s, p after each surface, 2 doubles for each, and returns the count of surfaces;
  * refuses with 4, 5, 6, 8. */
 DIHKELU_MUST_USE uint64_t dihkelu_run(const uint8_t *sheet, size_t sheet_count, double *list, size_t list_count);
 
-/* The answers of a surface, counted from 0. Returns how many doubles it wrote; refuses with 4, 5, 6, 7, 8. In order:
+/* The answers of a surface, counted from 0, at the wavelength that steps alone meet it with: that of the last kind 7 up
+ * to it, or else the BEAM's. Returns how many doubles it wrote; refuses with 4, 5, 6, 7, 8. In order:
  *    0        1 for a coated surface, 0 for a bare one
  *    1 to 4   the powers R_s, R_p, T_s, T_p
  *    5 to 12  the Jones matrix of the reflected light: m00 (s), m01, m10, m11 (p), each re, im

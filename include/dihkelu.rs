@@ -9,17 +9,25 @@ extern "C" {
     fn dihkelu_start(
         sheet: *const u8,
         sheet_count: usize,
-        list: *mut f64,
-        list_count: usize,
+        surfaces_done: *mut u32,
+        s: *mut f64,
+        p: *mut f64,
+        wavelength_nm: *mut f64,
     ) -> u64;
     fn dihkelu_step(
         sheet: *const u8,
         sheet_count: usize,
+        surfaces_done: *mut u32,
+        s: *mut f64,
+        p: *mut f64,
+        wavelength_nm: *mut f64,
+    ) -> u64;
+    fn dihkelu_retune(
+        sheet: *const u8,
+        sheet_count: usize,
         surfaces_done: u32,
-        s: f64,
-        p: f64,
-        list: *mut f64,
-        list_count: usize,
+        wavelength_nm: *mut f64,
+        new_wavelength_nm: f64,
     ) -> u64;
     fn dihkelu_run(sheet: *const u8, sheet_count: usize, list: *mut f64, list_count: usize) -> u64;
     fn dihkelu_answers(
@@ -80,7 +88,7 @@ extern "C" {
 }
 
 /// The version that these declarations are of: major × 2^16 + minor.
-pub const VERSION: u32 = 0x0000_0002;
+pub const VERSION: u32 = 0x0000_0003;
 
 /// The library's version.
 pub fn version() -> u32 {
@@ -114,24 +122,62 @@ fn outcome(returned: u64) -> Result<u32, Refusal> {
     }
 }
 
-// In each call the slices are valid and the list, being exclusive, overlaps nothing: that is all that the calls ask of
-// memory.
+// In each call the slices are valid and what is written, being exclusive, overlaps nothing: that is all that the calls
+// ask of memory.
 
 /// The gate: the count of surfaces.
 pub fn gate(sheet: &[u8]) -> Result<u32, Refusal> {
     outcome(unsafe { dihkelu_gate(sheet.as_ptr(), sheet.len()) })
 }
 
-/// A fresh train: writes s and p, gives the count of surfaces.
-pub fn start(sheet: &[u8], list: &mut [f64]) -> Result<u32, Refusal> {
-    let (at, count) = (list.as_mut_ptr(), list.len());
-    outcome(unsafe { dihkelu_start(sheet.as_ptr(), sheet.len(), at, count) })
+/// A train: what is done of its sheet, the powers after it and the wavelength held.
+#[derive(Clone, Copy, Debug, Default, PartialEq)]
+pub struct Train {
+    pub surfaces_done: u32,
+    pub s: f64,
+    pub p: f64,
+    pub wavelength_nm: f64,
 }
 
-/// A step: writes the next s and p, gives the surfaces done then.
-pub fn step(sheet: &[u8], done: u32, s: f64, p: f64, list: &mut [f64]) -> Result<u32, Refusal> {
-    let (at, count) = (list.as_mut_ptr(), list.len());
-    outcome(unsafe { dihkelu_step(sheet.as_ptr(), sheet.len(), done, s, p, at, count) })
+/// A fresh train: writes it, gives the count of surfaces.
+pub fn start(sheet: &[u8], train: &mut Train) -> Result<u32, Refusal> {
+    outcome(unsafe {
+        dihkelu_start(
+            sheet.as_ptr(),
+            sheet.len(),
+            &mut train.surfaces_done,
+            &mut train.s,
+            &mut train.p,
+            &mut train.wavelength_nm,
+        )
+    })
+}
+
+/// A step: takes the train one surface on, gives the surfaces done then.
+pub fn step(sheet: &[u8], train: &mut Train) -> Result<u32, Refusal> {
+    outcome(unsafe {
+        dihkelu_step(
+            sheet.as_ptr(),
+            sheet.len(),
+            &mut train.surfaces_done,
+            &mut train.s,
+            &mut train.p,
+            &mut train.wavelength_nm,
+        )
+    })
+}
+
+/// A new wavelength for the surfaces not yet done, gives the surfaces done.
+pub fn retune(sheet: &[u8], train: &mut Train, wavelength_nm: f64) -> Result<u32, Refusal> {
+    outcome(unsafe {
+        dihkelu_retune(
+            sheet.as_ptr(),
+            sheet.len(),
+            train.surfaces_done,
+            &mut train.wavelength_nm,
+            wavelength_nm,
+        )
+    })
 }
 
 /// A whole run: writes s, p after each surface, gives the count of surfaces.

@@ -74,6 +74,37 @@ static void leave(const char *call, List l, uint64_t returned, unsigned may, siz
 }
 
 #define BIT(n) (1u << (n))
+
+/* ---- a state of NaNs of odd payloads in a block of its own */
+typedef struct {
+    double s, p, wavelength;
+    uint32_t done;
+} State;
+
+static State *state_block(uint32_t done) {
+    State *st = block(sizeof *st);
+    memset(st, 0, sizeof *st);
+    st->done = done;
+    st->s = number((draw() | 0x7FF0000000000001u) ^ (below(2) << 63));
+    st->p = number(draw() | 0x7FF0000000000001u);
+    st->wavelength = number(draw() | 0x7FF0000000000001u);
+    return st;
+}
+
+static void leave_state(const char *call, State *now, State *before, uint64_t returned, unsigned may) {
+    calls++;
+    uint32_t refused = dihkelu_refusal(returned);
+    if (refused != 0) {
+        if (refused > 11 || (may >> refused & 1) == 0) wrong(call, "a refusal that it has not", returned);
+        if (memcmp(now, before, 3 * 8) != 0 || now->done != before->done) wrong(call, "a state changed by a refusal", returned);
+        refusals[refused]++;
+    } else {
+        answers_given++;
+    }
+    free(now);
+    free(before);
+}
+
 enum { SHEET = BIT(4) | BIT(5) | BIT(6) };
 
 /* ---- every call on one sheet, copied to a block of its own */
@@ -85,22 +116,33 @@ static void sheet_calls(const uint8_t *bytes, size_t size) {
     calls++;
     if (refused) refusals[refused < 9 ? refused : 0]++;
     if (refused && (refused < 4 || refused > 6)) wrong("gate", "a refusal that it has not", gate);
-    if (dihkelu_place(gate) > 9673 || surfaces > 64) wrong("gate", "a place or a count past the longest sheet", gate);
+    if (dihkelu_place(gate) > 9865 || surfaces > 64) wrong("gate", "a place or a count past the longest sheet", gate);
     unsigned may = refused ? BIT(refused) : 0;
 
-    for (size_t n = 0; n <= 3; n++) {
-        List l = lend(n);
-        uint64_t r = dihkelu_start(sheet, size, (double *)l.now, n);
-        if (n >= 2 && r != gate) wrong("start", "another number than the gate's", r);
-        leave("start", l, r, may | BIT(8), 2);
-    }
-    for (int i = 0; i < 6; i++) {
+    State *st = state_block(7), *old = state_block(0);
+    *old = *st;
+    uint64_t started = dihkelu_start(sheet, size, &st->done, &st->s, &st->p, &st->wavelength);
+    if (started != gate) wrong("start", "another number than the gate's", started);
+    leave_state("start", st, old, started, may);
+    for (int i = 0; i < 12; i++) {
         uint32_t done = i == 0 ? 0 : i == 1 ? UINT32_MAX : i == 2 ? surfaces : i == 3 && surfaces ? surfaces - 1 : (uint32_t)below(66);
-        List l = lend(below(4));
-        uint64_t r = dihkelu_step(sheet, size, done, any(), any(), (double *)l.now, l.count);
-        if (!refused && (dihkelu_refusal(r) == 7) != (done >= surfaces)) wrong("step", "7 at the wrong count", r);
-        if (dihkelu_refusal(r) == 0 && r != (uint64_t)done + 1) wrong("step", "another count of surfaces done", r);
-        leave("step", l, r, may | (refused ? 0 : BIT(7) | BIT(8)), 2);
+        State *l = state_block(done), *was = state_block(0);
+        if (below(3)) l->s = any(), l->p = any(), l->wavelength = any();
+        *was = *l;
+        if (i % 2) {
+            uint64_t r = dihkelu_step(sheet, size, &l->done, &l->s, &l->p, &l->wavelength);
+            if (!refused && (dihkelu_refusal(r) == 7) != (done >= surfaces)) wrong("step", "7 at the wrong count", r);
+            if (dihkelu_refusal(r) == 0 && (r != (uint64_t)done + 1 || l->done != r)) wrong("step", "another count of surfaces done", r);
+            leave_state("step", l, was, r, may | (refused ? 0 : BIT(7) | BIT(11)));
+        } else {
+            double w = any();
+            uint64_t r = dihkelu_retune(sheet, size, l->done, &l->wavelength, w);
+            if (!refused && done >= surfaces && (dihkelu_refusal(r) == 11) != !(w >= 100.0 && w <= 10000.0))
+                wrong("retune", "11 where no surface is left", r);
+            if (dihkelu_refusal(r) == 0 && (r != done || l->wavelength != w)) wrong("retune", "another wavelength or count", r);
+            if (memcmp(&l->s, &was->s, 16) != 0 || l->done != done) wrong("retune", "more than the wavelength changed", r);
+            leave_state("retune", l, was, r, may | (refused ? 0 : BIT(11)));
+        }
     }
     size_t need = 2 * (size_t)surfaces, lengths[] = {0, need - (need > 0), need, need + 1, need + 7};
     for (int i = 0; i < 5; i++) {
@@ -125,13 +167,13 @@ static void sheet_calls(const uint8_t *bytes, size_t size) {
     }
     /* a whole run is one step after another */
     if (surfaces) {
-        double *run = block(8 * need), at[2], next[2];
-        if (dihkelu_run(sheet, size, run, need) != surfaces || dihkelu_start(sheet, size, at, 2) != surfaces)
+        double *run = block(8 * need), at[3];
+        uint32_t done = 9;
+        if (dihkelu_run(sheet, size, run, need) != surfaces || dihkelu_start(sheet, size, &done, at, at + 1, at + 2) != surfaces)
             wrong("run", "another number than the gate's", surfaces);
         for (uint32_t i = 0; i < surfaces; i++) {
-            if (dihkelu_step(sheet, size, i, at[0], at[1], next, 2) != i + 1 || memcmp(next, run + 2 * i, 16) != 0)
+            if (done != i || dihkelu_step(sheet, size, &done, at, at + 1, at + 2) != i + 1 || memcmp(at, run + 2 * i, 16) != 0)
                 wrong("step", "other powers than the run's", i);
-            memcpy(at, next, 16);
         }
         calls += 2 + surfaces;
         free(run);
@@ -151,13 +193,18 @@ static size_t put_double(uint8_t *b, size_t at, double x) {
     return put(b, at, v, 8);
 }
 
-/* Within the limits, of either edition, of so many surfaces; a coating 5 has so many layers, or a random count. In edition 2 they are of both kinds. */
+/* Within the limits, of either edition, of so many surfaces; a coating 5 has so many layers, or a random count. In edition 2 they are of both kinds, and kinds 7 stand between. */
 static size_t build(uint8_t *b, int surfaces, int layers) {
     unsigned edition = 1 + (unsigned)below(2);
     double wavelength = 100.0 + (double)below(9901), u2 = wavelength / 1000 * (wavelength / 1000);
     size_t at = put(b, put(b, 0, 0x10000000u + edition, 4), 0x20000000, 4);
     at = put_double(b, put_double(b, put_double(b, at, wavelength), 0.5), (double)below(2));
     for (int i = 0; i < surfaces; i++) {
+        if (edition == 2 && (layers == 16 || below(3) == 0)) {
+            wavelength = 100.0 + (double)below(9901);
+            u2 = wavelength / 1000 * (wavelength / 1000);
+            at = put_double(b, put(b, at, 0x70000000, 4), wavelength);
+        }
         unsigned payload = layers < 0 ? (unsigned)below(16) : 10 + (unsigned)below(2);
         at = put(b, at, 0x30000000u + payload, 4);
         at = put_double(b, put_double(b, put_double(b, at, 1.0 + (double)below(2) / 4), 1.5 + (double)below(3) / 2), (double)below(8) / 16);
@@ -283,20 +330,26 @@ static void expect(const char *call, uint64_t returned, uint64_t expected) {
 static void null_calls(void) {
     static uint8_t sheet[200];
     const uint64_t four = 4ull << 32, seven = 7ull << 32, eight = 8ull << 32;
-    double list[DIHKELU_COATED];
+    const uint64_t eleven = 11ull << 32;
+    double list[DIHKELU_COATED], s = 1.0, p = 1.0, w = 550.0;
+    uint32_t done = 0;
     expect("gate", dihkelu_gate(NULL, 0), four);
-    expect("start", dihkelu_start(NULL, 0, list, 2), four);
-    expect("start", dihkelu_start(NULL, 0, NULL, 0), four);
-    expect("step", dihkelu_step(NULL, 0, 0, 1.0, 1.0, NULL, 0), four);
+    expect("start", dihkelu_start(NULL, 0, &done, &s, &p, &w), four);
+    expect("step", dihkelu_step(NULL, 0, &done, &s, &p, &w), four);
+    expect("retune", dihkelu_retune(NULL, 0, 0, &w, 0.0), four);
     expect("run", dihkelu_run(NULL, 0, NULL, 0), four);
     expect("answers", dihkelu_answers(NULL, 0, 0, NULL, 0), four);
     size_t size = build(sheet, 0, -1);
-    expect("start", dihkelu_start(sheet, size, NULL, 0), eight);
+    expect("start", dihkelu_start(sheet, size, &done, &s, &p, &w), 0);
     expect("run", dihkelu_run(sheet, size, NULL, 0), 0);
-    expect("step", dihkelu_step(sheet, size, 0, 1.0, 1.0, NULL, 0), seven);
+    w = 0.0;
+    expect("step", dihkelu_step(sheet, size, &done, &s, &p, &w), seven);
+    expect("retune", dihkelu_retune(sheet, size, 4, &w, 99.0), eleven);
+    expect("retune", dihkelu_retune(sheet, size, 4, &w, 100.0), 4);
     expect("answers", dihkelu_answers(sheet, size, 0, NULL, 0), seven);
     size = build(sheet, 1, 0);
-    expect("step", dihkelu_step(sheet, size, 0, 1.0, 1.0, NULL, 0), eight);
+    w = 99.0;
+    expect("step", dihkelu_step(sheet, size, &done, &s, &p, &w), eleven);
     expect("run", dihkelu_run(sheet, size, NULL, 0), eight);
     expect("answers", dihkelu_answers(sheet, size, 0, NULL, 0), eight);
     expect("stack", dihkelu_stack(NULL, 0, 2.3, 1.46, 1.8, 550.0, NULL, 0), 9ull << 32);
@@ -318,7 +371,7 @@ int main(int count, char **words) {
     uint64_t times = count > 2 ? strtoull(words[2], NULL, 10) : 100;
     static uint8_t bytes[40000];
     null_calls();
-    static const size_t sizes[] = {0, 1, 2, 3, 4, 35, 36, 37, 30499, 30500, 30501, 30504, 38691, 38692, 38693, 38696};
+    static const size_t sizes[] = {0, 1, 2, 3, 4, 35, 36, 37, 30499, 30500, 30501, 30504, 39459, 39460, 39461, 39464};
 
     for (size_t i = 0; i < sizeof sizes / sizeof sizes[0]; i++)
         for (int kind = 0; kind < 3; kind++) {
@@ -331,14 +384,17 @@ int main(int count, char **words) {
     if (much == NULL) return 2;
     (void)build(much, 64, 16);
     if (dihkelu_gate(much, huge) != 4ull << 32) wrong("gate", "100 MB not refused with 4", 0);
-    double two[2];
-    if (dihkelu_start(much, huge, two, 2) != 4ull << 32) wrong("start", "100 MB not refused with 4", 0);
-    if (dihkelu_step(much, huge, 0, 1, 1, two, 2) != 4ull << 32) wrong("step", "100 MB not refused with 4", 0);
+    double two[2] = {1.0, 1.0};
+    uint32_t done = 0;
+    double at = 550.0;
+    if (dihkelu_start(much, huge, &done, two, two + 1, &at) != 4ull << 32) wrong("start", "100 MB not refused with 4", 0);
+    if (dihkelu_step(much, huge, &done, two, two + 1, &at) != 4ull << 32) wrong("step", "100 MB not refused with 4", 0);
+    if (dihkelu_retune(much, huge, done, &at, 550.0) != 4ull << 32) wrong("retune", "100 MB not refused with 4", 0);
     if (dihkelu_answers(much, huge, 0, two, 2) != 4ull << 32) wrong("answers", "100 MB not refused with 4", 0);
     if (dihkelu_run(bytes, build(bytes, 64, 16), (double *)much, huge / 8) != 64) wrong("run", "a list of 100 MB refused", 0);
     if (dihkelu_run(much, huge, two, 2) != 4ull << 32) wrong("run", "100 MB not refused with 4", 0);
     free(much);
-    calls += 6;
+    calls += 7;
 
     for (uint64_t k = 0; k < times; k++) {
         size_t size = build(bytes, below(4) ? (int)below(4) : (int)below(65), -1);

@@ -14,7 +14,7 @@ from pathlib import Path
 
 ROOT = Path(__file__).resolve().parent.parent
 VERSION = "1.4 (sheets of editions 1 and 2)"
-MOST_BYTES = 10_000_000  # of a file; a sheet has 38,692 at most
+MOST_BYTES = 10_000_000  # of a file; a sheet has 39,460 at most
 
 # payload / 2, document 01 section 1
 COATINGS = ["bare", "ideal-ar", "mgf2", "broadband-ar", "mirror", "custom", "ideal-beamsplitter", "ideal-mirror"]
@@ -29,6 +29,7 @@ BEAM_FORM = "beam NUMBER nm s NUMBER p NUMBER"
 SURFACE_FORM = "surface COATING transmitted|reflected from NUMBER to NUMBER at NUMBER deg|rad"
 LAYER_FORM = "layer NUMBER thickness NUMBER nm [k NUMBER]"
 GLASS_FORM = "glass a NUMBER b NUMBER c NUMBER thickness NUMBER nm"
+RETUNE_FORM = "retune to NUMBER nm"
 STACK_FORM = "stack TEXT with H NUMBER L NUMBER [M NUMBER] at NUMBER nm"
 MOST_STACK_NUMBERS = 192
 
@@ -44,12 +45,24 @@ class Sheet:
         self.given = None  # its edition, where it is said
         self.beam = None
         self.surfaces = []
+        self.retune = None  # a wavelength that waits for its surface
         self.lines = {}  # place of a kind word: the text's line
 
     def edition(self):
-        """As it is said; else 2 where a glass needs it."""
+        """As it is said; else 2 where a glass or a retune needs it."""
         glasses = any(is_glass(layer) for surface in self.surfaces for layer in surface["layers"])
-        return self.given or (2 if glasses else 1)
+        return self.given or (2 if glasses or self.retuned() else 1)
+
+    def retuned(self):
+        return any(surface["retune"] for surface in self.surfaces)
+
+    def met(self):
+        """The wavelength that each surface is met with: that of the last retune up to it, else the beam's."""
+        wavelength, out = self.beam["floats"][0], []
+        for surface in self.surfaces:
+            wavelength = surface["retune"]["floats"][0] if surface["retune"] else wavelength
+            out.append(wavelength)
+        return out
 
     def words(self):
         """The words of the sheet; fills `lines` from the blocks' own lines."""
@@ -65,6 +78,8 @@ class Sheet:
         block(1, self.edition(), [], None)
         block(2, 0, self.beam["floats"], self.beam["line"])
         for surface in self.surfaces:
+            if surface["retune"]:
+                block(7, 0, surface["retune"]["floats"], surface["retune"]["line"])
             block(3, 2 * surface["coating"] + surface["reflected"], surface["floats"], surface["line"])
             for layer in surface["layers"]:
                 block(6 if is_glass(layer) else 4, 0, layer["floats"], layer["line"])
@@ -91,7 +106,7 @@ def index_at(layer, wavelength):
 
 def most_bytes(data):
     """Of a sheet that begins so."""
-    return 38692 if data[:4] == bytes.fromhex("10000002") else 30500
+    return 39460 if data[:4] == bytes.fromhex("10000002") else 30500
 
 
 # ---- text to sheet
@@ -206,6 +221,8 @@ def add_layers(sheet, layers, line):
 def add_line(sheet, content, line):
     tokens = content.split()
     head = tokens[0].lower()
+    if sheet.retune and head != "surface":
+        raise Wrong(f"a surface must follow the retune of line {sheet.retune['line']}")
     if head == "edition":
         if sheet.beam or sheet.given:
             raise Wrong("an edition stands once, before the beam")
@@ -222,7 +239,14 @@ def add_line(sheet, content, line):
             raise Wrong(f"a sheet has at most {MOST_SURFACES} surfaces")
         angle = math.radians(angle) if unit == 0 else angle
         floats = [n0, n1, angle]
-        sheet.surfaces.append({"coating": coating, "reflected": reflected, "floats": floats, "layers": [], "line": line})
+        sheet.surfaces.append({"coating": coating, "reflected": reflected, "floats": floats, "layers": [], "retune": sheet.retune, "line": line})
+        sheet.retune = None
+    elif head == "retune":
+        if not sheet.beam:
+            raise Wrong("a retune before the beam")
+        if sheet.given == 1:
+            raise Wrong("a retune stands only in a sheet of edition 2")
+        sheet.retune = {"floats": match(tokens, RETUNE_FORM), "line": line}
     elif head == "layer":
         n, thickness, k = (match(tokens, LAYER_FORM) + [0.0])[:3]
         add_layers(sheet, [[n, k, thickness]], line)
@@ -233,7 +257,7 @@ def add_line(sheet, content, line):
     elif head == "stack":
         add_layers(sheet, stack_line(content), line)
     else:
-        raise Wrong(f"'{tokens[0]}' begins no line; a line begins with edition, beam, surface, layer, glass, stack or #")
+        raise Wrong(f"'{tokens[0]}' begins no line; a line begins with edition, beam, retune, surface, layer, glass, stack or #")
 
 
 UTF_16 = "the text is in UTF-16; save it as UTF-8"
@@ -275,13 +299,15 @@ def from_text(data):
             raise Wrong(f"line {line}: {wrong}") from None
     if not sheet.beam:
         raise Wrong(f"line {line}: the text ends without a beam: {BEAM_FORM}")
+    if sheet.retune:
+        raise Wrong(f"line {line}: a surface must follow the retune of line {sheet.retune['line']}")
     return sheet
 
 
 # ---- sheet to text
 
 def from_bytes(data):
-    """Reads a sheet by document 01's section 1 and document 02's slip 3; the numbers may be any."""
+    """Reads a sheet by document 01's section 1 and document 02's slips 3 and 5; the numbers may be any."""
     if len(data) % 4 != 0 or not 36 <= len(data) <= most_bytes(data):
         raise Wrong(f"refused 4 0: {explain(4, 0, None, data)}")
     words = [word for (word,) in struct.iter_unpack(">I", data)]
@@ -307,9 +333,15 @@ def from_bytes(data):
         if at == len(words):
             fault(at, "END is missing")
         kind, payload = words[at] >> 28, words[at] & 0x0FFFFFFF
+        if sheet.retune and kind != 3:
+            fault(at, f"word {at} is {words[at]:08X}, not the SURFACE that must follow a kind 7")
         if kind == 3 and payload <= 15 and len(sheet.surfaces) < MOST_SURFACES:
-            sheet.surfaces.append({"coating": payload // 2, "reflected": payload % 2, "floats": floats(at), "layers": [], "line": None})
+            sheet.surfaces.append({"coating": payload // 2, "reflected": payload % 2, "floats": floats(at), "layers": [], "retune": sheet.retune, "line": None})
+            sheet.retune = None
             at += 7
+        elif kind == 7 and sheet.given == 2 and payload == 0 and len(sheet.surfaces) < MOST_SURFACES:
+            sheet.retune = {"floats": floats(at, 1), "line": None}
+            at += 3
         elif kind in layer_kinds and payload == 0 and sheet.surfaces and sheet.surfaces[-1]["coating"] == CUSTOM and len(sheet.surfaces[-1]["layers"]) < MOST_LAYERS:
             count = 4 if kind == 6 else 3
             sheet.surfaces[-1]["layers"].append({"floats": floats(at, count), "line": None})
@@ -334,7 +366,9 @@ def to_text(sheet):
     wavelength, s, p = map(written, sheet.beam["floats"])
     lines = ["edition 2"] if sheet.edition() == 2 else []
     lines += [f"beam {wavelength} nm s {s} p {p}"]
-    for place, surface in enumerate(sheet.surfaces, 1):
+    for place, (surface, met) in enumerate(zip(sheet.surfaces, sheet.met()), 1):
+        if surface["retune"]:
+            lines.append(f"retune to {written(met)} nm")
         n0, n1, angle = map(written, surface["floats"])
         degrees = f"{math.degrees(surface['floats'][2]):.4f} deg"
         name, direction = COATINGS[surface["coating"]], DIRECTIONS[surface["reflected"]]
@@ -342,7 +376,7 @@ def to_text(sheet):
         for layer in surface["layers"]:
             if is_glass(layer):
                 a, b, c, thickness = map(written, layer["floats"])
-                n = index_at(layer, sheet.beam["floats"][0])
+                n = index_at(layer, met)
                 lines.append(f"  glass a {a} b {b} c {c} thickness {thickness} nm  # n {n:.6g}")
                 continue
             n, k, thickness = map(written, layer["floats"])
@@ -367,7 +401,9 @@ def outside(block, surface, wavelength):
             bent, most = n0 * abs(math.sin(angle)), 0.875 * n
             said.append(f"n_incident times sin is {written(bent)}, more than 0.875 of {name} {written(n)}, {written(most)}")
 
-    if surface is None:
+    if surface is not None and block is surface["retune"]:
+        within("the wavelength", block["floats"][0], 100, 10000)
+    elif surface is None:
         wavelength, s, p = block["floats"]
         within("the wavelength", wavelength, 100, 10000)
         within("the s power", s, 0, 1)
@@ -404,17 +440,20 @@ def explain(refusal, place, sheet, data):
         return f"word {place} is not what may stand there, or its numbers go past the end, or END is missing or not the last"
     if refusal == 6 and sheet:
         at = 8
-        named = {1: ("the beam", sheet.beam, None)}
-        for count, surface in enumerate(sheet.surfaces, 1):
-            named[at] = (f"surface {count}", surface, surface)
+        named = {1: ("the beam", sheet.beam, None, None)}
+        for count, (surface, met) in enumerate(zip(sheet.surfaces, sheet.met()), 1):
+            if surface["retune"]:
+                named[at] = (f"the retune before surface {count}", surface["retune"], surface, met)
+                at += 3
+            named[at] = (f"surface {count}", surface, surface, met)
             at += 7
             for number_, layer in enumerate(surface["layers"], 1):
-                named[at] = (f"layer {number_} of surface {count}", layer, surface)
+                named[at] = (f"layer {number_} of surface {count}", layer, surface, met)
                 at += 1 + 2 * len(layer["floats"])
         if place in named:
-            name, block, surface = named[place]
+            name, block, surface, met = named[place]
             where = f" (line {block['line']})" if block["line"] else ""
-            return f"{name}{where} is outside the gate: {outside(block, surface, sheet.beam['floats'][0])}"
+            return f"{name}{where} is outside the gate: {outside(block, surface, met)}"
     return {
         6: f"the block at word {place} is outside the gate",
         7: "the train has no further surface",
@@ -504,7 +543,7 @@ def alone(wavelength, surface, reflected, program):
     """The part of s and of p that one surface reflects or transmits: what is left of a beam of 1 and 1."""
     sheet = Sheet()
     sheet.beam = {"floats": [wavelength, 1.0, 1.0], "line": None}
-    sheet.surfaces = [{**surface, "reflected": reflected}]
+    sheet.surfaces = [{**surface, "reflected": reflected, "retune": None}]
     name, output = answered(program, sheet.bytes())
     line = STATE.fullmatch(output[0])
     if not line:
@@ -528,10 +567,10 @@ def losses(sheet, data, program):
     total = re.fullmatch(r"sum ([0-9A-F]{16})", output[-1])
     if not sheet or not total or None in lines or len(lines) != len(sheet.surfaces):
         raise Wrong(f"{name} gave no answer: it printed something else than a train's lines")
-    rows = [["", "surface", "follows", "s lost %", "p lost %", "lost %", "stays in the glass %", "left of the beam %"]]
-    wavelength, s, p = sheet.beam["floats"]
+    rows = [["", "surface", "nm", "follows", "s lost %", "p lost %", "lost %", "stays in the glass %", "left of the beam %"]]
+    _, s, p = sheet.beam["floats"]
     start = s + p
-    for surface, line in zip(sheet.surfaces, lines):
+    for surface, line, wavelength in zip(sheet.surfaces, lines, sheet.met()):
         new_s, new_p = number("0x" + line[3]), number("0x" + line[4])
         n0, n1, angle = surface["floats"]
         called = f"{COATINGS[surface['coating']]} {n0:g} to {n1:g} at {math.degrees(angle):.2f} deg"
@@ -541,12 +580,12 @@ def losses(sheet, data, program):
         if COATINGS[surface["coating"]] != "bare" and s + p:
             stays_s, stays_p = stays(wavelength, surface, program)
             kept = percent(s * stays_s + p * stays_p, s + p)
-        rows.append([line[1], called, DIRECTIONS[line[2] == "R"], percent(s - new_s, s), percent(p - new_p, p), percent(lost, s + p), kept, percent(new_s + new_p, start)])
+        rows.append([line[1], called, f"{wavelength:g}", DIRECTIONS[line[2] == "R"], percent(s - new_s, s), percent(p - new_p, p), percent(lost, s + p), kept, percent(new_s + new_p, start)])
         s, p = new_s, new_p
     widths = [max(len(row[i]) for row in rows) for i in range(len(rows[0]))]
     text = ""
     for row in rows:
-        cells = [cell.ljust(width) if i in (1, 2) else cell.rjust(width) for i, (cell, width) in enumerate(zip(row, widths))]
+        cells = [cell.ljust(width) if i in (1, 3) else cell.rjust(width) for i, (cell, width) in enumerate(zip(row, widths))]
         text += "  ".join(cells).rstrip() + "\n"
     end = number("0x" + total[1])
     powers = f"s {s + 0.0:.6g}, p {p + 0.0:.6g}, sum {end + 0.0:.6g}"  # + 0.0 takes the sign from a zero

@@ -53,7 +53,7 @@ GLASS = "glass A 1.5046 B 0.0042 C 0 thickness 80 nm\n"
 BAD_TEXTS = [
     ("", "line 1: the text ends without a beam: beam NUMBER nm s NUMBER p NUMBER"),
     ("# nothing\n", "line 2: the text ends without a beam: beam NUMBER nm s NUMBER p NUMBER"),
-    (BEAM + "\nlens 3\n", "line 3: 'lens' begins no line; a line begins with edition, beam, surface, layer, glass, stack or #"),
+    (BEAM + "\nlens 3\n", "line 3: 'lens' begins no line; a line begins with edition, beam, retune, surface, layer, glass, stack or #"),
     ("beam 500 nm s half p 0.5\n", "line 1: 'half' is no number"),
     ("beam 500 s 0.5 p 0.5\n", "line 1: 's' stands where 'nm' should: beam NUMBER nm s NUMBER p NUMBER"),
     ("beam 500 nm s 0.5\n", "line 1: the line ends where p should stand: beam NUMBER nm s NUMBER p NUMBER"),
@@ -70,6 +70,12 @@ BAD_TEXTS = [
     (BEAM + GLASS, "line 2: a layer stands only under a surface whose coating is custom"),
     (BEAM + CUSTOM + 8 * (LAYER + GLASS) + GLASS, "line 19: a surface has at most 16 layers"),
     (BEAM + CUSTOM + "glass a 1.5 b 0 thickness 80 nm\n", "line 3: 'thickness' stands where 'c' should: glass a NUMBER b NUMBER c NUMBER thickness NUMBER nm"),
+    ("retune to 1064 nm\n", "line 1: a retune before the beam"),
+    (BEAM + "retune to 1064\n", "line 2: the line ends where nm should stand: retune to NUMBER nm"),
+    (BEAM + "retune to 1064 nm\n", "line 3: a surface must follow the retune of line 2"),
+    (BEAM + "retune to 1064 nm\nretune to 532 nm\n", "line 3: a surface must follow the retune of line 2"),
+    (BEAM + CUSTOM + "retune to 1064 nm\n" + LAYER, "line 4: a surface must follow the retune of line 3"),
+    ("edition 1\n" + BEAM + "retune to 1064 nm\n", "line 3: a retune stands only in a sheet of edition 2"),
     ("edition 3\n", "line 1: there is no edition '3'; there are 1, 2"),
     (BEAM + "edition 2\n", "line 2: an edition stands once, before the beam"),
     ("edition 2\nedition 2\n", "line 2: an edition stands once, before the beam"),
@@ -166,9 +172,10 @@ class Glasses(unittest.TestCase):
         _, sheet, _ = tool("write", "-", given=BEAM + CUSTOM + "glass a 1.5 b 0.0625 c 0.015625 thickness 80 nm\n")
         self.assertIn(b"  glass a 1.5 b 0.0625 c 0.015625 thickness 80 nm  # n 2\n", tool("show", "-", given=sheet)[1])
 
-    def test_the_example(self):
-        given = EXAMPLES / "glasses.txt"
-        self.assertEqual(tool("losses", str(given), "--program", PROGRAM), (0, (EXAMPLES / "glasses.losses").read_bytes(), ""))
+    def test_the_examples(self):
+        for name in ("glasses", "doubled"):
+            given = EXAMPLES / f"{name}.txt"
+            self.assertEqual(tool("losses", str(given), "--program", PROGRAM), (0, (EXAMPLES / f"{name}.losses").read_bytes(), ""))
 
 
 class QuarterWaves(unittest.TestCase):

@@ -1,4 +1,4 @@
-/* Document 01's sheet from C: gate, start, steps, the answers of its surface, a whole run; a stack in shorthand;
+/* Document 01's sheet from C: gate, start, a retune, steps, the answers of its surface, a whole run; a stack in shorthand;
  * Mueller matrices of empty space; quarter waves. */
 #include <inttypes.h>
 #include <stdio.h>
@@ -46,22 +46,24 @@ int main(void) {
     uint32_t surfaces = answered("gate", dihkelu_gate(sheet, sizeof sheet));
     printf("surfaces %" PRIu32 "\n", surfaces);
 
-    double state[2];
-    answered("start", dihkelu_start(sheet, sizeof sheet, state, 2));
-    printf("start %016" PRIX64 " %016" PRIX64 "\n", bits(state[0]), bits(state[1]));
+    uint32_t done;
+    double s, p, wavelength;
+    answered("start", dihkelu_start(sheet, sizeof sheet, &done, &s, &p, &wavelength));
+    printf("start %016" PRIX64 " %016" PRIX64 " at %g nm\n", bits(s), bits(p), wavelength);
+    answered("retune", dihkelu_retune(sheet, sizeof sheet, done, &wavelength, 632.8));
+    printf("retuned to %g nm\n", wavelength);
+    print_refusal("retune", dihkelu_retune(sheet, sizeof sheet, done, &wavelength, 99.0));
 
-    for (uint32_t done = 0; done < surfaces;) {
+    while (done < surfaces) {
         double answers[DIHKELU_COATED];
         uint32_t count = answered("answers", dihkelu_answers(sheet, sizeof sheet, done, answers, DIHKELU_COATED));
         printf("surface %" PRIu32 ", %s, %" PRIu32 " numbers:", done, answers[0] == 1.0 ? "coated" : "bare", count);
         for (uint32_t i = 1; i < count; i++) printf(" %g", answers[i]);
         printf("\n");
-        double next[2];
-        done = answered("step", dihkelu_step(sheet, sizeof sheet, done, state[0], state[1], next, 2));
-        memcpy(state, next, sizeof state);
-        printf("step %" PRIu32 " %016" PRIX64 " %016" PRIX64 "\n", done, bits(state[0]), bits(state[1]));
+        answered("step", dihkelu_step(sheet, sizeof sheet, &done, &s, &p, &wavelength));
+        printf("step %" PRIu32 " %016" PRIX64 " %016" PRIX64 " at %g nm\n", done, bits(s), bits(p), wavelength);
     }
-    printf("sum %016" PRIX64 "\n", bits(state[0] + state[1]));
+    printf("sum %016" PRIX64 "\n", bits(s + p));
 
     double run[2 * 64];
     answered("run", dihkelu_run(sheet, sizeof sheet, run, 2 * 64));

@@ -1,12 +1,12 @@
-//! Document 01's sheet from Rust: gate, start, steps, the answers of its surface, a whole run; a stack in shorthand;
+//! Document 01's sheet from Rust: gate, start, a retune, steps, the answers of its surface, a whole run; a stack in shorthand;
 //! Mueller matrices of empty space; quarter waves.
 
 #[path = "../../include/dihkelu.rs"]
 mod dihkelu;
 
 use dihkelu::{
-    answers, environment_ok, evaluate, gate, mueller_born_wolf, quarter_waves, run, stack, start, step, to_mueller, version,
-    Refusal, COATED, MUELLER, RESPONSE, STACK, VERSION,
+    answers, environment_ok, evaluate, gate, mueller_born_wolf, quarter_waves, retune, run, stack, start, step, to_mueller, version,
+    Refusal, Train, COATED, MUELLER, RESPONSE, STACK, VERSION,
 };
 
 fn main() -> Result<(), Refusal> {
@@ -20,21 +20,25 @@ fn main() -> Result<(), Refusal> {
 
     let surfaces = gate(&sheet)?;
     println!("surfaces {surfaces}");
-    let mut state = [0.0; 2];
-    start(&sheet, &mut state)?;
-    println!("start {:016X} {:016X}", state[0].to_bits(), state[1].to_bits());
+    let mut train = Train::default();
+    start(&sheet, &mut train)?;
+    println!("start {:016X} {:016X} at {} nm", train.s.to_bits(), train.p.to_bits(), train.wavelength_nm);
+    retune(&sheet, &mut train, 632.8)?;
+    println!("retuned to {} nm", train.wavelength_nm);
+    if let Err(refusal) = retune(&sheet, &mut train, 99.0) {
+        println!("retune: refused {} {}", refusal.number, refusal.place);
+    }
 
-    let mut done = 0;
-    while done < surfaces {
+    while train.surfaces_done < surfaces {
+        let done = train.surfaces_done;
         let mut list = [0.0; COATED];
         let count = answers(&sheet, done, &mut list)? as usize;
         let kind = if list[0] == 1.0 { "coated" } else { "bare" };
         println!("surface {done}, {kind}, {count} numbers: {:?}", &list[1..count]);
-        let [s, p] = state;
-        done = step(&sheet, done, s, p, &mut state)?;
-        println!("step {done} {:016X} {:016X}", state[0].to_bits(), state[1].to_bits());
+        let done = step(&sheet, &mut train)?;
+        println!("step {done} {:016X} {:016X} at {} nm", train.s.to_bits(), train.p.to_bits(), train.wavelength_nm);
     }
-    println!("sum {:016X}", (state[0] + state[1]).to_bits());
+    println!("sum {:016X}", (train.s + train.p).to_bits());
 
     let mut powers = [0.0; 2 * 64];
     run(&sheet, &mut powers)?;
