@@ -7,7 +7,7 @@ use native.Mathlib.Nat.{add-zero, min-eq-left, min-eq-right}
 use native.Mathlib.Numerals.{add-one}
 use native.Mathlib.Omega.{arith}
 use lib.Dec.{T, ltb}
-use lib.ListN.{length, getD, drop}
+use lib.ListN.{length, getD, drop, length-append}
 use lib.Ieee.{Float}
 use lib.Seq.{drop-cons}
 use lib.Ieee.Bits.{is-true}
@@ -16,13 +16,14 @@ use Rattle.ieee.proofs.Signs.{of-true}
 use borrow.Author.Tests.{lt-ltb, le-ltb, le-leb, lt-leb, ltb-true, ltb-false}
 use Rattle.refusal.specs.Outcome.{Outcome, answer, refusal, map, bind}
 use Rattle.gate_limits.specs.Limits.{wavelength-passes, power-passes, beam-passes}
+use Rattle.thin_film_solver.specs.declared.ThinFilmLayer.{ThinFilmLayer}
 use Rattle.surface.specs.declared.Powers.{Powers}
 use Rattle.surface.specs.declared.Answers.{Answers}
 use Rattle.surface.specs.Finite.{UnitPowers, Answered}
-use Rattle.sheet.specs.Sheet.{SheetSurface, no-surface, nth, Sheet, GoodSurface, WellFormed}
+use Rattle.sheet.specs.Sheet.{SheetLayer, SheetSurface, no-surface, nth, Sheet, GoodSurface, WellFormed}
 use Rattle.sheet.specs.Claim.{Bytes}
-use Rattle.sheet_values.specs.Values.{value, films, surface-value, met-with}
-use Rattle.sheet_surfaces.specs.Surfaces.{answers-to, surface-answers}
+use Rattle.sheet_values.specs.Values.{value, film, films, surface-value, met-with, met-at}
+use Rattle.sheet_surfaces.specs.Surfaces.{of-surface, surface-of, numbered, nth-surface, no-film, layer-of, nth-layer, answers-to, surface-answers}
 use Rattle.sheet_surfaces.proofs.Answers.{all-nth, answered}
 use Rattle.gate.specs.Gate.{gated}
 use Rattle.gate.specs.Wavelength.{holds}
@@ -39,6 +40,18 @@ use Rattle.train_claim.proofs.Writes.{course-steps, held-after, each-s,
 
 abbrev Whole : Float → SheetSurface → Type 0
 Whole w y = Answered w (surface-value y) (films w (y .layers))
+
+-- ---- a layer by its number
+films-at : (w : Float) (before : List SheetLayer) (l : SheetLayer) (behind : List SheetLayer) (d : ThinFilmLayer) → getD (films w (before ++ l ∷ behind)) (length before) d ≡ film w l
+unfolding films
+films-at w [] l behind d = refl
+films-at w (b ∷ before) l behind d = films-at w before l behind d
+
+within-length : (before : List SheetLayer) (l : SheetLayer) (behind : List SheetLayer) → length before < length (before ++ l ∷ behind)
+within-length before l behind = rw (length-append before (l ∷ behind)) (omega arith)
+
+layer-here : (w : Float) (y : SheetSurface) (before : List SheetLayer) (l : SheetLayer) (behind : List SheetLayer) → y .layers ≡ before ++ l ∷ behind → layer-of (length before) w y ≡ answer (film w l)
+layer-here w y before l behind e = rw e (rw (lt-ltb (length before) (length (before ++ l ∷ behind)) (within-length before l behind)) (ap answer (films-at w before l behind no-film)))
 
 -- ---- the chosen powers of a surface that is answered are from 0 to 1
 module _ (w : Float) (y : SheetSurface) where
@@ -271,7 +284,7 @@ module _ (src : List ℕ) (x : Sheet) (is-admitted : gated src ≡ answer x) (fo
       out-p i = unfold worked-out in refl
 
   pub every-call : EveryCall src x
-  unfolding run surface-answers
+  unfolding run surface-answers nth-surface nth-layer
   every-call = record {
     seven = on-seven;
     eleven = on-eleven;
@@ -283,6 +296,9 @@ module _ (src : List ℕ) (x : Sheet) (is-admitted : gated src ≡ answer x) (fo
     answered = λ i l. ap (answers-to i) is-admitted ∙ rw (lt-ltb i (length xs) l);
     met = λ i l. held-is i ∙ held-after (value (x .wavelength)) xs i l;
     no-surface = λ i l. ap (answers-to i) is-admitted ∙ rw (le-ltb i (length xs) l);
+    surface = λ i l. ap (λ (o : Outcome Sheet). map numbered (surface-of i o)) is-admitted ∙ rw (lt-ltb i (length xs) l);
+    layer = λ i l before y behind e. ap (of-surface (layer-of (length before)) i) is-admitted ∙ rw (lt-ltb i (length xs) l) (layer-here (met-at (value (x .wavelength)) xs i) (nth xs i) before y behind e);
+    no-layer = λ i j l past. ap (of-surface (layer-of j) i) is-admitted ∙ rw (lt-ltb i (length xs) l) (rw (le-ltb j (length (nth xs i .layers)) past));
   }
     where
       held-is : (i : ℕ) → worked-out x (steps (suc i)) .«wavelength_nm» ≡ course-of x (steps (suc i)) .held
@@ -290,13 +306,15 @@ module _ (src : List ℕ) (x : Sheet) (is-admitted : gated src ≡ answer x) (fo
 
 -- ---- bytes that the gate refuses
 turned-back : (src : List ℕ) (number place : ℕ) → gated src ≡ refusal number place → TurnedBack src number place
-unfolding start step retune run surface-answers
+unfolding start step retune run surface-answers nth-surface nth-layer
 turned-back src number place e = record {
   starts = ap (map fresh) e;
   steps = λ st. ap (λ (o : Outcome Sheet). bind o (stepped st)) e;
   retunes = λ st w. ap (λ (o : Outcome Sheet). bind o (retuned w st)) e;
   runs = λ list. ap (ran list) e;
   answered = λ i. ap (answers-to i) e;
+  surface = λ i. ap (λ (o : Outcome Sheet). map numbered (surface-of i o)) e;
+  layer = λ i j. ap (of-surface (layer-of j) i) e;
 }
 
 pub train-claim : TrainClaim

@@ -15,8 +15,8 @@ use Rattle.surface.specs.Finite.{Finite, Answered}
 use Rattle.sheet.specs.Words.{kind}
 use Rattle.sheet.specs.Sheet.{SheetLayer, Tuning, keeps, tunes, SheetSurface, nth, Sheet, WellFormed, layer-block}
 use Rattle.sheet.specs.Claim.{Bytes}
-use Rattle.sheet_values.specs.Values.{value, films, surface-value, met-with, met-at}
-use Rattle.sheet_surfaces.specs.Surfaces.{surface-answers}
+use Rattle.sheet_values.specs.Values.{value, film, films, surface-value, met-with, met-at}
+use Rattle.sheet_surfaces.specs.Surfaces.{nth-surface, nth-layer, surface-answers}
 use Rattle.gate.specs.Gate.{gated}
 use Rattle.gate.specs.Wavelength.{holds}
 use Rattle.gate.specs.Claim.{WithinLimits, GateClaim}
@@ -174,6 +174,13 @@ pub record EveryCall (src : List ℕ) (x : Sheet) : Type 0 where
   pub met : (i : ℕ) → i < length (x .surfaces) →
       worked-out x (steps (suc i)) .«wavelength_nm» ≡ met-at (value (x .wavelength)) (x .surfaces) i
   pub no-surface : (i : ℕ) → length (x .surfaces) ≤ i → surface-answers src i ≡ refusal 7 0
+  -- a surface by its number, and its layers in sheet order, each at that wavelength; 7 where there is none
+  pub surface : (i : ℕ) → i < length (x .surfaces) → let y = nth (x .surfaces) i in
+      nth-surface src i ≡ answer (record { surface = surface-value y; layers = length (y .layers) })
+  pub layer : (i : ℕ) → i < length (x .surfaces) → (before : List SheetLayer) (l : SheetLayer) (behind : List SheetLayer) →
+      nth (x .surfaces) i .layers ≡ before ++ l ∷ behind →
+      nth-layer src i (length before) ≡ answer (film (met-at (value (x .wavelength)) (x .surfaces) i) l)
+  pub no-layer : (i j : ℕ) → i < length (x .surfaces) → length (nth (x .surfaces) i .layers) ≤ j → nth-layer src i j ≡ refusal 7 0
 
 -- ---- the claim for bytes that the gate refuses: every call has the same refusal and leaves what it was lent
 pub record TurnedBack (src : List ℕ) (number place : ℕ) : Type 0 where
@@ -182,6 +189,8 @@ pub record TurnedBack (src : List ℕ) (number place : ℕ) : Type 0 where
   pub retunes : (st : State) (w : Float) → retune src st w ≡ refusal number place
   pub runs : (list : List Float) → run src list ≡ record { result = refusal number place; list = list }
   pub answered : (i : ℕ) → surface-answers src i ≡ refusal number place
+  pub surface : (i : ℕ) → nth-surface src i ≡ refusal number place
+  pub layer : (i j : ℕ) → nth-layer src i j ≡ refusal number place
 
 -- ---- an admitted sheet of an edition that has every payload, a LAYER after one coating 5 and layers of these kinds after the other,
 -- before which a kind 7 may stand: no limit refuses every coated surface
