@@ -1,6 +1,5 @@
--- 01 section 1 and 02 slips 3 and 5 as a reader: the kind words that may follow each other, and the sheet that some bytes hold, or the first
--- word that is out of grammar.
--- Definitions only. `Claim` says what it has to do with `WellFormed` and `encode`.
+-- 01 section 1 and 02 slips 3 and 5 as a reader: the kind words that may follow each other, and the sheet that some bytes hold, or the
+-- first word that is out of grammar. Definitions only. `Claim` says what it has to do with `WellFormed` and `encode`.
 use mathlib.Core.Bool.{Bool, true, false, _&&_, _||_, cond}
 use mathlib.Core.List.{List, [], _∷_}
 use Prim.Native.Nat.{ℕ, suc, _-_, _*_, _/_}

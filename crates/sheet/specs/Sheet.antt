@@ -1,5 +1,5 @@
--- 01 section 1 and 02 slips 3 and 5: a sheet of edition 1 or 2 as data, its blocks, and from these its words, its bytes and the places of its kind
--- words. There is no reader here. Definitions only. A float is its 64-bit pattern: the payload of a NaN is part of the bytes.
+-- 01 section 1 and 02 slips 3 and 5: a sheet of edition 1 or 2 as data, its blocks, and from these its words, its bytes and the places of
+-- its kind words. There is no reader here. Definitions only. A float is its 64-bit pattern: the payload of a NaN is part of the bytes.
 use mathlib.Core.Path.{_≡_}
 use mathlib.Core.Logic.{_⊎_}
 use mathlib.Core.List.{List, [], _∷_}

@@ -66,7 +66,9 @@ after-one st y =
 abbrev pub stepped : State → Sheet → Outcome State
 stepped st x =
     cond (ltb (st .done) (length (x .surfaces)))
-    (cond (holds (st .«wavelength_nm») (drop (st .done) (x .surfaces))) (answer (after-one st (nth (x .surfaces) (st .done)))) (refusal 11 0))
+    (cond (holds (st .«wavelength_nm») (drop (st .done) (x .surfaces)))
+    (answer (after-one st (nth (x .surfaces) (st .done))))
+    (refusal 11 0))
     (refusal 7 0)
 
 -- it gates the sheet anew
