@@ -1,0 +1,2 @@
+-- What the edition 1 sheet that is written has to do with the sheet that it is written from.
+pub mod Claim
