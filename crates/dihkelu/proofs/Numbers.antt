@@ -38,10 +38,12 @@ use Rattle.c_mueller.specs.Mueller.{converted}
 use Rattle.c_mueller.proofs.Answered.{converted-sound}
 use Rattle.c_stack.proofs.Stacked.{Few, few-layers, few-sound}
 use Rattle.dihkelu.specs.Train.{went, started, moved, run-done}
+use Rattle.sheet_edition_1.specs.Edition.{to-edition-1}
 use Rattle.dihkelu.specs.Numbers.{Tells, said, Numbers}
 use Rattle.c_call.proofs.Returned.{Sound}
 use Rattle.dihkelu.proofs.Places.{plain-sound, gate-sound}
 use Rattle.dihkelu.proofs.Answered.{answers-sound}
+use Rattle.dihkelu.proofs.Rewritten.{Fine, Small, fine}
 
 -- ---- one number
 tells-answer : (n : ℕ) → n < 2 ^ 32 → Tells (answer n) n
@@ -52,6 +54,10 @@ tells-refusal number place h k = (h, (omega arith, omega arith))
 
 tells-short : Tells (refusal 8 0) (packed 8 0)
 tells-short = tells-refusal 8 0 (lit< tt) (lit< tt)
+
+tells-fine : (o : Outcome ℕ) → Fine Small o → Tells o (returned o)
+tells-fine (answer n) h = tells-answer n h
+tells-fine (refusal number place) h = tells-refusal number place (h .0) (h .1)
 
 -- ---- a state that is lent
 tells-state : {A : Type 0} (number : A → ℕ) (next : A → State) (o : Outcome A) → Sound o → ((a : A) → o ≡ answer a → number a < 2 ^ 32) → (lent : State) → Tells (map number o) (went number next o lent .returned)
@@ -192,6 +198,7 @@ numbers = record {
   of-step = of-step;
   of-retune = of-retune;
   of-run = of-run;
+  of-edition-1 = λ src bytes output. tells-fine (to-edition-1 src output .result) (fine src bytes output);
   of-answers = λ src bytes i list. tells surface-answered (surface-answers src i) (answers-sound src bytes i) (λ a e. answers-small a) list;
   of-evaluate = λ code design n-incident n-substrate angle wavelength flat list.
       let o = evaluate code design n-incident n-substrate angle wavelength flat in

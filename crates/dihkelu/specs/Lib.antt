@@ -1,4 +1,5 @@
 -- The C interface: what each call of the train answers.
 pub mod Train
+pub mod Edition
 pub mod Numbers
 pub mod Version

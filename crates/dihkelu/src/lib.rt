@@ -21,8 +21,11 @@ ghost use Rattle.c_quarter_waves.specs.Waves.{counted};
 ghost use Rattle.train_steps.specs.Train.{step, retune, run};
 ghost use Rattle.sheet_surfaces.specs.Surfaces.{surface-answers};
 ghost use Rattle.dihkelu.specs.Train.{called, state, started, moved, run-done};
+ghost use Rattle.sheet_edition_1.specs.Edition.{to-edition-1};
+ghost use Rattle.dihkelu.specs.Edition.{copied, rewritten};
 ghost use Rattle.dihkelu.specs.Version.{version};
 use gate::Gated;
+use sheet_edition_1::Rewritten;
 use thin_film_layers::Evaluation;
 use train_steps::State;
 use train_steps::TrainReply;
@@ -248,6 +251,21 @@ pub extern "C" fn dihkelu_run(sheet: &[u8], list: &mut [f64]) -> u64
     ensures { λ r. ⌜ done r (now (list .exit)) ≡ run-done (run (now (sheet .entry)) (now (list .entry))) ⌝ }
 {
     number_of(train_steps::run(sheet, list))
+}
+
+// ---- sheets for the old reduction program
+
+// An edition 1 sheet for a sheet of either edition, which runs alike: writes it to the front of the output
+// and returns its length in bytes; or a refusal: 4, 5, 6, 12 at the first kind 7, then 8 for an output that
+// is too short.
+#[no_mangle]
+pub extern "C" fn dihkelu_edition_1(sheet: &[u8], output: &mut [u8]) -> u64
+    ensures { λ r. ⌜ copied r (now (output .exit)) ≡ rewritten (to-edition-1 (now (sheet .entry)) (now (output .entry))) ⌝ }
+{
+    match sheet_edition_1::to_edition_1(sheet, output) {
+        Rewritten::Length(n) => n as u64,
+        Rewritten::Refused(r) => c_call::packed(r),
+    }
 }
 
 // ---- a surface's answers

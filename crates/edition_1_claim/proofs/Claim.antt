@@ -12,11 +12,11 @@ use Rattle.gate.specs.Gate.{gated}
 use Rattle.gate.specs.Claim.{WithinLimits}
 use Rattle.gate.proofs.Claim.{gate-claim}
 use Rattle.train_steps.specs.Train.{fresh}
+use Rattle.sheet_edition_1.proofs.Shorter.{shorter}
 use Rattle.sheet_edition_1.specs.Edition.{translated, no-tuning, edition-1, laid, written, to-edition-1}
 use Rattle.edition_1_claim.specs.Claim.{Untuned, FirstTuning, RunsAlike, IsWritten, Untouched, Edition1Claim}
 use Rattle.edition_1_claim.proofs.Plain.{same-sheet, new-formed, new-within, new-untuned}
 use Rattle.edition_1_claim.proofs.Sevens.{untuned, tuned, old, either}
-use Rattle.edition_1_claim.proofs.Shorter.{shorter}
 use Rattle.edition_1_claim.proofs.Runs.{runs, starts, steps-alike, lists, told-alike, answers-alike}
 
 -- what comes of some bytes, by what the gate says of them

@@ -38,8 +38,8 @@ use Rattle.polarization.specs.Surface.{indices-valid, surface-fresnel-jones}
 use Rattle.name_bytes.specs.Ascii.{first-over}
 use Rattle.name_coating.specs.Name.{from-format-name}
 use Rattle.gate_limits.specs.Limits.{within, beam-passes}
-use Rattle.sheet.specs.Words.{word, words-of}
-use Rattle.sheet.specs.Blocks.{All, blocks-from, starts}
+use Rattle.sheet.specs.Words.{word, words-of, kind}
+use Rattle.sheet.specs.Blocks.{Block, All, flat, blocks-from, starts}
 use Rattle.sheet.specs.Sheet as Data
 use Rattle.sheet.specs.Sheet.{nth, WellFormed, raw-words, surfaces-blocks, blocks, encode}
 use Rattle.sheet.specs.Read.{floats-after, raws, numbers, may, decode}
@@ -56,6 +56,9 @@ use Rattle.sheet_surfaces.proofs.Answers.{nth-answered}
 use Rattle.train_steps.specs.declared.State.{State}
 use Rattle.train_steps.specs.Train.{fresh, start, after-one, stepped, step, with-wavelength, retuned, retune, Ran, ran, run}
 use Rattle.train_claim.proofs.Claim.{train-claim}
+use Rattle.sheet_edition_1.specs.Edition.{translated, no-tuning, edition-1, Written, written, to-edition-1}
+use Rattle.edition_1_claim.specs.Claim.{FirstTuning}
+use Rattle.edition_1_claim.proofs.Claim.{edition-1-claim}
 use Rattle.refusal_claim.specs.Claim.{one-of, Only, Refuses, Sheet, Numbers, at, RefusalClaim}
 
 -- ---- numbers of refusals
@@ -250,6 +253,71 @@ of-run = record {
     by : (x : Sheet) (list : List Float) → Only (4 ∷ 5 ∷ 6 ∷ 8 ∷ []) (run (x .src) list .result)
     by x list = ran-only list (gated (x .src)) (more (8 ∷ []) (gated (x .src)) (gated-only (x .src)))
 
+-- ---- an edition 1 sheet from a sheet
+abbrev tuned-panes : Data.Sheet
+tuned-panes = train-claim .two .sheet
+
+tuned-whole : Sheet
+tuned-whole = record { src = encode tuned-panes; bytes = grammar-claim .fits tuned-panes (train-claim .two .formed) .1 }
+
+tuned-admitted : gated (tuned-whole .src) ≡ answer tuned-panes
+unfolding tuned-whole
+tuned-admitted = gate-claim .admits (encode tuned-panes) (tuned-whole .bytes) tuned-panes .1 ((train-claim .two .formed, train-claim .two .within), refl)
+
+keep-all : (ys : List Data.SheetSurface) (i : ℕ) → All (λ (y : Data.SheetSurface). y .tuning ≡ Data.keeps) ys → getD (map-list (λ (y : Data.SheetSurface). y .tuning) ys) i Data.keeps ≡ Data.keeps
+keep-all [] i k = refl
+keep-all (y ∷ ys) zero k = k .0
+keep-all (y ∷ ys) (suc i) k = keep-all ys i (k .1)
+
+has-tuning : (place : ℕ) × FirstTuning tuned-panes place
+has-tuning = ⊎-elim (λ k. absurd (never (sym (ap (λ (ts : List Data.Tuning). getD ts 11 Data.keeps) (train-claim .two .tunings)) ∙ keep-all (tuned-panes .surfaces) 11 k))) (λ f. f) (edition-1-claim .either tuned-panes)
+  where
+    never : Data.tunes 0x4090_0000_0000_0000 ≡ Data.keeps → ⊥
+    never e = let z : _≡_ {A = ℕ} 0 1 = cc in omega arith
+
+long-enough : (y : Data.Sheet) → 0 < length (encode y)
+unfolding encode Data.bytes flat blocks
+long-enough y = omega arith
+
+abbrev twelve : List ℕ
+twelve = 4 ∷ 5 ∷ 6 ∷ 12 ∷ 8 ∷ []
+
+tuning-only : (y : Data.Sheet) (ps : List ℕ) (bs : List Block) → Only twelve (no-tuning y ps bs)
+unfolding no-tuning
+tuning-only y ps [] = tt
+tuning-only y [] (b ∷ bs) = tt
+tuning-only y (p ∷ ps) (b ∷ bs) = either twelve (eqb (kind (b .word)) 7) (refusal 12 p) (no-tuning y ps bs) tt (tuning-only y ps bs)
+
+of-edition-1 : Refuses (λ (x : Sheet × List ℕ). to-edition-1 (x .0 .src) (x .1) .result) (4 ∷ 5 ∷ 6 ∷ 12 ∷ 8 ∷ [])
+unfolding to-edition-1 edition-1
+of-edition-1 = record {
+  only = λ x. by (x .0) (x .1);
+  each = (
+    ((none, []), (0, ap (λ (r : Written). r .result) (edition-1-claim .turned-back (none .src) 4 0 four []))),
+    (
+      ((blank, []), (0, ap (λ (r : Written). r .result) (edition-1-claim .turned-back (blank .src) 5 0 five []))),
+      (
+        ((unlit, []), (1, ap (λ (r : Written). r .result) (edition-1-claim .turned-back (unlit .src) 6 1 six []))),
+        (
+          ((tuned-whole, []), (has-tuning .0, ap (λ (r : Written). r .result) (edition-1-claim .twelve (tuned-whole .src) (tuned-whole .bytes) tuned-panes tuned-admitted (has-tuning .0) (has-tuning .1) []))),
+          (((whole, []), (0, ap (λ (r : Written). r .result) (edition-1-claim .written (whole .src) (whole .bytes) panes admitted (edition-1-claim .old panes (train-claim .one .formed) (train-claim .one .edition-is)) .eight [] (long-enough (translated panes))))), tt),
+        ),
+      ),
+    ),
+  );
+}
+  where
+    written-only : (output : List ℕ) (o : Outcome Data.Sheet) → Only twelve o → Only twelve (written o output .result)
+    written-only output (answer y) t = at (leb (length (encode y)) (length output)) _ _ tt tt
+      where
+        at : (b : Bool) (u v : Written) → Only twelve (u .result) → Only twelve (v .result) → Only twelve (cond b u v .result)
+        at true u v h k = h
+        at false u v h k = k
+    written-only output (refusal number place) t = t
+
+    by : (x : Sheet) (output : List ℕ) → Only twelve (to-edition-1 (x .src) output .result)
+    by x output = written-only output (edition-1 (x .src)) (bound twelve _ (gated (x .src)) (more (12 ∷ 8 ∷ []) (gated (x .src)) (gated-only (x .src))) (λ y e. tuning-only (translated y) (Data.places y) (blocks y)))
+
 -- ---- coatings
 abbrev lit : Numbers
 lit = record { n-incident = one; n-substrate = one; angle = zero-f; wavelength = one }
@@ -430,6 +498,7 @@ refusal-claim = record {
   of-step = of-step;
   of-retune = of-retune;
   of-run = of-run;
+  of-edition-1 = of-edition-1;
   of-answers = of-answers;
   of-nth-surface = of-nth-surface;
   of-nth-layer = of-nth-layer;

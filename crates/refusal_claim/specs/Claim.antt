@@ -24,6 +24,7 @@ use Rattle.sheet.specs.Blocks.{All}
 use Rattle.sheet.specs.Claim.{Bytes}
 use Rattle.gate.specs.Gate.{gate}
 use Rattle.quarter_waves.specs.Waves.{quarter-waves}
+use Rattle.sheet_edition_1.specs.Edition.{to-edition-1}
 use Rattle.sheet_surfaces.specs.Surfaces.{nth-surface, nth-layer, surface-answers}
 use Rattle.train_steps.specs.declared.State.{State}
 use Rattle.train_steps.specs.Train.{start, step, retune, run}
@@ -64,6 +65,7 @@ pub record RefusalClaim : Type 0 where
   pub of-step : Refuses (λ (x : Sheet × State). step (x .0 .src) (x .1)) (4 ∷ 5 ∷ 6 ∷ 7 ∷ 11 ∷ [])
   pub of-retune : Refuses (λ (x : Sheet × (State × Float)). retune (x .0 .src) (x .1 .0) (x .1 .1)) (4 ∷ 5 ∷ 6 ∷ 11 ∷ [])
   pub of-run : Refuses (λ (x : Sheet × List Float). run (x .0 .src) (x .1) .result) (4 ∷ 5 ∷ 6 ∷ 8 ∷ [])
+  pub of-edition-1 : Refuses (λ (x : Sheet × List ℕ). to-edition-1 (x .0 .src) (x .1) .result) (4 ∷ 5 ∷ 6 ∷ 12 ∷ 8 ∷ [])
   pub of-answers : Refuses (λ (x : Sheet × ℕ). surface-answers (x .0 .src) (x .1)) (4 ∷ 5 ∷ 6 ∷ 7 ∷ [])
   pub of-nth-surface : Refuses (λ (x : Sheet × ℕ). nth-surface (x .0 .src) (x .1)) (4 ∷ 5 ∷ 6 ∷ 7 ∷ [])
   pub of-nth-layer : Refuses (λ (x : Sheet × (ℕ × ℕ)). nth-layer (x .0 .src) (x .1 .0) (x .1 .1)) (4 ∷ 5 ∷ 6 ∷ 7 ∷ [])
