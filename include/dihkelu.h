@@ -23,12 +23,13 @@
  *   5  the word at this place is out of grammar
  *   6  the BEAM, SURFACE, layer or kind 7 at this place is outside the limits
  *   7  there is no such surface: it is the sheet's count or more
- *   8  the list is too short; after all other refusals
+ *   8  the list or the output is too short; after all other refusals
  *   9  stack: no text can have the byte at this place; the place is the count of bytes where the text stops early, and
  *      255 for a text over 255 bytes
  *  10  stack: more than 64 layers
  *  11  step, retune: the wavelength is NaN or outside 100 to 10,000 nm, or a layer still to come fails at it, of those up
  *      to the next kind 7
+ *  12  edition_1: a kind 7 stands in the sheet, the first at this place
  *  13  reflectance_range: a low end is above its high end, or an end is NaN or outside 1 to 4
  *  14  quarter_waves: n is outside 1 to 4, the thickness outside 0 to 100,000 or the wavelength outside 100 to 10,000, or
  *      one of them is no number
@@ -41,13 +42,13 @@
  * Link with libdihkelu.a and the C library's mathematics (-lm): its fmod is called. The library is for x86-64.
  *
  * WHAT THE CALLER OWES, since no callee can check it:
- *   - A sheet, a text, a list of layers, a Jones matrix and a list that is written are each passed as a pointer and a
- *     count of elements (bytes or doubles), two arguments one after the other. So many elements are there, readable, and
- *     writable in the list; a pointer to doubles is aligned for them. Where the count is 0 the pointer may be anything,
+ *   - A sheet, a text, a list of layers, a Jones matrix and a list or an output that is written are each passed as a
+ *     pointer and a count of elements (bytes or doubles), two arguments one after the other. So many elements are there,
+ *     readable, and writable in the list and the output; a pointer to doubles is aligned for them. Where the count is 0 the pointer may be anything,
  *     null too: nothing is read or written through it.
  *   - A number that is written, such as a state's s, is passed as a pointer to it, which is never null. The numbers of a
  *     state are apart from each other and from the sheet.
- *   - The list overlaps neither the sheet nor the text nor the layers nor the Jones matrix, and no other thread writes
+ *   - The list or the output overlaps neither the sheet nor the text nor the layers nor the Jones matrix, and no other thread writes
  *     any of them meanwhile.
  *   - One double that is written, remainder_nm, is a pointer that is not null, to a double that is there, aligned and writable.
  *   - The floating-point environment is the one that a C program starts with: rounding to nearest, subnormal numbers
@@ -167,6 +168,17 @@ DIHKELU_MUST_USE uint64_t dihkelu_retune(const uint8_t *sheet, size_t sheet_coun
 /* A whole run from the start. Writes s, p after each surface, 2 doubles for each, and returns the count of surfaces;
  * refuses with 4, 5, 6, 8. */
 DIHKELU_MUST_USE uint64_t dihkelu_run(const uint8_t *sheet, size_t sheet_count, double *list, size_t list_count);
+
+/* The most bytes that dihkelu_edition_1 writes: the longest sheet of edition 1. */
+#define DIHKELU_EDITION_1 30500
+
+/* A sheet for programs that read edition 1 only, from a sheet of either edition: each kind 6 becomes a LAYER with its
+ * index at the BEAM's wavelength and k +0, OPEN's payload is 1, and all else is as it was; a sheet of edition 1 comes out
+ * as itself. Whole runs, steps and answers of both are the same, bit for bit; after a retune they are not, since a kind 6
+ * changes with colour and a LAYER does not. Writes the new sheet to the front of the output and returns its length in
+ * bytes, which is never more than the old one's; refuses with 4, 5, 6, 12, 8. */
+DIHKELU_MUST_USE uint64_t dihkelu_edition_1(const uint8_t *sheet, size_t sheet_count, uint8_t *output,
+                                            size_t output_count);
 
 /* The answers of a surface, counted from 0, at the wavelength that steps alone meet it with: that of the last kind 7 up
  * to it, or else the BEAM's. Returns how many doubles it wrote; refuses with 4, 5, 6, 7, 8. In order:

@@ -30,6 +30,12 @@ extern "C" {
         new_wavelength_nm: f64,
     ) -> u64;
     fn dihkelu_run(sheet: *const u8, sheet_count: usize, list: *mut f64, list_count: usize) -> u64;
+    fn dihkelu_edition_1(
+        sheet: *const u8,
+        sheet_count: usize,
+        output: *mut u8,
+        output_count: usize,
+    ) -> u64;
     fn dihkelu_answers(
         sheet: *const u8,
         sheet_count: usize,
@@ -102,6 +108,9 @@ pub const COATED: usize = 69;
 
 /// The most numbers that `stack` writes: 64 layers of 3.
 pub const STACK: usize = 192;
+
+/// The most bytes that `edition_1` writes: the longest sheet of edition 1.
+pub const EDITION_1: usize = 30_500;
 
 /// How many numbers a Mueller matrix is.
 pub const MUELLER: usize = 16;
@@ -184,6 +193,12 @@ pub fn retune(sheet: &[u8], train: &mut Train, wavelength_nm: f64) -> Result<u32
 pub fn run(sheet: &[u8], list: &mut [f64]) -> Result<u32, Refusal> {
     let (at, count) = (list.as_mut_ptr(), list.len());
     outcome(unsafe { dihkelu_run(sheet.as_ptr(), sheet.len(), at, count) })
+}
+
+/// An edition 1 sheet that runs as this one does: writes it to the front of the output, gives its length in bytes.
+pub fn edition_1(sheet: &[u8], output: &mut [u8]) -> Result<u32, Refusal> {
+    let (at, count) = (output.as_mut_ptr(), output.len());
+    outcome(unsafe { dihkelu_edition_1(sheet.as_ptr(), sheet.len(), at, count) })
 }
 
 /// The answers of a surface, counted from 0: gives how many numbers it wrote.

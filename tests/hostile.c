@@ -165,6 +165,39 @@ static void sheet_calls(const uint8_t *bytes, size_t size) {
         leave("answers", l, r, may | (refused ? 0 : BIT(7) | BIT(8)), count);
         leave("answers", full, f, may | (refused ? 0 : BIT(7)), count);
     }
+    /* an edition 1 sheet: refused alike whatever the output, 8 exactly where it is too short; it runs as the old one does */
+    uint8_t *new = block(size);
+    memset(new, 0x5A, size);
+    uint64_t whole = dihkelu_edition_1(sheet, size, new, size);
+    size_t length = dihkelu_value(whole);
+    calls++;
+    if (dihkelu_refusal(whole) ? refused ? whole != gate : dihkelu_refusal(whole) != 12 : refused || length > size || length < 36)
+        wrong("edition_1", "another number", whole);
+    for (int i = 0; i < 6; i++) {
+        size_t room = i == 0 ? 0 : i == 1 ? length + 4 : i == 2 ? length - (length > 0) : i == 3 ? length : i == 4 ? length + 1 : below(size + 9);
+        uint8_t *now = block(room), *before = block(room);
+        for (size_t j = 0; j < room; j++) before[j] = (uint8_t)draw();
+        memcpy(now, before, room);
+        uint64_t r = dihkelu_edition_1(sheet, size, now, room);
+        size_t front = dihkelu_refusal(r) ? 0 : length;
+        calls++;
+        if (r != (dihkelu_refusal(whole) == 0 && room < length ? 8ull << 32 : whole)) wrong("edition_1", "another number for another output", r);
+        if (memcmp(now, new, front) != 0) wrong("edition_1", "another sheet in another output", r);
+        if (memcmp(now + front, before + front, room - front) != 0) wrong("edition_1", "an output changed behind the sheet", r);
+        if (dihkelu_refusal(r)) refusals[dihkelu_refusal(r)]++;
+        else answers_given++;
+        free(now);
+        free(before);
+    }
+    if (length) {
+        double *old_run = block(8 * need), *new_run = block(8 * need);
+        if (dihkelu_run(sheet, size, old_run, need) != dihkelu_run(new, length, new_run, need) || memcmp(old_run, new_run, 8 * need) != 0)
+            wrong("edition_1", "a sheet that runs otherwise", whole);
+        calls += 2;
+        free(old_run);
+        free(new_run);
+    }
+    free(new);
     /* a whole run is one step after another */
     if (surfaces) {
         double *run = block(8 * need), at[3];
@@ -339,7 +372,9 @@ static void null_calls(void) {
     expect("retune", dihkelu_retune(NULL, 0, 0, &w, 0.0), four);
     expect("run", dihkelu_run(NULL, 0, NULL, 0), four);
     expect("answers", dihkelu_answers(NULL, 0, 0, NULL, 0), four);
+    expect("edition_1", dihkelu_edition_1(NULL, 0, NULL, 0), four);
     size_t size = build(sheet, 0, -1);
+    expect("edition_1", dihkelu_edition_1(sheet, size, NULL, 0), eight);
     expect("start", dihkelu_start(sheet, size, &done, &s, &p, &w), 0);
     expect("run", dihkelu_run(sheet, size, NULL, 0), 0);
     w = 0.0;
@@ -393,8 +428,10 @@ int main(int count, char **words) {
     if (dihkelu_answers(much, huge, 0, two, 2) != 4ull << 32) wrong("answers", "100 MB not refused with 4", 0);
     if (dihkelu_run(bytes, build(bytes, 64, 16), (double *)much, huge / 8) != 64) wrong("run", "a list of 100 MB refused", 0);
     if (dihkelu_run(much, huge, two, 2) != 4ull << 32) wrong("run", "100 MB not refused with 4", 0);
+    if (dihkelu_edition_1(much, huge, bytes, sizeof bytes) != 4ull << 32) wrong("edition_1", "100 MB not refused with 4", 0);
+    if (dihkelu_edition_1(bytes, build(bytes, 0, -1), much, huge) != 36) wrong("edition_1", "an output of 100 MB refused", 0);
     free(much);
-    calls += 7;
+    calls += 9;
 
     for (uint64_t k = 0; k < times; k++) {
         size_t size = build(bytes, below(4) ? (int)below(4) : (int)below(65), -1);
