@@ -1,6 +1,6 @@
 // Arguments of the recorded functions: what each may be, and random choices.
 
-use crate::functions::{born_wolf, exports, names, quarter_waves, shorthand, train};
+use crate::functions::{born_wolf, edition_1, exports, names, quarter_waves, shorthand, train};
 use crate::ranges;
 use crate::section2::{PI, T};
 use crate::values::{any, multiple, neighbour, optical, short, square, subnormal, Rng, CORE};
@@ -60,6 +60,8 @@ pub enum Arg {
     Retune,
     /// A list's length, then a sheet.
     Run,
+    /// The length of an output for an edition 1 sheet, then a sheet.
+    Old,
     /// A surface's number, counted from 0, then a sheet.
     Answers,
     /// A count of actions, each of them, then a sheet.
@@ -206,6 +208,7 @@ impl Arg {
             Arg::Sheet | Arg::Start => train::push_sheet(rng, words),
             Arg::Step => train::push_step(rng, words),
             Arg::Run => train::push_run(rng, words),
+            Arg::Old => edition_1::push_old(rng, words),
             Arg::Answers => train::push_answers(rng, words),
             Arg::Retune => train::push_retune(rng, words),
             Arg::Actions => train::push_actions(rng, words),

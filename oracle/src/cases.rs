@@ -1,7 +1,7 @@
 // The fixed cases of the recorded functions: special values in every argument, and usual ones together.
 
 use crate::arguments::{Arg, Style};
-use crate::functions::{born_wolf, exports, names, quarter_waves, shorthand, train};
+use crate::functions::{born_wolf, edition_1, exports, names, quarter_waves, shorthand, train};
 use crate::section2::PI;
 use crate::values::{neighbour, specials, Rng, CORE};
 
@@ -48,6 +48,7 @@ impl Arg {
             Arg::Start => train::start_cases(),
             Arg::Step => train::step_cases(),
             Arg::Run => train::run_cases(),
+            Arg::Old => edition_1::old_cases(),
             Arg::Answers => train::answers_cases(),
             Arg::Retune => train::retune_cases(),
             Arg::Actions => train::actions_cases(),

@@ -4,6 +4,7 @@
 use crate::arguments::{random, Arg};
 use crate::dihkelu;
 use crate::functions::born_wolf::to_mueller_born_wolf;
+use crate::functions::edition_1::{edition_1, need, written};
 use crate::functions::exports::{mueller, reflectance_range, stack};
 use crate::functions::quarter_waves::{multiples, quarter_waves};
 use crate::functions::train::{actions, tune};
@@ -65,6 +66,10 @@ pub fn linked_retune(sheet: &[u8], lent: State, wavelength: f64) -> (u64, State)
 
 pub fn linked_run(sheet: &[u8], list: &mut [f64]) -> u64 {
     returned(dihkelu::run(sheet, list))
+}
+
+pub fn linked_edition_1(sheet: &[u8], output: &mut [u8]) -> u64 {
+    returned(dihkelu::edition_1(sheet, output))
 }
 
 pub fn linked_answers(sheet: &[u8], surface: u32, list: &mut [f64]) -> u64 {
@@ -352,6 +357,92 @@ pub fn compare_trains(seed: u64, count: u64, spoiled: Option<u64>) -> (u64, u64)
         }
     }
     (calls, different)
+}
+
+/// An output of so many bytes, none like its neighbours.
+fn blank(count: usize) -> Vec<u8> {
+    (0..count).map(|i| (i * 37 + i / 256 + 11) as u8).collect()
+}
+
+/// `dihkelu_edition_1` on one sheet with outputs of every length about the need, every byte held; and the new sheet's
+/// runs, steps and answers, held to those of the old one. Calls made, and whether all agree.
+fn edition_1_agrees(bytes: &[u8], rng: &mut Rng, spoiled: bool) -> (u64, bool) {
+    let need = need(bytes);
+    let mut rooms = vec![0, 1, bytes.len(), rng.below(need + 1), need + 100];
+    rooms.extend(need.saturating_sub(9)..need + 10);
+    let mut calls = 0;
+    for room in rooms {
+        let mut output = blank(room);
+        let returned = linked_edition_1(bytes, &mut output);
+        let (number, left) = written(bytes, &blank(room));
+        calls += 1;
+        if returned != number ^ u64::from(spoiled) || output != left {
+            return (calls, false);
+        }
+    }
+    let Ok(new) = edition_1(bytes) else {
+        return (calls, true);
+    };
+    // The same from the start on, and written once more as it is.
+    let mut again = blank(new.len());
+    let run = |sheet: &[u8]| {
+        let mut list = filled(130);
+        let returned = linked_run(sheet, &mut list);
+        (
+            returned,
+            list.iter().map(|x| x.to_bits()).collect::<Vec<u64>>(),
+        )
+    };
+    let steps = |sheet: &[u8]| {
+        let (number, mut state) = linked_start(sheet, odd_state());
+        let mut seen = vec![number, bits(state.s), bits(state.p)];
+        for _ in 0..number.min(8) + 1 {
+            let (number, next) = linked_step(sheet, state);
+            state = next;
+            seen.extend([number, bits(state.s), bits(state.p), bits(state.wavelength)]);
+        }
+        seen
+    };
+    let surface = rng.below(65) as u32;
+    let answers = |sheet: &[u8]| {
+        let mut list = filled(69);
+        let returned = linked_answers(sheet, surface, &mut list);
+        (
+            returned,
+            list.iter().map(|x| x.to_bits()).collect::<Vec<u64>>(),
+        )
+    };
+    calls += 1;
+    let alike = linked_edition_1(&new, &mut again) == new.len() as u64
+        && again == new
+        && new.starts_with(&[0x10, 0, 0, 1])
+        && (bytes[3] == 2 || new == bytes)
+        && run(&new) == run(bytes)
+        && steps(&new) == steps(bytes)
+        && answers(&new) == answers(bytes);
+    (calls, alike)
+}
+
+/// Holds `dihkelu_edition_1` against 02 slip 6 on `count` random sheets, valid and damaged, of both editions. Returns calls, sheets
+/// that differ, and how many sheets of edition 2 became one of edition 1.
+pub fn compare_edition_1(seed: u64, count: u64, spoiled: Option<u64>) -> (u64, u64, u64) {
+    let mut rng = Rng::new(seed);
+    let mut progress = Progress::new("edition 1", count);
+    let (mut calls, mut different, mut became) = (0, 0, 0);
+    for number in 0..count {
+        let bytes = sheet(&mut rng);
+        let (made, agrees) = edition_1_agrees(&bytes, &mut rng, spoiled == Some(number));
+        calls += made;
+        became += u64::from(edition_1(&bytes).is_ok_and(|new| new != bytes));
+        if !agrees {
+            if different == 0 {
+                println!("edition 1: sheet {bytes:02X?}");
+            }
+            different += 1;
+        }
+        progress.step();
+    }
+    (calls, different, became)
 }
 
 /// Holds `dihkelu_quarter_waves` against whole numbers on these films. Returns how many there are and how many differ.

@@ -7,6 +7,7 @@ use crate::values::Rng;
 
 pub mod born_wolf;
 pub mod complex;
+pub mod edition_1;
 pub mod exports;
 pub mod names;
 pub mod polarization;
@@ -17,7 +18,7 @@ pub mod thin_film;
 pub mod train;
 
 /// The groups, in the order of their numbers.
-pub const GROUPS: [&str; 13] = [
+pub const GROUPS: [&str; 14] = [
     "ieee",
     "elementary",
     "complex",
@@ -31,6 +32,7 @@ pub const GROUPS: [&str; 13] = [
     "sheet",
     "train",
     "exports",
+    "edition_1",
 ];
 
 /// The default sample: the fewest records in all, the fewest random ones, and the most bytes, which win.
@@ -84,6 +86,7 @@ pub fn table() -> Vec<Function> {
     all.extend(quarter_waves::table());
     all.extend(train::table());
     all.extend(exports::table());
+    all.extend(edition_1::table());
     all
 }
 

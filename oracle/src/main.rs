@@ -24,7 +24,7 @@ oracle compare [--seed S] [--count N] [--spoil I]
 oracle measure [--seed S] [--count N]
 oracle laws [--seed S] [--count N] [--spoil I]
 oracle head_on [--seed S] [--count N]
-groups: ieee elementary complex thin_film fresnel polarization names sheet train exports shorthand born_wolf quarter_waves";
+groups: ieee elementary complex thin_film fresnel polarization names sheet train exports shorthand born_wolf quarter_waves edition_1";
 
 /// The options of all commands.
 #[derive(Default)]

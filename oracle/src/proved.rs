@@ -155,7 +155,7 @@ fn agree(name: &str, count: u64, different: u64, what: &str) -> bool {
 
 /// Holds the library against section 2 on `count` arguments for each function, against `SurfaceCoating::evaluate` on
 /// as many, against the stack shorthand, both Mueller matrices, ranges of indices and quarter waves on as many, and against
-/// the train on a tenth as many sheets. Returns whether all agree. What is expected of call number `spoiled` of each is
+/// the train, lists of actions and edition 1 sheets on a tenth as many sheets. Returns whether all agree. What is expected of call number `spoiled` of each is
 /// wrong, so that the comparison can be tried itself.
 pub fn compare(seed: u64, count: u64, spoiled: Option<u64>) -> Option<bool> {
     use crate::arguments::{random, Arg};
@@ -221,6 +221,9 @@ pub fn compare(seed: u64, count: u64, spoiled: Option<u64>) -> Option<bool> {
         let (actions, different) = crate::exports::compare_lists(seed, sheets, spoiled);
         all_agree &= agree("steps and retunes", sheets, different, " lists");
         println!("  in {actions} actions");
+        let (calls, different, became) = crate::exports::compare_edition_1(seed, sheets, spoiled);
+        all_agree &= agree("edition 1", sheets, different, " sheets");
+        println!("  in {calls} calls; {became} sheets of edition 2 became edition 1");
     }
     Some(all_agree)
 }
