@@ -1,4 +1,4 @@
-// The functions 180 to 197, the exports, and 155, which is one of them too. Each gives what a call returns and all of the list, or of the state, that it
+// The functions 180 to 198, the exports, and 155, which is one of them too. Each gives what a call returns and all of the list, of the state or of the output that it
 // was lent, in so many words; none where it is not one of these or its list is too long to lend.
 
 // What a call returned, and the first n numbers of the list; the words behind them do not count.
@@ -66,6 +66,35 @@ fn run_call(n: usize, src: &[u8], out: &mut [u64; 256]) -> usize {
     }
     let number = dihkelu::dihkelu_run(src, &mut list[..n]);
     returned(out, number, &list, n)
+}
+
+// A sum turned by one bit, and a byte added without carry.
+fn turned(sum: u64, byte: u8) -> u64 {
+    (sum << 1 | sum >> 63) ^ byte as u64
+}
+
+// The first n bytes of an output as one word.
+fn folded(output: &[u8; 40000], n: usize) -> u64 {
+    let mut sum = 0;
+    let mut i = 0;
+    while i < n {
+        if i >= 40000 {
+            return sum;
+        }
+        sum = turned(sum, output[i]);
+        i += 1;
+    }
+    sum
+}
+
+fn edition_1_call(n: usize, src: &[u8], out: &mut [u64; 256]) -> usize {
+    let mut output = [0xa5u8; 40000];
+    if n > 40000 {
+        return 0;
+    }
+    out[0] = dihkelu::dihkelu_edition_1(src, &mut output[..n]);
+    out[1] = folded(&output, n);
+    2
 }
 
 fn answers_call(n: usize, surface: u32, src: &[u8], out: &mut [u64; 256]) -> usize {
@@ -229,6 +258,7 @@ pub fn call(f: usize, a: &[u8], out: &mut [u64; 256]) -> usize {
             c_scalars::dihkelu_atan2(x, test_records::float_at(a, 1)),
         ),
         197 => retune_call(a, out),
+        198 => edition_1_call(n, test_records::bytes_at(a, 1), out),
         _ => 0,
     }
 }
