@@ -1,5 +1,5 @@
 #!/usr/bin/env python3
-"""Sheets for people: write one from a text, show one as text, its layers in quarter waves, the losses surface by surface. See docs/SHEETS.md."""
+"""Sheets for people: write one from a text, show one as text, its layers in quarter waves, one for programs of edition 1, the losses surface by surface. See docs/SHEETS.md."""
 
 import argparse
 import ctypes
@@ -13,7 +13,7 @@ import sys
 from pathlib import Path
 
 ROOT = Path(__file__).resolve().parent.parent
-VERSION = "1.4 (sheets of editions 1 and 2)"
+VERSION = "1.5 (sheets of editions 1 and 2)"
 MOST_BYTES = 10_000_000  # of a file; a sheet has 39,460 at most
 
 # payload / 2, document 01 section 1
@@ -32,6 +32,7 @@ GLASS_FORM = "glass a NUMBER b NUMBER c NUMBER thickness NUMBER nm"
 RETUNE_FORM = "retune to NUMBER nm"
 STACK_FORM = "stack TEXT with H NUMBER L NUMBER [M NUMBER] at NUMBER nm"
 MOST_STACK_NUMBERS = 192
+MOST_EDITION_1 = 30500
 
 
 class Wrong(Exception):
@@ -163,6 +164,8 @@ def library():
     found.dihkelu_stack.restype = ctypes.c_uint64
     found.dihkelu_quarter_waves.argtypes = [double, double, double, at]
     found.dihkelu_quarter_waves.restype = ctypes.c_uint64
+    found.dihkelu_edition_1.argtypes = [ctypes.c_char_p, size, ctypes.c_char_p, size]
+    found.dihkelu_edition_1.restype = ctypes.c_uint64
     return found
 
 
@@ -458,6 +461,7 @@ def explain(refusal, place, sheet, data):
         6: f"the block at word {place} is outside the gate",
         7: "the train has no further surface",
         8: "the list is shorter than twice the surfaces",
+        12: f"word {place} is a kind 7, a retune; edition 1 has none",
     }.get(refusal, "the number is in no table")
 
 
@@ -505,6 +509,18 @@ def limits_missed(n, thickness, wavelength):
     """Which limits of section 3 the numbers of refusal 14 miss."""
     limits = [("n", n, 1, 4), ("the thickness", thickness, 0, 100000), ("the wavelength", wavelength, 100, 10000)]
     return "; ".join(f"{name} is {written(x)}, not from {low} to {high}" for name, x, low, high in limits if not low <= x <= high)
+
+
+# ---- edition 1
+
+def edition_1(sheet, data):
+    """The sheet for programs that read edition 1 only, by the proved library."""
+    output = ctypes.create_string_buffer(MOST_EDITION_1)
+    returned = library().dihkelu_edition_1(data, len(data), output, MOST_EDITION_1)
+    refusal, low = returned >> 32, returned & 0xFFFFFFFF
+    if refusal:
+        raise Wrong(f"refused {refusal} {low}: {explain(refusal, low, sheet, data)}")
+    return output.raw[:low]
 
 
 # ---- losses
@@ -654,6 +670,8 @@ def execute(command, name, program):
             sheet = from_bytes(data)
         except Wrong:
             sheet = None  # the program says why
+    if command == "edition1":
+        return edition_1(sheet, data), sheet
     return losses(sheet, data, program).encode(), sheet
 
 
@@ -671,7 +689,7 @@ def arguments():
     parser = argparse.ArgumentParser(description=__doc__)
     parser.add_argument("--version", action="version", version=f"%(prog)s {VERSION}")
     commands = parser.add_subparsers(dest="command", required=True, metavar="COMMAND")
-    for command, about in [("write", "writes a text's sheet to standard output"), ("show", "prints a sheet as a text"), ("quarter-waves", "prints the layers of a sheet or text in quarter waves"), ("losses", "prints what each surface of a sheet or text loses")]:
+    for command, about in [("write", "writes a text's sheet to standard output"), ("show", "prints a sheet as a text"), ("quarter-waves", "prints the layers of a sheet or text in quarter waves"), ("edition1", "writes the edition 1 sheet of a sheet or text to standard output"), ("losses", "prints what each surface of a sheet or text loses")]:
         one = commands.add_parser(command, help=about, description=about)
         one.add_argument("file", metavar="FILE", help="a file, or - for standard input")
         if command == "losses":

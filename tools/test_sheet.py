@@ -210,6 +210,65 @@ class QuarterWaves(unittest.TestCase):
         self.assertEqual(tool("quarter-waves", "-", given=BEAM), (1, b"", "-: no surface has layers of its own\n"))
 
 
+class Edition1(unittest.TestCase):
+    """Sheets for programs that read edition 1, written by the proved library; train on both sheets."""
+
+    def setUp(self):
+        if not (ROOT / "target" / "staticlib" / "libdihkelu.so").exists():
+            self.skipTest("the library is not built; run: tools/library")
+
+    def train(self, sheet):
+        return subprocess.run(shlex.split(PROGRAM), input=sheet, capture_output=True, check=True).stdout
+
+    def test_a_glass(self):
+        given = BEAM + CUSTOM + "glass a 1.5 b 0.0625 c 0.015625 thickness 80 nm\n"
+        _, old, _ = tool("write", "-", given=BEAM + CUSTOM + "layer 2 thickness 80 nm\n")
+        self.assertEqual(tool("edition1", "-", given=given), (0, old, ""))
+        _, sheet, _ = tool("write", "-", given=given)
+        self.assertEqual(tool("edition1", "-", given=sheet), (0, old, ""))
+        self.assertEqual(len(sheet), len(old) + 8)
+
+    def test_examples_of_edition_2(self):
+        """Each is refused as train refuses it, refused with 12, or becomes a sheet of edition 1 that runs alike."""
+        became = 0
+        for path in sorted(EXAMPLES.glob("*.sheet")):
+            if path.read_bytes()[:4] != bytes.fromhex("10000002"):
+                continue
+            printed = self.train(path.read_bytes())
+            status, old, said = tool("edition1", str(path))
+            if status:
+                wanted = printed.decode().strip() if printed.startswith(b"refused") else "refused 12 "
+                self.assertIn(f"{path}: {wanted}", said)
+                continue
+            self.assertEqual((old[:4], self.train(old)), (bytes.fromhex("10000001"), printed), path)
+            became += 1
+        self.assertGreater(became, 2)
+
+    def test_edition_1_comes_out_as_itself(self):
+        for name in ["example", "every_payload", "window"]:
+            sheet = (EXAMPLES / f"{name}.sheet").read_bytes()
+            self.assertEqual(tool("edition1", "-", given=sheet)[:2], (0, sheet))
+
+    def test_random_sheets(self):
+        if not ORACLE.exists():
+            self.skipTest("the oracle is not built")
+        with tempfile.TemporaryDirectory() as directory:
+            subprocess.run([ORACLE, "sheets", directory, "--seed", "6", "--count", "30"], check=True)
+            for path in sorted(Path(directory).glob("*.sheet")):
+                status, old, _ = tool("edition1", str(path))
+                if status == 0:
+                    self.assertEqual(self.train(old), path.with_suffix(".out").read_bytes(), path)
+
+    def test_a_retune(self):
+        said = "-: refused 12 8: word 8 is a kind 7, a retune; edition 1 has none\n"
+        self.assertEqual(tool("edition1", "-", given=BEAM + "retune to 600 nm\n" + CUSTOM + GLASS), (1, b"", said))
+
+    def test_outside_the_gate(self):
+        status, out, said = tool("edition1", "-", given="beam 99 nm s 1 p 1\n" + CUSTOM + GLASS)
+        self.assertEqual((status, out), (1, b""))
+        self.assertIn("refused 6 1: the beam (line 1) is outside the gate", said)
+
+
 class Examples(unittest.TestCase):
     def test_example(self):
         text, sheet = EXAMPLES / "window.txt", EXAMPLES / "window.sheet"

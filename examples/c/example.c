@@ -1,5 +1,5 @@
 /* Document 01's sheet from C: gate, start, a retune, steps, the answers of its surface, a whole run; a stack in shorthand;
- * Mueller matrices of empty space; quarter waves. */
+ * Mueller matrices of empty space; quarter waves; an edition 1 sheet of a glass. */
 #include <inttypes.h>
 #include <stdio.h>
 #include <stdlib.h>
@@ -10,6 +10,17 @@
 static const uint32_t words[] = {0x10000001, 0x20000000, 0x407F4000, 0x00000000, 0x3FE00000, 0x00000000,
                                  0x3FE00000, 0x00000000, 0x30000000, 0x3FF00000, 0x00000000, 0x40080000,
                                  0x00000000, 0x00000000, 0x00000000, 0x50000001};
+
+/* edition 2: a glass of 64 nm whose index is 2 at the beam's 500 nm */
+static const uint32_t glass_words[] = {0x10000002, 0x20000000, 0x407F4000, 0x00000000, 0x3FE00000, 0x00000000, 0x3FE00000,
+                                       0x00000000, 0x3000000A, 0x3FF00000, 0x00000000, 0x3FF80000, 0x00000000, 0x00000000,
+                                       0x00000000, 0x60000000, 0x3FF80000, 0x00000000, 0x3FB00000, 0x00000000, 0x3F900000,
+                                       0x00000000, 0x40500000, 0x00000000, 0x50000001};
+
+static void to_bytes(uint8_t *bytes, const uint32_t *from, size_t count) {
+    for (size_t i = 0; i < count; i++)
+        for (size_t j = 0; j < 4; j++) bytes[4 * i + j] = (uint8_t)(from[i] >> (24 - 8 * j));
+}
 
 static uint64_t bits(double x) {
     uint64_t b;
@@ -40,8 +51,7 @@ int main(void) {
         return 1;
     }
     uint8_t sheet[sizeof words];
-    for (size_t i = 0; i < sizeof words / sizeof words[0]; i++)
-        for (size_t j = 0; j < 4; j++) sheet[4 * i + j] = (uint8_t)(words[i] >> (24 - 8 * j));
+    to_bytes(sheet, words, sizeof words / 4);
 
     uint32_t surfaces = answered("gate", dihkelu_gate(sheet, sizeof sheet));
     printf("surfaces %" PRIu32 "\n", surfaces);
@@ -91,6 +101,15 @@ int main(void) {
     double over;
     uint32_t waves = answered("quarter_waves", dihkelu_quarter_waves(2.3, 250.0, 1064.0, &over));
     printf("250 nm of 2.3 at 1064 nm: %" PRIu32 " quarter waves, %g nm over\n", waves, over);
+
+    uint8_t glass[sizeof glass_words], old[DIHKELU_EDITION_1];
+    to_bytes(glass, glass_words, sizeof glass_words / 4);
+    uint32_t length = answered("edition_1", dihkelu_edition_1(glass, sizeof glass, old, sizeof old));
+    answered("run", dihkelu_run(glass, sizeof glass, run, 2 * 64));
+    printf("a glass in %zu bytes of edition 2: run %016" PRIX64 " %016" PRIX64 "\n", sizeof glass, bits(run[0]), bits(run[1]));
+    answered("run", dihkelu_run(old, length, run, 2 * 64));
+    printf("and in %" PRIu32 " bytes of edition 1: run %016" PRIX64 " %016" PRIX64 "\n", length, bits(run[0]), bits(run[1]));
+    print_refusal("edition_1", dihkelu_edition_1(glass, sizeof glass, old, length - 1));
 
     sheet[0] = 0;
     print_refusal("gate", dihkelu_gate(sheet, sizeof sheet));

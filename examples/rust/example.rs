@@ -1,18 +1,23 @@
 //! Document 01's sheet from Rust: gate, start, a retune, steps, the answers of its surface, a whole run; a stack in shorthand;
-//! Mueller matrices of empty space; quarter waves.
+//! Mueller matrices of empty space; quarter waves; an edition 1 sheet of a glass.
 
 #[path = "../../include/dihkelu.rs"]
 mod dihkelu;
 
 use dihkelu::{
-    answers, environment_ok, evaluate, gate, mueller_born_wolf, quarter_waves, retune, run, stack, start, step, to_mueller, version,
-    Refusal, Train, COATED, MUELLER, RESPONSE, STACK, VERSION,
+    answers, edition_1, environment_ok, evaluate, gate, mueller_born_wolf, quarter_waves, retune, run, stack, start, step, to_mueller,
+    version, Refusal, Train, COATED, EDITION_1, MUELLER, RESPONSE, STACK, VERSION,
 };
 
 fn main() -> Result<(), Refusal> {
     let words: [u32; 16] = [
         0x10000001, 0x20000000, 0x407F4000, 0x00000000, 0x3FE00000, 0x00000000, 0x3FE00000, 0x00000000,
         0x30000000, 0x3FF00000, 0x00000000, 0x40080000, 0x00000000, 0x00000000, 0x00000000, 0x50000001,
+    ];
+    // edition 2: a glass of 64 nm whose index is 2 at the beam's 500 nm
+    let glass_words = [
+        0x1000_0002, 0x2000_0000, 0x407F_4000, 0, 0x3FE0_0000, 0, 0x3FE0_0000, 0, 0x3000_000A, 0x3FF0_0000, 0, 0x3FF8_0000, 0, 0, 0,
+        0x6000_0000, 0x3FF8_0000, 0, 0x3FB0_0000, 0, 0x3F90_0000, 0, 0x4050_0000, 0, 0x5000_0001,
     ];
     assert_eq!(version(), VERSION, "the library is of another version than its declarations");
     assert!(environment_ok(), "subnormals are flushed, or rounding is not to nearest");
@@ -66,6 +71,17 @@ fn main() -> Result<(), Refusal> {
     let mut over = 0.0;
     let waves = quarter_waves(2.3, 250.0, 1064.0, &mut over)?;
     println!("250 nm of 2.3 at 1064 nm: {waves} quarter waves, {over} nm over");
+
+    let glass: Vec<u8> = glass_words.iter().flat_map(|w: &u32| w.to_be_bytes()).collect();
+    let mut old = [0; EDITION_1];
+    let length = edition_1(&glass, &mut old)? as usize;
+    run(&glass, &mut powers)?;
+    println!("a glass in {} bytes of edition 2: run {:016X} {:016X}", glass.len(), powers[0].to_bits(), powers[1].to_bits());
+    run(&old[..length], &mut powers)?;
+    println!("and in {length} bytes of edition 1: run {:016X} {:016X}", powers[0].to_bits(), powers[1].to_bits());
+    if let Err(refusal) = edition_1(&glass, &mut old[..length - 1]) {
+        println!("edition_1: refused {} {}", refusal.number, refusal.place);
+    }
 
     sheet[0] = 0;
     if let Err(refusal) = gate(&sheet) {
