@@ -95,21 +95,15 @@ pub fn push_old(rng: &mut Rng, words: &mut Vec<u64>) {
     words.extend(case(room, &bytes));
 }
 
-/// Every fixed sheet with an output that fits; about the need for sheets with kinds 6, and the longest.
+/// One fixed short sheet of eight with an output that fits, the longest sheets, and one with kinds 6 with outputs about the need.
 pub fn old_cases() -> Vec<Vec<u64>> {
-    let mut list: Vec<Vec<u64>> = sheets()
-        .iter()
-        .map(|bytes| case(need(bytes), bytes))
-        .collect();
-    let longest = [
-        largest().bytes(),
-        largest_of_two().bytes(),
-        glasses(64, 16).bytes(),
-    ];
-    for bytes in &longest {
-        list.extend([0, 1, 2].map(|more| case(need(bytes) + more - 1, bytes)));
-    }
+    let few = sheets().into_iter().step_by(8);
+    let mut list: Vec<Vec<u8>> = few.filter(|bytes| bytes.len() < 2000).collect();
+    list.extend([largest(), largest_of_two(), glasses(64, 16)].map(|plan| plan.bytes()));
+    let mut cases: Vec<Vec<u64>> = list.iter().map(|bytes| case(need(bytes), bytes)).collect();
     let bytes = mixed().bytes();
-    list.extend((0..=bytes.len() + 8).map(|room| case(room, &bytes)));
-    list
+    let about = need(&bytes) - 12..=need(&bytes) + 12;
+    cases.extend([0, bytes.len()].map(|room| case(room, &bytes)));
+    cases.extend(about.map(|room| case(room, &bytes)));
+    cases
 }
