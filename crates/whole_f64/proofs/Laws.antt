@@ -7,8 +7,8 @@ use mathlib.Core.Bool.{Bool, true, false, not, _&&_, _||_, Bool·beq, cond}
 use lib.Dec.{T, ltb, eqb, eqb→eq, ltb→lt, nltb→le, lit≤}
 use lib.Pow.{pow-pos, pow-mono, pow-add}
 use lib.IntN.{ℤ, pos, negsuc, negℤ, natAbs, _+ℤ_, _-ℤ_, _*ℤ_, +ℤ-comm, +ℤ-negℤ-cancel, negℤ-+ℤ, negℤ-negℤ, *ℤ-comm, +ℤ-invr, pos-ne-negsuc}
-use lib.Ieee.{Float, nan, inf, fin, binary64, up, down, unlike, round, sum, neg, eq, fits}
-use lib.Ieee.Fits.{and-i, eq→eqb, round-fits}
+use lib.Ieee.{Float, nan, inf, fin, binary64, up, down, unlike, round, sum, neg, eq, fits, ofInt}
+use lib.Ieee.Fits.{and-i, eq→eqb, ofInt-fits}
 use lib.Ieee.Scale.{finite}
 use lib.Ieee.Exact.{HasValue, round-exact}
 use lib.Ieee.Positive.{num, den, den-pos}
@@ -200,9 +200,10 @@ equal {k} {x} {y} {z} h g = go x y (h .fine) (g .fine) (h .size) (g .size) (alik
         (zeros (Bool·beq s t) (m * up e) (down d) (natAbs z) (zero-size (m * up e) (natAbs z) (down e) (2 ^ k) (pow-pos k) v) p)
 
 -- ---- every whole number below 2 ^ 53
-every : (z : ℤ) → natAbs z < 2 ^ 53 → (x : Float) × (T (fits binary64 x) × Is 0 x z)
-every (pos n) h = (round binary64 false n 1, (round-fits binary64 false n 1, rounded false n 1 n 0 (pos n) (lit≤ tt) h (lit≤ tt) refl refl))
-every (negsuc n) h = (round binary64 true (suc n) 1, (round-fits binary64 true (suc n) 1, rounded true (suc n) 1 (suc n) 0 (negsuc n) (lit≤ tt) h (lit≤ tt) refl refl))
+pub whole : (z : ℤ) → natAbs z < 2 ^ 53 → Is 0 (ofInt binary64 z) z
+unfolding ofInt
+whole (pos n) h = rounded false n 1 n 0 (pos n) (lit≤ tt) h (lit≤ tt) refl refl
+whole (negsuc n) h = rounded true (suc n) 1 (suc n) 0 (negsuc n) (lit≤ tt) h (lit≤ tt) refl refl
 
 pub exact-operations : ExactOperations
-exact-operations = record { sum = add-exact; difference = sub-exact; product = mul-exact; every = every; equal = equal }
+exact-operations = record { sum = add-exact; difference = sub-exact; product = mul-exact; every = λ z h. (ofInt binary64 z, (ofInt-fits binary64 z, whole z h)); equal = equal }

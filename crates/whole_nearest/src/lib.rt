@@ -1,0 +1,1 @@
+// The whole number nearest to a float, ties to even; no code.
