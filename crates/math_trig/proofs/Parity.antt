@@ -3,7 +3,7 @@ use mathlib.Core.Path.{_≡_, refl, sym, ap, _∙_, subst}
 use mathlib.Core.Logic.{inl, inr}
 use mathlib.Core.Bool.{Bool, true, false, cond}
 use lib.Dec.{T}
-use lib.Ieee.{Float, nan, inf, fin, binary64, neg, add, sub, mul, div, rem, lt, ofInt, ofBits}
+use lib.Ieee.{Float, nan, inf, fin, neg, add, sub, mul, div, lt, ofInt, ofBits}
 use Rattle.ieee.specs.Operators.{_⊕_, _⊖_, _⊗_}
 use Rattle.ieee.specs.Functions.{zero-f, one, minus-one, clamp}
 use Rattle.ieee.specs.Range.{plus}
@@ -12,7 +12,8 @@ use Rattle.math_trig.specs.Angles.{tau, pi, half-pi}
 use Rattle.math_trig.specs.Trig.{wrap, fold, second-fold, series, sin-div, sin-at, sin, cos-of, cos}
 use Rattle.math_trig.specs.Opposite.{Opposite}
 use Rattle.math_trig.proofs.Constants.{minus-one-is, minus-pi-is, minus-half-pi-is}
-use Rattle.math_trig.proofs.Opposites.{neg-neg, mul-neg, square-neg, rem-neg, lt-neg, add-neg, sub-neg, sub-opposite, opposite-abs}
+use Rattle.math_trig.proofs.Turned.{first-line-odd}
+use Rattle.math_trig.proofs.Opposites.{neg-neg, mul-neg, square-neg, lt-neg, add-neg, sub-neg, sub-opposite, opposite-abs}
 
 -- ---- two tests that exclude each other, and the same two of the opposite
 apart : (c x : Float) → T (plus c) → T (lt c x) → T (lt x (neg c)) → ⊥
@@ -67,10 +68,6 @@ wrap-odd r = rw minus-pi-is (by-sides pi r pi-plus over under (inl refl))
     under : Opposite (r ⊕ tau) (neg r ⊖ tau)
     under = subst (λ (z : Float). Opposite (r ⊕ tau) z) (sym (sub-is (neg r) tau)) (add-neg r tau)
 
-pub fold-odd : (x : Float) → Opposite (fold x) (fold (neg x))
-unfolding fold
-fold-odd x = rw (rem-neg binary64 x tau) (wrap-odd (rem binary64 x tau))
-
 second-fold-odd : (r : Float) → Opposite (second-fold r) (second-fold (neg r))
 unfolding second-fold
 second-fold-odd r = rw (minus-half-pi-is, minus-pi-is) (by-sides half-pi r half-pi-plus (sub-neg pi r) under (inl refl))
@@ -109,6 +106,14 @@ sin-at-zero = refl
 through : (g : Float → Float) → g zero-f ≡ zero-f → ((r : Float) → Opposite (g r) (g (neg r))) → {x y : Float} → Opposite x y → Opposite (g x) (g y)
 through g z h {x} {y} (inl e) = subst (λ (w : Float). Opposite (g x) (g w)) (sym e) (h x)
 through g z h {x} {y} (inr e) = inr (ap g (e .0) ∙ z, ap g (e .1) ∙ z)
+
+wrap-zero : wrap zero-f ≡ zero-f
+unfolding wrap lt ofBits
+wrap-zero = refl
+
+pub fold-odd : (x : Float) → Opposite (fold x) (fold (neg x))
+unfolding fold
+fold-odd x = through wrap wrap-zero wrap-odd (first-line-odd x)
 
 pub sin-odd : (x : Float) → Opposite (sin x) (sin (neg x))
 unfolding sin

@@ -3,7 +3,7 @@ use mathlib.Core.Path.{_≡_, refl, sym, ap, _∙_, subst}
 use Prim.Native.Nat.{ℕ, zero, suc}
 use mathlib.Core.Bool.{Bool, true, not, _&&_, cond}
 use lib.Dec.{T}
-use lib.Ieee.{Float, nan, inf, fin, binary64, neg, rem, sub, mul, div, lt, ofInt, ofBits}
+use lib.Ieee.{Float, nan, inf, fin, binary64, neg, rem, sub, mul, div, lt, le, ofInt, ofBits}
 use lib.Ieee.Fits.{and-l, and-r}
 use lib.Ieee.Scale.{finite}
 use Rattle.ieee.specs.Operators.{_⊕_, _⊖_, _⊗_, _⊘_}
@@ -15,8 +15,10 @@ use Rattle.ieee.proofs.Range.Sums.{sub-mag, sub-gap, add-gap, neg-gap}
 use Rattle.ieee.proofs.Range.Quotients.{div-mag}
 use Rattle.ieee.proofs.Range.Tests.{choose, lt-in, lt-size, within, nlt-most, clamp-mag}
 use Rattle.ieee.proofs.Range.Rem.{rem-mag}
-use Rattle.math_trig.specs.Angles.{tau, pi, minus-pi, half-pi, minus-half-pi}
-use Rattle.math_trig.specs.Trig.{wrap, fold, second-fold, series, sin-div, cos-div, sin-at, sin, cos-at, cos-of, cos}
+use Rattle.math_trig.specs.Angles.{tau, pi, minus-pi, half-pi, minus-half-pi, turns-limit}
+use Rattle.math_trig.specs.Trig.{wrap, reduce, first-line, fold, second-fold, series, sin-div, cos-div, sin-at, sin, cos-at, cos-of, cos}
+use Rattle.math_trig.proofs.Turns.{limit-mag}
+use Rattle.math_trig.proofs.Less.{reduce-mag}
 use Rattle.math_trig.proofs.Constants.{minus-one-is, minus-pi-is, minus-half-pi-is}
 
 -- ---- the constants. T is 7074237752028440 / 2 ^ 50, π is half of it
@@ -51,10 +53,16 @@ wrap-mag r h =
     (λ t. let s = lt-size pi-in h (at-neg r minus-pi pi minus-pi-is t) in add-gap (s .0) (s .1) tau-in tt)
     (λ t. within pi-in (h .fine) u (at-not-neg r minus-pi pi minus-pi-is t)))
 
+-- the first line brings every finite x to T: to 4 by turns, and below T by the remainder
+first-line-mag : (x : Float) → T (finite x) → Mag P 50 (first-line x)
+unfolding first-line
+first-line-mag x f =
+    choose (λ z. Mag P 50 z) (le (abs x) turns-limit) (reduce x) (rem binary64 x tau) (λ t. mag-up (reduce-mag x (limit-mag x t)) tt) (λ t. rem-mag x f tau-in tt)
+
 -- the first fold brings every finite x to π
 pub fold-mag : (x : Float) → T (finite x) → Mag P 51 (fold x)
 unfolding fold
-fold-mag x f = wrap-mag (rem binary64 x tau) (rem-mag x f tau-in tt)
+fold-mag x f = wrap-mag (first-line x) (first-line-mag x f)
 
 second-fold-mag : (r : Float) → Mag P 51 r → Mag P 52 (second-fold r)
 unfolding second-fold
@@ -140,7 +148,7 @@ cos-mag x f = cos-of-mag (abs (fold x)) (abs-in (fold-mag x f))
 
 -- ---- of an infinity or a NaN
 fold-none : (x : Float) → T (not (finite x)) → fold x ≡ nan
-unfolding fold wrap rem lt ofBits
+unfolding fold wrap first-line le abs rem lt ofBits
 fold-none nan t = refl
 fold-none (inf s) t = refl
 fold-none (fin s m e) t = absurd t

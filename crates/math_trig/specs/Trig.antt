@@ -1,21 +1,34 @@
--- 01 section 2, sin and cos. Definitions only.
+-- 01 section 2, sin and cos, with the first line of 02 slip 7. Definitions only.
 use Prim.Native.Nat.{ℕ, zero, suc, _+_, _-_, _*_}
 use mathlib.Core.Bool.{cond}
 use lib.IntN.{pos}
-use lib.Ieee.{Float, binary64, neg, rem, lt, ofInt}
+use lib.Ieee.{Float, binary64, neg, rem, lt, le, ofInt}
 use Rattle.ieee.specs.Operators.{_⊕_, _⊖_, _⊗_, _⊘_}
 use Rattle.ieee.specs.Functions.{one, minus-one, abs, clamp}
+use Rattle.whole_nearest.specs.Nearest.{nearest-whole}
 use Rattle.math_trig.specs.declared.SinCos.{SinCos}
-use Rattle.math_trig.specs.Angles.{tau, pi, minus-pi, half-pi, minus-half-pi}
+use Rattle.math_trig.specs.Angles.{tau, pi, minus-pi, half-pi, minus-half-pi, tau-high, tau-low, turns-limit}
 
 -- ---- the folds
 -- above π subtract T, below -π add T
 unfoldable pub wrap : Float → Float
 wrap r = cond (lt pi r) (r ⊖ tau) (cond (lt r minus-pi) (r ⊕ tau) r)
 
--- the first fold, of sin and of cos: r = x % T; above π subtract T, below -π add T
+-- 02 slip 7: r = ((x - k·T1) - k·(T - T1)) - k·t
+unfoldable pub less-turns : Float → Float → Float
+less-turns k x = x ⊖ k ⊗ tau-high ⊖ k ⊗ (tau ⊖ tau-high) ⊖ k ⊗ tau-low
+
+-- 'k, the whole number nearest to the rounded quotient x/T, ties to even (a zero k is +0)'
+unfoldable pub reduce : Float → Float
+reduce x = less-turns (nearest-whole (x ⊘ tau)) x
+
+-- the first line: 'for abs x at most 2^20' that, beyond it r = x % T
+unfoldable pub first-line : Float → Float
+first-line x = cond (le (abs x) turns-limit) (reduce x) (rem binary64 x tau)
+
+-- the first fold, of sin and of cos: above π subtract T, below -π add T
 unfoldable pub fold : Float → Float
-fold x = wrap (rem binary64 x tau)
+fold x = wrap (first-line x)
 
 -- sin's second: above π/2 take π - r, below -π/2 take -π - r
 unfoldable pub second-fold : Float → Float

@@ -1,7 +1,7 @@
-// sin and cos as document 01's section 2 gives them, each for every f64.
+// sin and cos as document 01's section 2 gives them, with the first line of document 02, slip 7; each for every f64.
 ghost use mathlib.Core.Path.{_≡_};
 ghost use Rattle.ieee.specs.Functions.{one};
-ghost use Rattle.math_trig.specs.Trig.{fold, second-fold, series, sin-div, cos-div, sin-at, sin, cos-at, cos-of, cos, sin-cos};
+ghost use Rattle.math_trig.specs.Trig.{first-line, fold, second-fold, series, sin-div, cos-div, sin-at, sin, cos-at, cos-of, cos, sin-cos};
 
 const TAU: f64 = 6.283185307179586;
 
@@ -9,11 +9,35 @@ pub const PI: f64 = 3.141592653589793;
 
 pub const HALF_PI: f64 = 1.5707963267948966;
 
+// T1, T with the low 28 bits of its significand cleared.
+const TAU_HIGH: f64 = 6.283185243606567;
+
+// T - T1.
+const TAU_REST: f64 = 6.357301884918343e-8;
+
+// What T lacks of 2π.
+const TAU_LOW: f64 = 2.4492935982947064e-16;
+
+// 1.5 · 2^52: a sum with it is a whole number, the nearest, ties to even.
+const SHIFT: f64 = 6755399441055744.0;
+
+// The first line of sin and of cos: x less whole turns.
+fn first_line(x: f64) -> f64
+    ensures { λ r. ⌜ r ≡ first-line x ⌝ }
+{
+    if ieee::abs(x) <= 1048576.0 {
+        let k = (x / TAU + SHIFT) - SHIFT;
+        ((x - k * TAU_HIGH) - k * TAU_REST) - k * TAU_LOW
+    } else {
+        x % TAU
+    }
+}
+
 // The first fold, of sin and of cos: to -π..π.
 fn fold(x: f64) -> f64
     ensures { λ r. ⌜ r ≡ fold x ⌝ }
 {
-    let r = x % TAU;
+    let r = first_line(x);
     if r > PI {
         r - TAU
     } else if r < -PI {

@@ -17,7 +17,8 @@ use Rattle.ieee_near.proofs.Laws.{a-zero}
 use Rattle.ieee_near.proofs.Exact.{mul-one-same, one-mul-same, div-one-same, sub-zero-same, zero-add-same, times-zero, zero-over}
 use Rattle.ieee_near.proofs.Pair.{index-in}
 use Rattle.math_root.specs.Root.{squareRoot}
-use Rattle.math_trig.specs.Trig.{wrap, fold, second-fold, series, sin-at, sin, cos-at, cos-of, cos}
+use Rattle.whole_nearest.specs.Nearest.{nearest-whole}
+use Rattle.math_trig.specs.Trig.{wrap, less-turns, reduce, first-line, fold, second-fold, series, sin-at, sin, cos-at, cos-of, cos}
 use Rattle.thin_film_complex.specs.declared.Complex.{Complex}
 use Rattle.thin_film_complex.specs.Complex.{real, scale, norm-sq, add, sub, mul, quotient, div}
 use Rattle.thin_film_matrix.specs.Matrix.{identity}
@@ -26,12 +27,12 @@ use Rattle.thin_film_solver.specs.Solve.{eta0-s, eta0-p, least-cos, cos-theta-s
 
 -- ---- sine and cosine
 pub cos-zero : (s : Bool) → cos (a-zero s) ≡ one
-unfolding wrap fold series cos-at cos-of cos abs clamp Ieee.rem Ieee.lt Ieee.le Ieee.eq Ieee.add Ieee.sub Ieee.mul Ieee.div Ieee.neg Ieee.ofInt ofBits
+unfolding nearest-whole wrap less-turns reduce first-line fold series cos-at cos-of cos abs clamp Ieee.rem Ieee.lt Ieee.le Ieee.eq Ieee.add Ieee.sub Ieee.mul Ieee.div Ieee.neg Ieee.ofInt ofBits
 cos-zero false = refl
 cos-zero true = refl
 
 pub sin-zero : (s : Bool) → sin (a-zero s) ≡ a-zero s
-unfolding wrap fold second-fold series sin-at sin abs clamp Ieee.rem Ieee.lt Ieee.le Ieee.eq Ieee.add Ieee.sub Ieee.mul Ieee.div Ieee.neg Ieee.ofInt ofBits
+unfolding nearest-whole wrap less-turns reduce first-line fold second-fold series sin-at sin abs clamp Ieee.rem Ieee.lt Ieee.le Ieee.eq Ieee.add Ieee.sub Ieee.mul Ieee.div Ieee.neg Ieee.ofInt ofBits
 sin-zero false = refl
 sin-zero true = refl
 

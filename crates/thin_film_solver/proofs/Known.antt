@@ -6,7 +6,8 @@ use lib.Ieee.{Float, binary64, ofBits}
 use Rattle.ieee.specs.Functions.{zero-f, one, half, abs, max, clamp, three}
 use Rattle.math_root.specs.Root.{squareRoot}
 use Rattle.math_trig.specs.Angles.{pi}
-use Rattle.math_trig.specs.Trig.{wrap, fold, second-fold, series, sin-at, sin, cos-at, cos-of, cos}
+use Rattle.whole_nearest.specs.Nearest.{nearest-whole}
+use Rattle.math_trig.specs.Trig.{wrap, less-turns, reduce, first-line, fold, second-fold, series, sin-at, sin, cos-at, cos-of, cos}
 use Rattle.math_atan.specs.Atan.{with-sign, atan2}
 use Rattle.thin_film_complex.specs.Complex.{real, scale, norm-sq, arg, add, sub, mul, quotient, div}
 use Rattle.thin_film_solver.specs.declared.CoatingResponse.{CoatingResponse}
@@ -32,5 +33,5 @@ bare = record {
 
 -- no layers, 1 to 3, angle 0, at any wavelength
 pub no-layers : (wavelength : Float) → evaluate one three zero-f wavelength [] ≡ bare
-unfolding eta0-s eta0-p cos-theta-sub eta-sub-s eta-sub-p product-s product-p b-of c-of reflection transmission reflectance transmittance solve rust-respond rust-evaluate evaluate absorptance with-absorptance real scale norm-sq arg add sub mul quotient div abs max clamp squareRoot wrap fold second-fold series sin-at sin cos-at cos-of cos with-sign atan2 Ieee.rem Ieee.lt Ieee.le Ieee.eq Ieee.add Ieee.sub Ieee.mul Ieee.div Ieee.neg Ieee.ofInt Ieee.isNan ofBits
+unfolding eta0-s eta0-p cos-theta-sub eta-sub-s eta-sub-p product-s product-p b-of c-of reflection transmission reflectance transmittance solve rust-respond rust-evaluate evaluate absorptance with-absorptance real scale norm-sq arg add sub mul quotient div abs max clamp squareRoot nearest-whole wrap less-turns reduce first-line fold second-fold series sin-at sin cos-at cos-of cos with-sign atan2 Ieee.rem Ieee.lt Ieee.le Ieee.eq Ieee.add Ieee.sub Ieee.mul Ieee.div Ieee.neg Ieee.ofInt Ieee.isNan ofBits
 no-layers wavelength = refl

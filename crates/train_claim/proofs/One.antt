@@ -10,7 +10,8 @@ use lib.Ieee as Ieee
 use lib.Ieee.{ofBits}
 use Rattle.ieee.specs.Functions.{abs, clamp}
 use Rattle.ieee.proofs.Signs.{of-true}
-use Rattle.math_trig.specs.Trig.{wrap, fold, second-fold, series, sin-at, sin, cos-at, cos-of, cos}
+use Rattle.whole_nearest.specs.Nearest.{nearest-whole}
+use Rattle.math_trig.specs.Trig.{wrap, less-turns, reduce, first-line, fold, second-fold, series, sin-at, sin, cos-at, cos-of, cos}
 use Rattle.thin_film_solver.specs.Solve.{dielectric}
 use Rattle.thin_film_presets.specs.Layers.{bragg-layers, broadband-layers}
 use Rattle.thin_film.specs.Coating.{mgf2-layers, mirror-layers, layers-of}
@@ -76,7 +77,7 @@ abbrev Inside : Tuning → List SheetLayer → Type 0
 Inside t ls = T (holds (value 0x4080_0000_0000_0000) (panes t ls)) × HoldsFrom t (pane 11 ls ∷ last-panes)
 
 inside : (edition : ℕ) (t : Tuning) (ls : List SheetLayer) → Inside t ls → WithinLimits (sheet edition t ls)
-unfolding dielectric mgf2-layers mirror-layers layers-of bragg-layers broadband-layers within beam-passes layer-within layers-within angle-passes surface-passes coded interface films wrap fold second-fold series sin-at sin cos-at cos-of cos abs clamp Ieee.rem Ieee.lt Ieee.le Ieee.eq Ieee.add Ieee.sub Ieee.mul Ieee.div Ieee.neg Ieee.ofInt Ieee.isNan ofBits
+unfolding dielectric mgf2-layers mirror-layers layers-of bragg-layers broadband-layers within beam-passes layer-within layers-within angle-passes surface-passes coded interface films nearest-whole wrap less-turns reduce first-line fold second-fold series sin-at sin cos-at cos-of cos abs clamp Ieee.rem Ieee.lt Ieee.le Ieee.eq Ieee.add Ieee.sub Ieee.mul Ieee.div Ieee.neg Ieee.ofInt Ieee.isNan ofBits
 inside edition t ls h = record {
   beam = of-true _ refl;
   surfaces = (of-true _ refl, (of-true _ refl, (of-true _ refl, (of-true _ refl, (of-true _ refl, (of-true _ refl, (of-true _ refl, (of-true _ refl, (of-true _ refl, (of-true _ refl, (of-true _ refl, (of-true _ refl, (of-true _ refl, (of-true _ refl, (of-true _ refl, (of-true _ refl, tt))))))))))))))));
@@ -95,11 +96,11 @@ abbrev second-line : Tuning
 second-line = tunes 0x4090_0000_0000_0000
 
 first-inside : Inside keeps first-layers
-unfolding holds layers-hold layers-admitted layer-within within sin sin-at wrap fold second-fold series cos-at cos-of cos abs clamp Ieee.rem Ieee.lt Ieee.le Ieee.eq Ieee.add Ieee.sub Ieee.mul Ieee.div Ieee.neg Ieee.ofInt Ieee.isNan ofBits
+unfolding holds layers-hold layers-admitted layer-within within sin sin-at nearest-whole wrap less-turns reduce first-line fold second-fold series cos-at cos-of cos abs clamp Ieee.rem Ieee.lt Ieee.le Ieee.eq Ieee.add Ieee.sub Ieee.mul Ieee.div Ieee.neg Ieee.ofInt Ieee.isNan ofBits
 first-inside = (of-true _ refl, tt)
 
 second-inside : Inside second-line second-layers
-unfolding cauchy-index holds layers-hold layers-admitted layer-within within sin sin-at wrap fold second-fold series cos-at cos-of cos abs clamp Ieee.rem Ieee.lt Ieee.le Ieee.eq Ieee.add Ieee.sub Ieee.mul Ieee.div Ieee.neg Ieee.ofInt Ieee.isNan ofBits
+unfolding cauchy-index holds layers-hold layers-admitted layer-within within sin sin-at nearest-whole wrap less-turns reduce first-line fold second-fold series cos-at cos-of cos abs clamp Ieee.rem Ieee.lt Ieee.le Ieee.eq Ieee.add Ieee.sub Ieee.mul Ieee.div Ieee.neg Ieee.ofInt Ieee.isNan ofBits
 second-inside = (of-true _ refl, of-true _ refl)
 
 pub one : EveryPayload 1 (replicate 16 4) keeps
