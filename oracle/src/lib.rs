@@ -18,6 +18,7 @@ pub mod functions;
 pub mod head_on;
 pub mod laws;
 pub mod measure;
+pub mod phase;
 pub mod progress;
 pub mod proved;
 pub mod ranges;

@@ -1,8 +1,8 @@
 // The commands of the oracle: see README.md.
 
 use oracle::{
-    bench, examples, feed, findings, functions, head_on, laws, measure, proved, sheets, train,
-    values,
+    bench, examples, feed, findings, functions, head_on, laws, measure, phase, proved, sheets,
+    train, values,
 };
 use std::fs;
 use std::io::{self, BufReader, Read, Write};
@@ -24,6 +24,7 @@ oracle compare [--seed S] [--count N] [--spoil I]
 oracle measure [--seed S] [--count N]
 oracle laws [--seed S] [--count N] [--spoil I]
 oracle head_on [--seed S] [--count N]
+oracle phase [--seed S] [--count N]
 groups: ieee elementary complex thin_film fresnel polarization names sheet train exports shorthand born_wolf quarter_waves edition_1";
 
 /// The options of all commands.
@@ -166,6 +167,7 @@ fn execute(command: &str, options: &Options) -> Result<bool, String> {
             Ok(seen.hold())
         }
         "head_on" => Ok(head_on::measure(seed, options.count.unwrap_or(1_000_000))),
+        "phase" => Ok(phase::measure(seed, options.count.unwrap_or(1_000_000))),
         "compare" => proved::compare(seed, options.count.unwrap_or(1_000_000), options.spoiled)
             .ok_or("compare needs a build with the feature `proved`".to_string()),
         _ => Err(format!("there is no command {command}")),

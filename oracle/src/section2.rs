@@ -1,9 +1,16 @@
-// Document 01, section 2: the borrowed functions, with their meaning to the letter and plain loops.
+// Document 01, section 2: the borrowed functions, with their meaning to the letter and plain loops. The first line of sin and
+// cos is that of document 02, slip 7.
 
 /// One period, 0x401921FB54442D18.
 pub const T: f64 = f64::from_bits(0x4019_21FB_5444_2D18);
 /// π is T/2.
 pub const PI: f64 = T / 2.0;
+/// T with the low 28 bits of its significand cleared.
+pub const T1: f64 = f64::from_bits(T.to_bits() >> 28 << 28);
+/// t of slip 7: what T lacks of 2π.
+pub const LOW: f64 = 2.4492935982947064e-16;
+/// Up to here slip 7's line holds.
+pub const THICK: f64 = 1_048_576.0;
 
 /// IEEE 754 squareRoot: the hardware's.
 pub fn sqrt(x: f64) -> f64 {
@@ -55,9 +62,29 @@ pub fn powi5(x: f64) -> f64 {
     x * ((x * x) * (x * x))
 }
 
-/// r = x % T; above π subtract T, below -π add T.
+/// The whole number nearest to q, ties to even; a zero is +0. Below 2^53 the rest is exact.
+fn nearest_whole(q: f64) -> f64 {
+    let mut k = q as i64;
+    let rest = abs(q - k as f64);
+    if rest > 0.5 || (rest == 0.5 && k % 2 != 0) {
+        k += if q < 0.0 { -1 } else { 1 };
+    }
+    k as f64
+}
+
+/// Slip 7: up to 2^20 the nearest whole number of turns is taken off, in three parts; beyond it r = x % T.
+pub fn first_line(x: f64) -> f64 {
+    if abs(x) <= THICK {
+        let k = nearest_whole(x / T);
+        ((x - k * T1) - k * (T - T1)) - k * LOW
+    } else {
+        rem(x, T)
+    }
+}
+
+/// The first line; above π subtract T, below -π add T.
 fn first_fold(x: f64) -> f64 {
-    let r = rem(x, T);
+    let r = first_line(x);
     if r > PI {
         r - T
     } else if r < -PI {

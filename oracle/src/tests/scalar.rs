@@ -2,7 +2,7 @@
 
 use crate::record::bits;
 use crate::section2::*;
-use crate::values::{any, multiple, square, subnormal, Rng};
+use crate::values::{any, multiple, neighbour, square, subnormal, Rng};
 
 const INF: f64 = f64::INFINITY;
 const NAN: f64 = f64::NAN;
@@ -56,10 +56,6 @@ fn periods_are_those_of_the_rust() {
 fn folds_are_strict() {
     same(sin(PI), 0.0);
     same(sin(-PI), 0.0);
-    same(sin(3.0 * PI), 0.0);
-    same(sin(-3.0 * PI), 0.0);
-    same(sin(T), 0.0);
-    same(sin(-T), -0.0);
     same(sin(0.0), 0.0);
     same(sin(-0.0), -0.0);
     same(cos(PI), -1.0);
@@ -70,6 +66,37 @@ fn folds_are_strict() {
         same(sin(x), NAN);
         same(cos(x), NAN);
     }
+}
+
+/// Document 02, slip 7.
+#[test]
+fn whole_turns_are_taken_off() {
+    assert_eq!(T1.to_bits(), 0x4019_21FB_5000_0000);
+    assert_eq!(LOW.to_bits(), 0x3CB1_A626_3314_5C07);
+    same(first_line(0.0), 0.0);
+    same(first_line(-0.0), -0.0);
+    same(sin(T), -LOW);
+    same(sin(-T), LOW);
+    // The quotients are 1/2, 3/2 and 29/2, ties; after two turns r is below -π.
+    same(first_line(PI), PI);
+    assert_eq!(first_line(3.0 * PI).to_bits(), 0xC009_21FB_5444_2D19);
+    same(
+        first_line(29.0 * PI),
+        first_line(f64::from_bits(0x4056_C6CB_C45D_C8DE)),
+    );
+    same(sin(29.0 * PI), 0.0);
+    same(sin(-29.0 * PI), 0.0);
+    // 2^20 has the new line, the next f64 the old one.
+    assert_eq!(first_line(THICK).to_bits(), 0x3FD5_8E8E_C12C_0AA8);
+    assert_eq!(first_line(-THICK).to_bits(), 0xBFD5_8E8E_C12C_0AA8);
+    let beyond = neighbour(THICK, 1);
+    same(first_line(beyond), rem(beyond, T));
+    assert_eq!(first_line(beyond).to_bits(), 0x3FD5_8E8E_C177_4700);
+}
+
+#[test]
+fn both_readings_of_the_first_line_agree() {
+    assert!(crate::phase::measure(3, 20_000));
 }
 
 #[test]
@@ -131,19 +158,21 @@ fn atan2_tries_its_cases_in_order() {
     same(atan2(1e300, -1e-300), PI / 2.0);
 }
 
-/// Worked out by another program, written from section 2 in another language.
+/// Worked out by another program, written from section 2 and slip 7 in another language.
 #[test]
 fn series_have_these_bits() {
     for (x, expected) in [
         (sin(1.0), 0x3FEA_ED54_8F09_0CEE),
         (sin(2.0), 0x3FED_18F6_EAD1_B445),
         (sin(-3.0), 0xBFC2_1038_6DB6_D557),
-        (sin(100000.0), 0x3FA2_4DAA_9C49_ED83),
+        (sin(100000.0), 0x3FA2_4DAA_9C52_7E9C),
+        (sin(1048576.0), 0x3FD5_26CC_B2FC_8655),
         (sin(1e+300), 0xBFE5_2EC0_76F4_DF9B),
         (cos(1.0), 0x3FE1_4A28_0FB5_068C),
         (cos(2.0), 0xBFDA_A226_5753_7208),
         (cos(-3.0), 0xBFEF_AE04_BE85_E5D3),
-        (cos(100000.0), 0xBFEF_FAC3_841B_428E),
+        (cos(100000.0), 0xBFEF_FAC3_841B_3DA7),
+        (cos(1048576.0), 0x3FEE_33AD_A92F_E2AE),
         (cos(1e+300), 0x3FE7_FC3F_18DD_E1DB),
         (exp(1.0), 0x4005_BF0A_8B14_5459),
         (exp(-20.0), 0x3E21_B486_55F3_7276),
@@ -180,6 +209,9 @@ fn series_are_near_the_platform() {
     let near = |a: f64, b: f64, within: f64| assert!((a - b).abs() <= within, "{a:e} {b:e}");
     for _ in 0..20_000 {
         let x = rng.uniform(-PI, PI);
+        near(sin(x), x.sin(), 4e-15);
+        near(cos(x), x.cos(), 4e-15);
+        let x = rng.uniform(-THICK, THICK);
         near(sin(x), x.sin(), 4e-15);
         near(cos(x), x.cos(), 4e-15);
         let x = rng.uniform(-10.0, 10.0);
