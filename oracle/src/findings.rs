@@ -98,7 +98,11 @@ fn of_section_2() -> Vec<Finding> {
             section2::sin(1e5),
             "0.03574879797201655",
         ),
-        finding("sin(100000), platform", 1e5_f64.sin(), "0.03574879797201651"),
+        finding(
+            "sin(100000), platform",
+            1e5_f64.sin(),
+            "0.03574879797201651",
+        ),
         finding("sin(π), section 2", section2::sin(section2::PI), "0"),
         finding(
             "sin(π), platform",

@@ -24,7 +24,7 @@ oracle compare [--seed S] [--count N] [--spoil I]
 oracle measure [--seed S] [--count N]
 oracle laws [--seed S] [--count N] [--spoil I]
 oracle head_on [--seed S] [--count N]
-oracle phase [--seed S] [--count N]
+oracle phase [--seed S] [--count N] [--spoil I]
 groups: ieee elementary complex thin_film fresnel polarization names sheet train exports shorthand born_wolf quarter_waves edition_1";
 
 /// The options of all commands.
@@ -167,7 +167,11 @@ fn execute(command: &str, options: &Options) -> Result<bool, String> {
             Ok(seen.hold())
         }
         "head_on" => Ok(head_on::measure(seed, options.count.unwrap_or(1_000_000))),
-        "phase" => Ok(phase::measure(seed, options.count.unwrap_or(1_000_000))),
+        "phase" => Ok(phase::measure(
+            seed,
+            options.count.unwrap_or(1_000_000),
+            options.spoiled,
+        )),
         "compare" => proved::compare(seed, options.count.unwrap_or(1_000_000), options.spoiled)
             .ok_or("compare needs a build with the feature `proved`".to_string()),
         _ => Err(format!("there is no command {command}")),

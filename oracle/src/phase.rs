@@ -108,23 +108,21 @@ fn angle(rng: &mut Rng) -> f64 {
 }
 
 /// Random angles; prints how far the new line and the old one are off at most. True where both readings agree, the line is odd
-/// but for zeros, and the new one is within the proved bound.
-pub fn measure(seed: u64, count: u64) -> bool {
+/// but for zeros, and the new one is within the proved bound. The second reading of angle number `spoiled` is wrong.
+pub fn measure(seed: u64, count: u64, spoiled: Option<u64>) -> bool {
     let mut rng = Rng::new(seed);
     let bound = Natural::shifted(PROVED, 1074 - 110);
     let mut worst = [(Natural::default(), 0.0), (Natural::default(), 0.0)];
     let mut different = 0_u64;
-    for _ in 0..count {
+    for made in 0..count {
         let x = angle(&mut rng);
         let (r, k) = (first_line(x), turns(x));
+        let again = whole_first_line(x).to_bits() ^ u64::from(spoiled == Some(made));
         let opposite = first_line(-x);
         let odd = opposite.to_bits() == (-r).to_bits() || (r == 0.0 && opposite.to_bits() == 0);
-        if r.to_bits() != whole_first_line(x).to_bits() || !odd {
+        if r.to_bits() != again || !odd {
             if different == 0 {
-                println!(
-                    "x {x:?}: r {r:?}, by whole numbers {:?}, of -x {opposite:?}",
-                    whole_first_line(x)
-                );
+                println!("x {x:?}: r {r:?}, by whole numbers {again:016X}, of -x {opposite:?}");
             }
             different += 1;
         }

@@ -96,7 +96,9 @@ fn whole_turns_are_taken_off() {
 
 #[test]
 fn both_readings_of_the_first_line_agree() {
-    assert!(crate::phase::measure(3, 20_000));
+    assert!(crate::phase::measure(3, 20_000, None));
+    assert!(!crate::phase::measure(3, 100, Some(99)));
+    assert!(!crate::phase::measure(3, 0, None));
 }
 
 #[test]
