@@ -8,31 +8,19 @@ use lib.Dec.{T, lit≤}
 use lib.Ieee.{Float, binary64, round, fits, rem, le, ofBits}
 use lib.Ieee.Scale.{round-same}
 use lib.Ieee.Positive.{num, den, den-pos}
-use Rattle.ieee.specs.Operators.{_⊘_}
 use Rattle.ieee.specs.Functions.{abs}
 use Rattle.ieee.specs.Range.{sgn, Mag}
 use Rattle.ieee.proofs.Range.Rem.{rem-is}
 use Rattle.ieee.proofs.Range.Values.{round-itself}
 use Rattle.ieee.proofs.Range.Laws.{mag-up}
-use Rattle.ieee.proofs.Range.Quotients.{div-mag}
-use Rattle.whole_nearest.specs.Nearest.{nearest-size}
 use Rattle.math_trig.specs.Angles.{tau, tau-high, turns-limit}
 use Rattle.math_trig.specs.Trig.{first-line}
-use Rattle.math_trig.proofs.Turns.{M, tau-num, tau-den, tau-finite, tau-in, no-turn}
+use Rattle.math_trig.proofs.Turns.{M, tau-num, tau-den, tau-finite, no-turn-below}
 use Rattle.math_phase.proofs.Exact.{no-turn-same}
 
 -- T1 is T with the low 28 bits of its significand cleared
 cleared : tau-high ≡ ofBits binary64 (0x4019_21FB_5444_2D18 / 2 ^ 28 * 2 ^ 28)
 cleared = refl
-
-pub no-turn-below : (x : Float) → Mag 7074237752028440 51 x → nearest-size (x ⊘ tau) ≡ 0
-no-turn-below x h = no-turn (x ⊘ tau) (at (num (x ⊘ tau)) (den (x ⊘ tau)) (q .most))
-  where
-    q : Mag 1 1 (x ⊘ tau)
-    q = div-mag h tau-in tt
-
-    at : (n d : ℕ) → n * 2 ^ 1 ≤ 1 * d → n * 2 ≤ d
-    at n d h = omega arith
 
 -- x % T is x, below T
 pub rem-same : (x : Float) → T (fits binary64 x) → Mag 7074237752028440 51 x → rem binary64 x tau ≡ x

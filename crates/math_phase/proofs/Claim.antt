@@ -1,20 +1,15 @@
 -- The claim of slip 7. Assumes nothing.
 use mathlib.Core.Path.{_≡_, sym, ap, _∙_, subst}
-use Prim.Native.Nat.{ℕ, _*_, _^_, _≤_, _<_}
+use Prim.Native.Nat.{ℕ, _<_}
 use native.Mathlib.Nat.{le-trans, le-of-eq}
-use native.Mathlib.Omega.{arith}
-use mathlib.Core.Bool.{true}
-use lib.Dec.{T}
 use lib.IntN.{natAbs}
-use lib.Ieee.{Float, nan, inf, fin, up, down, le, lt, eq, ofBits}
+use lib.Ieee.{Float}
 use Rattle.ieee.specs.Operators.{_⊘_}
-use Rattle.ieee.specs.Functions.{abs}
-use Rattle.ieee.specs.Range.{sgn, Mag}
-use Rattle.ieee.proofs.Range.Round.{lt-or-eq}
+use Rattle.ieee.specs.Range.{sgn}
 use Rattle.whole_f64.proofs.Laws.{size-of}
 use Rattle.whole_nearest.specs.Nearest.{nearest-size}
-use Rattle.math_trig.specs.Angles.{tau, pi}
-use Rattle.math_trig.proofs.Turns.{limit-mag, turns-of}
+use Rattle.math_trig.specs.Angles.{tau}
+use Rattle.math_trig.proofs.Turns.{limit-mag, pi-mag, turns-of}
 use Rattle.math_trig.proofs.TrigBounds.{sin-mag, cos-mag}
 use Rattle.math_trig.proofs.Parity.{sin-odd, cos-even}
 use Rattle.math_phase.specs.Claim.{turns, PhaseClaim}
@@ -24,15 +19,6 @@ use Rattle.math_phase.proofs.Near.{near}
 
 turns-size : (x : Float) → natAbs (turns x) ≡ nearest-size (x ⊘ tau)
 turns-size x = size-of (sgn x) (nearest-size (x ⊘ tau))
-
-pi-mag : (x : Float) → T (le (abs x) pi) → Mag 7074237752028440 51 x
-unfolding le lt eq abs ofBits
-pi-mag nan t = absurd t
-pi-mag (inf s) t = absurd t
-pi-mag (fin s m e) t = record { fine = tt; most = at (m * up e) (down e) (lt-or-eq (m * up e * 2 ^ 48) (884279719003555 * down e) true t) }
-  where
-    at : (n d : ℕ) → n * 2 ^ 48 ≤ 884279719003555 * d → n * 2 ^ 51 ≤ 7074237752028440 * d
-    at n d h = omega arith
 
 pub phase : PhaseClaim
 phase = record {

@@ -1,19 +1,18 @@
 -- x - k·T1 and that less k·(T - T1) are exact for every f64 up to 2 ^ 20 in size with a k that is not 0; with no turn r is x itself. So |r| is at most π + 354,200 / 2 ^ 51. Assumes nothing.
-use mathlib.Core.Path.{_≡_, refl, sym, ap, ap₂, _∙_, subst}
+use mathlib.Core.Path.{_≡_, refl, sym, ap, _∙_, subst}
 use Prim.Native.Nat.{ℕ, zero, suc, _+_, _-_, _*_, _^_, _≤_, _<_}
-use native.Mathlib.Nat.{le-trans, le-of-eq, le-of-lt, lt-of-lt-of-le, lt-of-le-of-lt, lt-of-not-le, mul-one, mul-assoc, mul-right-comm, mul-le-mul-right, mul-lt-mul-of-pos-right, lt-of-mul-lt-mul-right, le-of-mul-le-mul-right, eq-of-mul-eq-mul-right}
+use native.Mathlib.Nat.{le-trans, le-of-eq, le-of-lt, lt-of-lt-of-le, lt-of-le-of-lt, lt-of-not-le, mul-assoc, mul-right-comm, mul-le-mul-right, mul-lt-mul-of-pos-right, lt-of-mul-lt-mul-right, le-of-mul-le-mul-right, eq-of-mul-eq-mul-right}
 use native.Mathlib.Omega.{arith}
 use mathlib.Core.Bool.{Bool}
 use lib.Dec.{T, lit≤}
 use lib.Pow.{pow-add, pow-pos}
 use lib.IntN.{ℤ, pos, natAbs, _-ℤ_, _*ℤ_}
-use lib.Ieee.{Float, nan, inf, fin, binary64, up, down, round, fits, ofInt, ofBits}
-use lib.Ieee.Scale.{finite}
+use lib.Ieee.{Float, binary64, fits, ofInt, ofBits}
 use lib.Ieee.Positive.{num, den, den-pos}
 use Rattle.ieee.specs.Operators.{_⊖_, _⊗_, _⊘_}
 use Rattle.ieee.specs.Functions.{zero-f}
 use Rattle.ieee.specs.Range.{sgn, Mag, In}
-use Rattle.ieee.proofs.Range.Values.{pow-lt-back, split-pow, whole, round-itself}
+use Rattle.ieee.proofs.Range.Values.{pow-lt-back, split-pow, whole}
 use Rattle.ieee.proofs.Range.Laws.{in-lit, in-mag, mul-mag}
 use Rattle.ieee.proofs.Range.Sums.{sub-mag}
 use Rattle.whole_f64.specs.Whole.{signed, Is}
@@ -26,7 +25,7 @@ use Rattle.math_phase.specs.Claim.{high-count, rest-count, Exact}
 use Rattle.math_phase.proofs.Whole.{twice, apart}
 use Rattle.math_trig.proofs.Turns.{M, Turns, turns-of, none-below-two}
 use Rattle.math_trig.proofs.Less.{A, B, high-is, middle-is, whole-mag, signed-times, times, k-is}
-use Rattle.math_trig.proofs.Turned.{no-turns, less-none, less-zero}
+use Rattle.math_trig.proofs.Turned.{less-zero-same, reduce-none}
 
 -- ---- an f64 above 2 is a whole number of 2 ^ -51
 -- for a + 2 digits and the smallest value 2 ^ -(a + u)
@@ -208,17 +207,10 @@ left-is x ft h P =
     (record { X = X x h ft P; is = xs x h ft P .1; value = second x h ft P; most = is-mag (second x h ft P) (left x h ft P) })
 
 -- ---- no turn: r is x, in every bit
-less-zero-same : (x : Float) → T (fits binary64 x) → T (finite x) → x ⊖ zero-f ≡ x
-less-zero-same nan ft f = absurd f
-less-zero-same (inf s) ft f = absurd f
-less-zero-same (fin s m e) ft f =
-    less-zero s m e ∙ ap₂ (λ (a b : ℕ). round binary64 s a b) (mul-one (m * up e)) (mul-one (down e)) ∙ round-itself binary64 (fin s m e) f ft
-
 pub no-turn-same : (x : Float) → T (fits binary64 x) → Mag (2 ^ 20) 0 x → nearest-size (x ⊘ tau) ≡ 0 → reduce x ≡ x
 unfolding reduce
 no-turn-same x ft h e =
-    ap (λ (q : Float). less-turns q x) (k-is x h ∙ ap (λ (n : ℕ). ofInt binary64 (signed (sgn x) n)) e ∙ no-turns (sgn x))
-    ∙ less-none x
+    reduce-none x h e
     ∙ ap (λ (z : Float). z ⊖ zero-f ⊖ zero-f) (less-zero-same x ft (h .fine))
     ∙ ap (λ (z : Float). z ⊖ zero-f) (less-zero-same x ft (h .fine))
     ∙ less-zero-same x ft (h .fine)

@@ -29,7 +29,7 @@ tau-in : In P 50 P 50 tau
 unfolding ofBits
 tau-in = in-lit tau tt
 
-pi-in : In P 51 P 51 pi
+pub pi-in : In P 51 P 51 pi
 unfolding ofBits
 pi-in = in-lit pi tt
 

@@ -7,12 +7,13 @@ use native.Mathlib.Omega.{arith}
 use mathlib.Core.Bool.{Bool, true, false, not, cond}
 use lib.Dec.{T, ltb, eqb, lt→ltb, ltb→lt, lit≤}
 use lib.IntN.{pos}
-use lib.Ieee.{Float, nan, inf, fin, binary64, unlike, up, down, round, sum, neg, add, sub, mul, div, rem, le, ofInt, ofBits}
+use lib.Ieee.{Float, nan, inf, fin, binary64, unlike, up, down, round, sum, fits, neg, add, sub, mul, div, rem, le, ofInt, ofBits}
 use lib.Ieee.Scale.{finite}
 use lib.Ieee.Positive.{num, den, den-pos, first-pos}
 use Rattle.ieee.specs.Operators.{_⊖_, _⊗_, _⊘_}
 use Rattle.ieee.specs.Functions.{zero-f, abs}
 use Rattle.ieee.specs.Range.{sgn, Mag, In}
+use Rattle.ieee.proofs.Range.Values.{round-itself}
 use Rattle.ieee.proofs.Range.Laws.{round-in, in-mag, mul-in, neg-mag}
 use Rattle.whole_f64.specs.Whole.{signed}
 use Rattle.whole_nearest.specs.Nearest.{nearest-size, nearest-whole}
@@ -82,7 +83,7 @@ sum-zero false a c = go (ltb a 0) (ltb→lt a 0)
     go true h = absurd (none a (h tt))
     go false h = ap (λ (n : ℕ). round binary64 false n c) (sub-zero a)
 
-pub less-zero : (s : Bool) (m : ℕ) (e : _) → fin s m e ⊖ zero-f ≡ round binary64 s (m * up e * 1) (down e * 1)
+less-zero : (s : Bool) (m : ℕ) (e : _) → fin s m e ⊖ zero-f ≡ round binary64 s (m * up e * 1) (down e * 1)
 unfolding sub add neg ofBits
 less-zero s m e = ap (λ (n : ℕ). sum binary64 s (m * up e * 1) true n (down e * 1)) (zero-mul (down e)) ∙ sum-zero s (m * up e * 1) (down e * 1)
 
@@ -106,17 +107,28 @@ no-low : zero-f ⊗ tau-low ≡ zero-f
 unfolding mul ofBits
 no-low = refl
 
-pub no-turns : (s : Bool) → ofInt binary64 (signed s 0) ≡ zero-f
+no-turns : (s : Bool) → ofInt binary64 (signed s 0) ≡ zero-f
 unfolding ofInt ofBits
 no-turns true = refl
 no-turns false = refl
 
-pub less-none : (x : Float) → less-turns zero-f x ≡ x ⊖ zero-f ⊖ zero-f ⊖ zero-f
+less-none : (x : Float) → less-turns zero-f x ≡ x ⊖ zero-f ⊖ zero-f ⊖ zero-f
 unfolding less-turns
 less-none x =
     ap (λ (z : Float). x ⊖ z ⊖ zero-f ⊗ (tau ⊖ tau-high) ⊖ zero-f ⊗ tau-low) no-high
     ∙ ap (λ (z : Float). x ⊖ zero-f ⊖ z ⊖ zero-f ⊗ tau-low) no-middle
     ∙ ap (λ (z : Float). x ⊖ zero-f ⊖ zero-f ⊖ z) no-low
+
+-- an f64 less zero is itself
+pub less-zero-same : (x : Float) → T (fits binary64 x) → T (finite x) → x ⊖ zero-f ≡ x
+less-zero-same nan ft f = absurd f
+less-zero-same (inf s) ft f = absurd f
+less-zero-same (fin s m e) ft f =
+    less-zero s m e ∙ ap₂ (λ (a b : ℕ). round binary64 s a b) (mul-one (m * up e)) (mul-one (down e)) ∙ round-itself binary64 (fin s m e) f ft
+
+pub reduce-none : (x : Float) → Mag (2 ^ 20) 0 x → nearest-size (x ⊘ tau) ≡ 0 → reduce x ≡ x ⊖ zero-f ⊖ zero-f ⊖ zero-f
+unfolding reduce
+reduce-none x h e = ap (λ (q : Float). less-turns q x) (k-is x h ∙ ap (λ (n : ℕ). ofInt binary64 (signed (sgn x) n)) e ∙ no-turns (sgn x)) ∙ less-none x
 
 less-none-neg : (x : Float) → less-turns zero-f (neg x) ≡ neg (less-turns zero-f x)
 less-none-neg x =

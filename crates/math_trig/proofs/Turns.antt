@@ -21,7 +21,7 @@ use Rattle.ieee.proofs.Range.Round.{lt-or-eq}
 use Rattle.ieee.proofs.Range.Quotients.{div-mag}
 use Rattle.whole_nearest.specs.Nearest.{Nearest, nearest-size}
 use Rattle.whole_nearest.proofs.Laws.{nearest-is, nearest-one}
-use Rattle.math_trig.specs.Angles.{tau, turns-limit}
+use Rattle.math_trig.specs.Angles.{tau, pi, turns-limit}
 
 -- ---- T is M / 2 ^ 47
 abbrev pub M : ℕ
@@ -55,6 +55,15 @@ limit-mag (inf s) t = absurd t
 limit-mag (fin s m e) t = record { fine = tt; most = at (m * up e) (down e) (lt-or-eq (m * up e * 1) (1 * 2 ^ 20 * down e) true t) }
   where
     at : (n d : ℕ) → n * 1 ≤ 1 * 2 ^ 20 * d → n * 1 ≤ 2 ^ 20 * d
+    at n d h = omega arith
+
+pub pi-mag : (x : Float) → T (le (abs x) pi) → Mag 7074237752028440 51 x
+unfolding le lt eq abs ofBits
+pi-mag nan t = absurd t
+pi-mag (inf s) t = absurd t
+pi-mag (fin s m e) t = record { fine = tt; most = at (m * up e) (down e) (lt-or-eq (m * up e * 2 ^ 48) (884279719003555 * down e) true t) }
+  where
+    at : (n d : ℕ) → n * 2 ^ 48 ≤ 884279719003555 * d → n * 2 ^ 51 ≤ 7074237752028440 * d
     at n d h = omega arith
 
 -- ---- the rounded quotient
@@ -96,6 +105,15 @@ no-turn q h = nearest-one (num q) (den q) (nearest-size q) 0 (den-pos q) (neares
   where
     none : (n d : ℕ) → n * 2 ≤ d → Nearest n d 0
     none n d h = record { under = omega arith; over = omega arith; even-above = λ t. refl; even-below = λ t. refl }
+
+pub no-turn-below : (x : Float) → Mag 7074237752028440 51 x → nearest-size (x ⊘ tau) ≡ 0
+no-turn-below x h = no-turn (x ⊘ tau) (at (num (x ⊘ tau)) (den (x ⊘ tau)) (q .most))
+  where
+    q : Mag 1 1 (x ⊘ tau)
+    q = div-mag h tau-in tt
+
+    at : (n d : ℕ) → n * 2 ^ 1 ≤ 1 * d → n * 2 ≤ d
+    at n d h = omega arith
 
 -- ---- |K·T - X / dx| ≤ T/2 + 2 ^ -33, in units of 2 ^ -48
 pub record Turns (K X dx : ℕ) : Type 0 where

@@ -21,11 +21,14 @@ const TAU_LOW: f64 = 2.4492935982947064e-16;
 // 1.5 · 2^52: a sum with it is a whole number, the nearest, ties to even.
 const SHIFT: f64 = 6755399441055744.0;
 
-// The first line of sin and of cos: x less whole turns.
+// The first line of sin and of cos: x less whole turns. Up to π there is none, and zeros are taken off.
 fn first_line(x: f64) -> f64
     ensures { λ r. ⌜ r ≡ first-line x ⌝ }
 {
-    if ieee::abs(x) <= 1048576.0 {
+    let size = ieee::abs(x);
+    if size <= PI {
+        x - 0.0
+    } else if size <= 1048576.0 {
         let k = (x / TAU + SHIFT) - SHIFT;
         ((x - k * TAU_HIGH) - k * TAU_REST) - k * TAU_LOW
     } else {
