@@ -7,4 +7,5 @@ pub mod Opposites
 pub mod Parity
 pub mod Examples
 mod Shifted
+pub mod AtZero
 mod Constants

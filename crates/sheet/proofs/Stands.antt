@@ -153,7 +153,7 @@ run-here (suc m) src at b (l ∷ ls) more h le e =
     rw (w, kind-of-layer l) (ap suc (run-here m src (next-place src at) (layer-block l) ls more n (omega arith) e))
 
 -- ---- SURFACEs
-surfaces-end : (edition n : ℕ) (ys : List SheetSurface) → n < 2 ^ 28 → All (GoodSurface edition) ys → Ends (surfaces-blocks ys (end-block n ∷ []))
+pub surfaces-end : (edition n : ℕ) (ys : List SheetSurface) → n < 2 ^ 28 → All (GoodSurface edition) ys → Ends (surfaces-blocks ys (end-block n ∷ []))
 unfolding surfaces-blocks
 surfaces-end edition n [] lt g = ap (layer-kind 2) (kind-of 5 n lt)
 surfaces-end edition n (y ∷ ys) lt g = tuned-end (y .tuning) (surface-block y) (layers-blocks (y .layers) (surfaces-blocks ys (end-block n ∷ []))) (ap (layer-kind 2) (kind-of 3 (y .payload) (omega (arith, g .0 .payload))))

@@ -20,7 +20,7 @@ use Rattle.thin_film_coating.specs.declared.Coating.the-variants as C
 use Rattle.thin_film.specs.declared.SurfaceCoating.the-variants as S
 use Rattle.thin_film.specs.Evaluate.{evaluate-surface}
 use Rattle.thin_film_conserved.specs.Claim.{Conserves, EverySurface}
-use Rattle.thin_film_conserved.proofs.Straight.{cos-zero}
+use Rattle.math_trig.proofs.AtZero.{cos-zero}
 use Rattle.thin_film_conserved.proofs.Claim.{light-in-light-out}
 use Rattle.fresnel.specs.Fresnel.{fresnel-dielectric}
 use Rattle.fresnel_near.specs.Claim.{Both}

@@ -5,7 +5,7 @@ use lib.Dec.{T}
 use lib.Ieee as Ieee
 use lib.Ieee.{Float, binary64, fits, ofBits}
 use Rattle.ieee.specs.Operators.{_⊕_, _⊖_, _⊗_, _⊘_}
-use Rattle.ieee.specs.Functions.{zero-f, one, two, abs, max, clamp}
+use Rattle.ieee.specs.Functions.{zero-f, one, two, abs, max}
 use Rattle.ieee.specs.Range.{plus, Mag, In}
 use Rattle.ieee.proofs.Range.Laws.{in-mag}
 use Rattle.ieee.proofs.Range.Sums.{add-mag, sub-mag}
@@ -17,25 +17,15 @@ use Rattle.ieee_near.proofs.Laws.{a-zero}
 use Rattle.ieee_near.proofs.Exact.{mul-one-same, one-mul-same, div-one-same, sub-zero-same, zero-add-same, times-zero, zero-over}
 use Rattle.ieee_near.proofs.Pair.{index-in}
 use Rattle.math_root.specs.Root.{squareRoot}
-use Rattle.whole_nearest.specs.Nearest.{nearest-whole}
-use Rattle.math_trig.specs.Trig.{wrap, less-turns, reduce, first-line, fold, second-fold, series, sin-at, sin, cos-at, cos-of, cos}
+use Rattle.math_trig.specs.Trig.{sin, cos}
+use Rattle.math_trig.proofs.AtZero.{cos-zero, sin-zero}
 use Rattle.thin_film_complex.specs.declared.Complex.{Complex}
 use Rattle.thin_film_complex.specs.Complex.{real, scale, norm-sq, add, sub, mul, quotient, div}
 use Rattle.thin_film_matrix.specs.Matrix.{identity}
 use Rattle.thin_film_bounds.proofs.Complex.{norm-in, real-in, div-is}
 use Rattle.thin_film_solver.specs.Solve.{eta0-s, eta0-p, least-cos, cos-theta-sub, eta-sub-s, eta-sub-p, b-of, c-of}
 
--- ---- sine and cosine
-pub cos-zero : (s : Bool) → cos (a-zero s) ≡ one
-unfolding nearest-whole wrap less-turns reduce first-line fold series cos-at cos-of cos abs clamp Ieee.rem Ieee.lt Ieee.le Ieee.eq Ieee.add Ieee.sub Ieee.mul Ieee.div Ieee.neg Ieee.ofInt ofBits
-cos-zero false = refl
-cos-zero true = refl
-
-pub sin-zero : (s : Bool) → sin (a-zero s) ≡ a-zero s
-unfolding nearest-whole wrap less-turns reduce first-line fold second-fold series sin-at sin abs clamp Ieee.rem Ieee.lt Ieee.le Ieee.eq Ieee.add Ieee.sub Ieee.mul Ieee.div Ieee.neg Ieee.ofInt ofBits
-sin-zero false = refl
-sin-zero true = refl
-
+-- ---- the substrate's cosine
 cosine-zero : (s : Bool) → cos-theta-sub (a-zero s) ≡ real one
 unfolding cos-theta-sub real abs max squareRoot Ieee.lt Ieee.le Ieee.eq Ieee.add Ieee.sub Ieee.mul Ieee.neg ofBits
 cosine-zero false = refl

@@ -114,12 +114,12 @@ le-up {p = p} {j = j} {b = b} {k = k} x {c} {d} h g w = go x c d (h .sign) (g .s
         (through (v * up u) (num c) (num d) (down u) (den c) (den d) (den-pos c) (le-cross (fin false v u) c tt (plus-clear c p) tt (plus-finite c p) t) h)
 
 -- ---- N / D as rounded, where only a zero has its sign set
-record Rounds (x : Float) (N D : ℕ) : Type 0 where
-  s : Bool
-  is : x ≡ round binary64 s N D
-  nought : T s → N ≡ 0
+pub record Rounds (x : Float) (N D : ℕ) : Type 0 where
+  pub s : Bool
+  pub is : x ≡ round binary64 s N D
+  pub nought : T s → N ≡ 0
 
-rounds-least0 : {x : Float} {N D : ℕ} → 0 < D → Rounds x N D → Least0 x
+pub rounds-least0 : {x : Float} {N D : ℕ} → 0 < D → Rounds x N D → Least0 x
 rounds-least0 {x} {N} {D} D0 r = subst Least0 (sym (r .is)) (go (r .s) (r .nought))
   where
     none : (n d : ℕ) → n ≡ 0 → n * 1 ≤ 0 * d
@@ -136,7 +136,7 @@ rounds-least0 {x} {N} {D} D0 r = subst Least0 (sym (r .is)) (go (r .s) (r .nough
     go true f t = zero-num (round-rep true N D 0 0 D0 (rep-small 0 0 tt) (none N D (f tt)))
 
 -- rounding keeps the order
-rounds-cross : {x y : Float} {N D N' D' : ℕ} → Rounds x N D → Rounds y N' D' → 0 < D → 0 < D' → T (finite y) → N * D' ≤ N' * D → T (finite x) × (num x * den y ≤ num y * den x)
+pub rounds-cross : {x y : Float} {N D N' D' : ℕ} → Rounds x N D → Rounds y N' D' → 0 < D → 0 < D' → T (finite y) → N * D' ≤ N' * D → T (finite x) × (num x * den y ≤ num y * den x)
 rounds-cross {x} {y} {N} {D} {N'} {D'} r q D0 D0' f h =
     let a : abs y ≡ round binary64 false N' D' = ap abs (q .is) ∙ abs-round binary64 (q .s) N' D' in
     let p = abs-parts y f in
@@ -146,10 +146,10 @@ rounds-cross {x} {y} {N} {D} {N'} {D'} r q D0 D0' f h =
     subst (λ (z : Float). T (finite z) × (num z * den y ≤ num y * den z)) (sym (r .is)) (u .0, rw (n, d) at (u .1))
 
 -- ---- the value itself, a product and a sum
-self-rounds : (x : Float) → T (fits binary64 x) → T (finite x) → Least0 x → Rounds x (num x) (den x)
+pub self-rounds : (x : Float) → T (fits binary64 x) → T (finite x) → Least0 x → Rounds x (num x) (den x)
 self-rounds x h f l = record { s = sgn x; is = sym (round-itself binary64 x f h); nought = l }
 
-mul-rounds : (x y : Float) → T (finite x) → T (finite y) → Least0 x → Least0 y → Rounds (x ⊗ y) (num x * num y) (den x * den y)
+pub mul-rounds : (x y : Float) → T (finite x) → T (finite y) → Least0 x → Least0 y → Rounds (x ⊗ y) (num x * num y) (den x * den y)
 mul-rounds x y f g p q = record { s = unlike (sgn x) (sgn y); is = mul-is x y f g; nought = go (sgn x) (sgn y) p q }
   where
     go : (s t : Bool) → (T s → num x ≡ 0) → (T t → num y ≡ 0) → T (unlike s t) → num x * num y ≡ 0
@@ -157,7 +157,7 @@ mul-rounds x y f g p q = record { s = unlike (sgn x) (sgn y); is = mul-is x y f 
     go false true p q u = ap (λ (n : ℕ). num x * n) (q tt) ∙ mul-zero (num x)
     go false false p q u = absurd u
 
-add-rounds : (x y : Float) → T (finite x) → T (finite y) → Least0 x → Least0 y → Rounds (x ⊕ y) (num x * den y + num y * den x) (den x * den y)
+pub add-rounds : (x y : Float) → T (finite x) → T (finite y) → Least0 x → Least0 y → Rounds (x ⊕ y) (num x * den y + num y * den x) (den x * den y)
 unfolding sum
 add-rounds x y f g p q =
     let X = num x * den y in
