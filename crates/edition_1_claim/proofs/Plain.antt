@@ -1,6 +1,6 @@
 -- What became of a kind 6 has the same film at the wavelength that its index was computed at. Assumes nothing.
 use mathlib.Core.Path.{_≡_, refl, sym, ap, _∙_, subst}
-use mathlib.Core.Bool.{_&&_}
+use mathlib.Core.Bool.{Bool, true, false, _&&_, _||_}
 use mathlib.Core.Logic.{_⊎_, inl, inr, ⊎-elim}
 use mathlib.Core.List.{List, [], _∷_, map}
 use Prim.Native.Nat.{ℕ, zero, suc}
@@ -11,13 +11,13 @@ use lib.Ieee.{Float, binary64, fits}
 use lib.Ieee.Fits.{add-fits}
 use lib.Ieee.Bits.{ofBits-toBits, toBits-lt}
 use Rattle.thin_film_solver.specs.declared.ThinFilmLayer.{ThinFilmLayer}
-use Rattle.gate_limits.specs.Limits.{wavelength-passes, layer-within}
+use Rattle.gate_limits.specs.Limits.{wavelength-passes, layer-within, metal-passes}
 use Rattle.sheet.specs.Blocks.{All}
 use Rattle.sheet.specs.Sheet.{SheetLayer, layer, cauchy, Tuning, keeps, SheetSurface, no-surface, nth, Sheet, GoodLayer, GoodTuning, GoodSurface, WellFormed}
 use Rattle.sheet_values.specs.declared.Cauchy.{Cauchy}
-use Rattle.sheet_values.specs.Values.{value, cauchy-value, cauchy-index, film, films, met-with, met-at}
-use Rattle.gate.specs.Gate.{coefficients-finite, layer-admitted}
-use Rattle.gate.specs.Wavelength.{snell-of, layers-admitted, unless-tuned, layers-hold, holds}
+use Rattle.sheet_values.specs.Values.{value, cauchy-value, cauchy-index, film, films, surface-value, met-with, met-at}
+use Rattle.gate.specs.Gate.{coefficients-finite, layer-admitted, all-finite, metal-admitted, snell-of}
+use Rattle.gate.specs.Wavelength.{layers-admitted, surface-admitted, unless-tuned, layers-hold, holds}
 use Rattle.gate.specs.Claim.{WithinLimits}
 use Rattle.gate.proofs.Wavelengths.{both, and, AllMet, met-within, all-met}
 use Rattle.sheet_edition_1.specs.Edition.{plain, plain-surface, translated}
@@ -57,6 +57,28 @@ plain-admitted w b (l ∷ ls) h =
     and (layer-admitted w b (plain w l)) (layers-admitted w b (map (plain w) ls))
     (and (coefficients-finite (plain w l)) (layer-within b (film w (plain w l))) (plain-finite w l) (subst (λ (f : ThinFilmLayer). T (layer-within b f)) (sym (plain-film w l)) (both (coefficients-finite l) _ (p .0) .1)))
     (plain-admitted w b ls (p .1))
+
+all-finite-plain : (w : Float) (ls : List SheetLayer) → T (all-finite (map (plain w) ls))
+unfolding all-finite
+all-finite-plain w [] = tt
+all-finite-plain w (l ∷ ls) = and (coefficients-finite (plain w l)) (all-finite (map (plain w) ls)) (plain-finite w l) (all-finite-plain w ls)
+
+-- under the limits of metal films too
+metal-plain : (w : Float) (y : SheetSurface) → T (metal-admitted w y) → T (metal-admitted w (plain-surface w y))
+metal-plain w y h =
+    and (all-finite (map (plain w) (y .layers))) (metal-passes w (surface-value y) (films w (map (plain w) (y .layers)))) (all-finite-plain w (y .layers))
+    (subst (λ (fs : List ThinFilmLayer). T (metal-passes w (surface-value y) fs)) (sym (plain-films w (y .layers))) (both (all-finite (y .layers)) _ h .1))
+
+either-plain : (a b c d : Bool) → (T a → T c) → (T b → T d) → T (a || b) → T (c || d)
+either-plain true b true d f g h = tt
+either-plain true b false d f g h = absurd (f tt)
+either-plain false b true d f g h = tt
+either-plain false b false d f g h = g h
+
+surface-plain : (w : Float) (y : SheetSurface) → T (surface-admitted w y) → T (surface-admitted w (plain-surface w y))
+surface-plain w y h =
+    either-plain (layers-admitted w (snell-of y) (y .layers)) (metal-admitted w y) (layers-admitted w (snell-of y) (map (plain w) (y .layers))) (metal-admitted w (plain-surface w y))
+    (plain-admitted w (snell-of y) (y .layers)) (metal-plain w y) h
 
 -- of edition 1 it is as it was
 same-layer : (w : Float) (l : SheetLayer) → GoodLayer 1 l → plain w l ≡ l
@@ -99,8 +121,8 @@ plain-keeps w (y ∷ ys) k = (k .0, plain-keeps w ys (k .1))
 met-surfaces : (w : Float) (ys : List SheetSurface) → Keeps ys → AllMet w ys → AllMet w (map (plain-surface w) ys)
 met-surfaces w [] k h = tt
 met-surfaces w (y ∷ ys) k h =
-    let m = subst (λ (t : Tuning). T (layers-admitted (met-with w t) (snell-of y) (y .layers)) × AllMet (met-with w t) ys) (k .0) (h .1 .1) in
-    (h .0, (h .1 .0, subst (λ (t : Tuning). T (layers-admitted (met-with w t) (snell-of y) (map (plain w) (y .layers))) × AllMet (met-with w t) (map (plain-surface w) ys)) (sym (k .0)) (plain-admitted w (snell-of y) (y .layers) (m .0), met-surfaces w ys (k .1) (m .1))))
+    let m = subst (λ (t : Tuning). T (surface-admitted (met-with w t) y) × AllMet (met-with w t) ys) (k .0) (h .1 .1) in
+    (h .0, (h .1 .0, subst (λ (t : Tuning). T (surface-admitted (met-with w t) (plain-surface w y)) × AllMet (met-with w t) (map (plain-surface w) ys)) (sym (k .0)) (surface-plain w y (m .0), met-surfaces w ys (k .1) (m .1))))
 
 -- ---- a sheet
 pub same-sheet : (x : Sheet) → WellFormed x → x .edition ≡ 1 → translated x ≡ x
@@ -132,7 +154,7 @@ hold-on : (w : Float) (i : ℕ) (ys : List SheetSurface) → Keeps ys → T (lay
 unfolding layers-hold
 hold-on w zero ys k h = h
 hold-on w (suc i) [] k h = tt
-hold-on w (suc i) (y ∷ ys) k h = hold-on w i ys (k .1) (both (layers-admitted w (snell-of y) (y .layers)) (layers-hold w ys) (subst (λ (t : Tuning). T (unless-tuned t (layers-admitted w (snell-of y) (y .layers) && layers-hold w ys))) (k .0) h) .1)
+hold-on w (suc i) (y ∷ ys) k h = hold-on w i ys (k .1) (both (surface-admitted w y) (layers-hold w ys) (subst (λ (t : Tuning). T (unless-tuned t (surface-admitted w y && layers-hold w ys))) (k .0) h) .1)
 
 pub holds-on : (w : Float) (i : ℕ) (ys : List SheetSurface) → Keeps ys → T (holds w ys) → T (holds w (drop i ys))
 unfolding holds

@@ -17,7 +17,7 @@ use Rattle.sheet.specs.Claim.{Bytes, length-fits, Fault}
 use Rattle.sheet.proofs.Claim.{grammar-claim}
 use Rattle.gate.specs.Gate.{verdicts, judged, within-limits, gated}
 use Rattle.gate.specs.Claim.{WithinLimits, FirstOutside, GateClaim}
-use Rattle.gate.proofs.Verdicts.{Passed, each, within-passed, passed-within, First, Judged, all-pass, one-fails, judging, passed-judged, first-judged}
+use Rattle.gate.proofs.Verdicts.{Passed, each, as-before, within-passed, passed-within, First, Judged, all-pass, one-fails, judging, passed-judged, first-judged}
 
 many : (x : Sheet) → length (verdicts x) ≡ length (places x)
 many x = each x ∙ sym (grammar-claim .placed x .0)
@@ -130,6 +130,7 @@ gate-claim = record {
   four = λ src bs place. (is-four src (cases src) place, turned-back src bs place);
   five = λ src bs place. (out-of-grammar src bs place, λ h. by-grammar src (h .0) (fault place) (grammar-claim .faults src bs (h .0) place .1 (h .1)));
   six = λ src bs place. (out-of-limits src bs place, λ h. limits-out src bs place (h .0) (h .1 .0) (h .1 .1));
+  word = as-before;
   each = each;
   no-other = λ src number place e. is-number src (cases src) number place e;
 }

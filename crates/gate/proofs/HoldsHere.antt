@@ -13,18 +13,20 @@ use Rattle.gate_limits.specs.Limits.{wavelength-passes}
 use Rattle.sheet.specs.Words.{word, kind, float}
 use Rattle.sheet.specs.Blocks.{Block}
 use Rattle.sheet.specs.Sheet.{SheetLayer, Tuning, keeps, tunes, SheetSurface, no-surface, nth, Sheet, surfaces-blocks, end-block}
-use Rattle.sheet.specs.Internal.{next-place, place-on, layer-run, tuning-at, surface-at, layers-at, onto, begin}
+use Rattle.sheet.specs.Internal.{next-place, place-on, layer-run, tuning-at, layers-at, onto, begin}
 use Rattle.sheet.proofs.Stands.{Stands, Standing, SurfaceHere, tuning-i, surface-i, surface-on, begin-stands}
-use Rattle.gate.specs.Wavelength.{snell-of, layers-admitted, unless-tuned, layers-hold, holds}
+use Rattle.gate.specs.Wavelength.{surface-admitted, unless-tuned, layers-hold, holds}
 use Rattle.gate.specs.Internal.{surface-holds-at, layers-hold-at, holds-at}
 
+abbrev with-layers : SheetSurface → List SheetLayer → SheetSurface
+with-layers y ls = record { tuning = keeps; payload = y .payload; n-incident = y .n-incident; n-substrate = y .n-substrate; angle = y .angle; layers = ls }
+
 module _ (src : List ℕ) (w : Float) where
-  surface-holds-here : (at : ℕ) (y : SheetSurface) (more : List Block) → SurfaceHere src at y more → surface-holds-at src at w ≡ layers-admitted w (snell-of y) (y .layers)
+  surface-holds-here : (at : ℕ) (y : SheetSurface) (more : List Block) → SurfaceHere src at y more → surface-holds-at src at w ≡ surface-admitted w y
   unfolding surface-holds-at
   surface-holds-here at y more h =
-      ap (λ (z : SheetSurface). layers-admitted w (snell-of z) (layers-at src (next-place src at) (layer-run 16 src at))) (h .value [])
-      ∙ ap (λ (n : ℕ). layers-admitted w (snell-of y) (layers-at src (next-place src at) n)) (h .run)
-      ∙ ap (layers-admitted w (snell-of y)) (h .layers)
+      ap (λ (z : SheetSurface). surface-admitted w z) (h .value (layers-at src (next-place src at) (layer-run 16 src at)))
+      ∙ ap (λ (ls : List SheetLayer). surface-admitted w (with-layers y ls)) (ap (layers-at src (next-place src at)) (h .run) ∙ h .layers)
 
   module _ (x : Sheet) (h : Standing src x) where
     abbrev left : ℕ → List Block
@@ -49,7 +51,7 @@ module _ (src : List ℕ) (w : Float) where
 
         by : (t : Bool) → eqb (kind (word src at)) 7 ≡ t → ((q : ℕ) → Stands src q (left (suc i)) → layers-hold-at n src q w ≡ layers-hold w (drop (suc i) (x .surfaces)))
             → cond (eqb (kind (word src at)) 7) true (surface-holds-at src at w && layers-hold-at n src (place-on src at (suc (layer-run 16 src at))) w)
-            ≡ unless-tuned (nth (x .surfaces) i .tuning) (layers-admitted w (snell-of (nth (x .surfaces) i)) (nth (x .surfaces) i .layers) && layers-hold w (drop (suc i) (x .surfaces)))
+            ≡ unless-tuned (nth (x .surfaces) i .tuning) (surface-admitted w (nth (x .surfaces) i) && layers-hold w (drop (suc i) (x .surfaces)))
         by true q again =
             let t : nth (x .surfaces) i .tuning ≡ tunes (float src (at + 1)) = sym tuning ∙ ap (λ (b : Bool). cond b (tunes (float src (at + 1))) keeps) q in
             rw (q, t) refl

@@ -1,18 +1,20 @@
 -- A sheet is within the limits exactly where its BEAM and each of its kinds 7 pass, and each SURFACE with its layers at the wavelength that it is met with. Assumes nothing.
 use mathlib.Core.Path.{_≡_, refl, sym, ap, subst}
-use mathlib.Core.Bool.{Bool, true, false, _&&_}
+use mathlib.Core.Bool.{Bool, true, false, _&&_, _||_}
+use mathlib.Core.Logic.{_⊎_, inl, inr}
 use mathlib.Core.List.{List, [], _∷_}
 use Prim.Native.Nat.{ℕ, zero, suc, _<_}
 use native.Mathlib.Omega.{arith}
 use lib.Dec.{T}
 use lib.ListN.{length}
 use lib.Ieee.{Float}
-use Rattle.gate_limits.specs.Limits.{wavelength-passes, power-passes, beam-passes, layer-within, layers-within, surface-passes, passes}
+use Rattle.ieee.proofs.Range.Falls.{or-l}
+use Rattle.gate_limits.specs.Limits.{wavelength-passes, power-passes, beam-passes, layer-within, layers-within, surface-passes, metal-passes, passes}
 use Rattle.sheet.specs.Blocks.{All}
 use Rattle.sheet.specs.Sheet.{SheetLayer, Tuning, keeps, tunes, SheetSurface, nth, Sheet}
 use Rattle.sheet_values.specs.Values.{value, film, films, surface-value, met-with, met-at}
-use Rattle.gate.specs.Gate.{coefficients-finite, layer-admitted}
-use Rattle.gate.specs.Wavelength.{snell-of, layers-admitted, unless-tuned, layers-hold, holds}
+use Rattle.gate.specs.Gate.{coefficients-finite, layer-admitted, all-finite, metal-admitted, snell-of}
+use Rattle.gate.specs.Wavelength.{layers-admitted, surface-admitted, unless-tuned, layers-hold, holds}
 use Rattle.gate.specs.Claim.{untuned, HoldsFrom, AllHold, WithinLimits}
 
 pub both : (a b : Bool) → T (a && b) → T a × T b
@@ -23,6 +25,14 @@ pub and : (a b : Bool) → T a → T b → T (a && b)
 and true b s t = t
 and false b s t = absurd s
 
+pub one-of : (a b : Bool) → T (a || b) → T a ⊎ T b
+one-of true b t = inl tt
+one-of false b t = inr t
+
+pub or-r : (a b : Bool) → T b → T (a || b)
+or-r true b t = tt
+or-r false b t = t
+
 abbrev pub tuning-passes : Tuning → Bool
 tuning-passes keeps = true
 tuning-passes (tunes wavelength) = wavelength-passes (value wavelength)
@@ -31,7 +41,7 @@ tuning-passes (tunes wavelength) = wavelength-passes (value wavelength)
 abbrev pub AllMet : Float → List SheetSurface → Type 0
 AllMet w [] = Unit
 AllMet w (y ∷ ys) =
-    T (tuning-passes (y .tuning)) × (T (surface-passes (surface-value y)) × (T (layers-admitted (met-with w (y .tuning)) (snell-of y) (y .layers)) × AllMet (met-with w (y .tuning)) ys))
+    T (tuning-passes (y .tuning)) × (T (surface-passes (surface-value y)) × (T (surface-admitted (met-with w (y .tuning)) y) × AllMet (met-with w (y .tuning)) ys))
 
 abbrev AllPass : List SheetSurface → Type 0
 AllPass ys = All (λ (y : SheetSurface). T (surface-passes (surface-value y))) ys
@@ -42,9 +52,9 @@ unfolding layers-hold
 met-holds w [] h = tt
 met-holds w (y ∷ ys) h = by (y .tuning) (h .1 .1) (λ m. met-holds w ys m)
   where
-    by : (t : Tuning) → T (layers-admitted (met-with w t) (snell-of y) (y .layers)) × AllMet (met-with w t) ys → (AllMet w ys → T (layers-hold w ys))
-        → T (unless-tuned t (layers-admitted w (snell-of y) (y .layers) && layers-hold w ys))
-    by keeps h again = and (layers-admitted w (snell-of y) (y .layers)) (layers-hold w ys) (h .0) (again (h .1))
+    by : (t : Tuning) → T (surface-admitted (met-with w t) y) × AllMet (met-with w t) ys → (AllMet w ys → T (layers-hold w ys))
+        → T (unless-tuned t (surface-admitted w y && layers-hold w ys))
+    by keeps h again = and (surface-admitted w y) (layers-hold w ys) (h .0) (again (h .1))
     by (tunes v) h again = tt
 
 met-tuned : (w : Float) (ys : List SheetSurface) → AllMet w ys → AllHold ys
@@ -52,11 +62,11 @@ unfolding holds layers-hold
 met-tuned w [] h = tt
 met-tuned w (y ∷ ys) h = (by (y .tuning) (h .0) (h .1 .1), met-tuned (met-with w (y .tuning)) ys (h .1 .1 .1))
   where
-    by : (t : Tuning) → T (tuning-passes t) → T (layers-admitted (met-with w t) (snell-of y) (y .layers)) × AllMet (met-with w t) ys → HoldsFrom t (untuned y ∷ ys)
+    by : (t : Tuning) → T (tuning-passes t) → T (surface-admitted (met-with w t) y) × AllMet (met-with w t) ys → HoldsFrom t (untuned y ∷ ys)
     by keeps p h = tt
     by (tunes v) p h =
-        and (wavelength-passes (value v)) (layers-admitted (value v) (snell-of y) (y .layers) && layers-hold (value v) ys) p
-        (and (layers-admitted (value v) (snell-of y) (y .layers)) (layers-hold (value v) ys) (h .0) (met-holds (value v) ys (h .1)))
+        and (wavelength-passes (value v)) (surface-admitted (value v) y && layers-hold (value v) ys) p
+        (and (surface-admitted (value v) y) (layers-hold (value v) ys) (h .0) (met-holds (value v) ys (h .1)))
 
 met-pass : (w : Float) (ys : List SheetSurface) → AllMet w ys → AllPass ys
 met-pass w [] h = tt
@@ -83,12 +93,12 @@ unfolding holds layers-hold
 holds-met w [] h t p = tt
 holds-met w (y ∷ ys) h t p = by (y .tuning) h (t .0) (λ v g. holds-met v ys g (t .1) (p .1))
   where
-    by : (u : Tuning) → T (unless-tuned u (layers-admitted w (snell-of y) (y .layers) && layers-hold w ys)) → HoldsFrom u (untuned y ∷ ys) → ((v : Float) → T (layers-hold v ys) → AllMet v ys)
-        → T (tuning-passes u) × (T (surface-passes (surface-value y)) × (T (layers-admitted (met-with w u) (snell-of y) (y .layers)) × AllMet (met-with w u) ys))
-    by keeps h f again = let b = both (layers-admitted w (snell-of y) (y .layers)) (layers-hold w ys) h in (tt, (p .0, (b .0, again w (b .1))))
+    by : (u : Tuning) → T (unless-tuned u (surface-admitted w y && layers-hold w ys)) → HoldsFrom u (untuned y ∷ ys) → ((v : Float) → T (layers-hold v ys) → AllMet v ys)
+        → T (tuning-passes u) × (T (surface-passes (surface-value y)) × (T (surface-admitted (met-with w u) y) × AllMet (met-with w u) ys))
+    by keeps h f again = let b = both (surface-admitted w y) (layers-hold w ys) h in (tt, (p .0, (b .0, again w (b .1))))
     by (tunes v) h f again =
-        let a = both (wavelength-passes (value v)) (layers-admitted (value v) (snell-of y) (y .layers) && layers-hold (value v) ys) f in
-        let b = both (layers-admitted (value v) (snell-of y) (y .layers)) (layers-hold (value v) ys) (a .1) in
+        let a = both (wavelength-passes (value v)) (surface-admitted (value v) y && layers-hold (value v) ys) f in
+        let b = both (surface-admitted (value v) y) (layers-hold (value v) ys) (a .1) in
         (a .0, (p .0, (b .0, again (value v) (b .1))))
 
 pub all-met : (x : Sheet) → WithinLimits x → AllMet (value (x .wavelength)) (x .surfaces)
@@ -103,9 +113,20 @@ films-within w b (l ∷ ls) h =
     let p = both (layer-admitted w b l) (layers-admitted w b ls) h in
     and (layer-within b (film w l)) (layers-within b (films w ls)) (both (coefficients-finite l) (layer-within b (film w l)) (p .0) .1) (films-within w b ls (p .1))
 
-pub passes-met : (w : Float) (y : SheetSurface) → T (surface-passes (surface-value y)) → T (layers-admitted w (snell-of y) (y .layers)) → T (passes w (surface-value y) (films w (y .layers)))
+pub films-length : (w : Float) (ls : List SheetLayer) → length (films w ls) ≡ length ls
+unfolding films
+films-length w [] = refl
+films-length w (l ∷ ls) = ap suc (films-length w ls)
+
+pub passes-met : (w : Float) (y : SheetSurface) → T (surface-passes (surface-value y)) → T (surface-admitted w y) → T (passes w (surface-value y) (films w (y .layers)))
 unfolding passes
-passes-met w y p h = and (surface-passes (surface-value y)) (layers-within (snell-of y) (films w (y .layers))) p (films-within w (snell-of y) (y .layers) h)
+passes-met w y p h =
+    let L = layers-within (snell-of y) (films w (y .layers)) in
+    let M = metal-passes w (surface-value y) (films w (y .layers)) in
+    and (surface-passes (surface-value y)) (L || M) p (elim (one-of (layers-admitted w (snell-of y) (y .layers)) (metal-admitted w y) h) [
+      | inl t ↦ or-l L M (films-within w (snell-of y) (y .layers) t)
+      | inr t ↦ or-r L M (both (all-finite (y .layers)) M t .1)
+    ])
 
 later : (w : Float) (y : SheetSurface) (ys : List SheetSurface) (i : ℕ) → met-at w (y ∷ ys) (suc i) ≡ met-at (met-with w (y .tuning)) ys i
 unfolding met-at

@@ -14,7 +14,7 @@ use Rattle.sheet.specs.Blocks.{All}
 use Rattle.sheet.specs.Sheet.{Tuning, keeps, tunes, SheetSurface, Sheet, WellFormed, blocks, encode, places}
 use Rattle.sheet.specs.Claim.{_⇔_, Bytes, length-fits, Fault}
 use Rattle.sheet_values.specs.Values.{value, surface-value}
-use Rattle.gate.specs.Gate.{verdicts, gated}
+use Rattle.gate.specs.Gate.{old, spared, verdicts-by, verdicts, gated}
 use Rattle.gate.specs.Wavelength.{holds}
 
 -- ---- section 3
@@ -52,6 +52,15 @@ pub record FirstOutside (x : Sheet) (place : ℕ) : Type 0 where
   pub first : (i : ℕ) → i < block → getD (verdicts x) i true ≡ true
   pub stands : place ≡ getD (places x) block 0
 
+-- slip 12: it is outside the old limits and no layer of a SURFACE that passes under the others, and each block before it is within the old
+-- limits or is such a layer
+pub record AsBefore (x : Sheet) (place : ℕ) : Type 0 where
+  pub block : ℕ
+  pub stands : place ≡ getD (places x) block 0
+  pub outside : getD (verdicts-by old x) block true ≡ false
+  pub unspared : getD (verdicts-by spared x) block false ≡ false
+  pub first : (i : ℕ) → i < block → (getD (verdicts-by spared x) i false ≡ true) ⊎ (getD (verdicts-by old x) i true ≡ true)
+
 pub record GateClaim : Type 0 where
   -- admitted exactly when the bytes are those of a well-formed sheet within the limits; that sheet is then the answer, so it is the only
   -- one
@@ -64,6 +73,8 @@ pub record GateClaim : Type 0 where
   -- 6 exactly when a well-formed sheet does and is outside the limits
   pub six : (src : List ℕ) → Bytes src → (place : ℕ) →
       (gated src ≡ refusal 6 place) ⇔ ((x : Sheet) × ((WellFormed x × (encode x ≡ src)) × FirstOutside x place))
+  -- 'If neither set holds, 6 gives the word it gave before.'
+  pub word : (x : Sheet) (place : ℕ) → FirstOutside x place → AsBefore x place
   -- a verdict for each block, and where a sheet's places are is `GrammarClaim`'s `placed`
   pub each : (x : Sheet) → length (verdicts x) ≡ length (blocks x)
   -- and there is no other refusal

@@ -1,34 +1,65 @@
 -- Scaffolding, not to be believed: what the limits say of the block at a place of some bytes, and of a wavelength from there on.
-use mathlib.Core.Bool.{Bool, true, _&&_, cond}
-use mathlib.Core.List.{List, []}
+use mathlib.Core.Bool.{Bool, true, _&&_, _||_, cond}
+use mathlib.Core.List.{List, [], _∷_}
 use Prim.Native.Nat.{ℕ, zero, suc, _-_}
 use lib.Dec.{eqb}
-use lib.Ieee.{Float}
+use lib.Ieee.{Float, le}
+use lib.Ieee.Scale.{finite}
+use Rattle.ieee.specs.Operators.{_⊕_}
 use Rattle.gate_limits.specs.declared.Judgement.{Judgement}
-use Rattle.gate_limits.specs.Limits.{wavelength-passes, beam-passes, judgement}
+use Rattle.gate_limits.specs.Limits.{sixteen, wavelength-passes, beam-passes, layer-within, metal-within, absorption, judgement}
 use Rattle.sheet.specs.Words.{word, kind}
 use Rattle.sheet.specs.Read.{layer-kind}
+use Rattle.sheet.specs.Sheet.{SheetLayer, SheetSurface}
 use Rattle.sheet.specs.Internal.{next-place, place-on, layer-run, layer-at, surface-at, layers-at, begin}
-use Rattle.sheet_values.specs.Values.{surface-value}
+use Rattle.sheet_values.specs.Values.{cauchy-film, film, surface-value}
+use Rattle.sheet_values.specs.declared.Cauchy.{Cauchy}
 use Rattle.sheet_values.specs.Internal.{beam-at}
-use Rattle.gate.specs.Gate.{layer-admitted}
-use Rattle.gate.specs.Wavelength.{snell-of, layers-admitted}
+use Rattle.gate.specs.Gate.{coefficients-finite, layer-admitted, metal-admitted}
+use Rattle.gate.specs.Wavelength.{surface-admitted}
 
--- whether it passes at a wavelength, and n_incident·abs(sin) after it, for one of b before it
-unfoldable pub judgement-at : List ℕ → ℕ → Float → Float → Judgement
-judgement-at src at wavelength b =
+-- a kind 6 by its values: its coefficients are finite; and it passes under section 3's limits
+abbrev pub glass-finite : Cauchy → Bool
+glass-finite g = finite (g .a) && (finite (g .b) && finite (g .c))
+
+abbrev pub cauchy-admitted : Float → Float → Cauchy → Bool
+cauchy-admitted wavelength b g = glass-finite g && layer-within b (cauchy-film wavelength g)
+
+-- the SURFACE at a place, with its layers
+abbrev pub whole-at : List ℕ → ℕ → SheetSurface
+whole-at src at = surface-at src at (layers-at src (next-place src at) (layer-run 16 src at))
+
+-- whether it is within slip 12's limits at a wavelength
+unfoldable pub metal-at : List ℕ → ℕ → Float → Bool
+metal-at src at wavelength = metal-admitted wavelength (whole-at src at)
+
+-- a layer of it, and layers one after the other, with the sum so far
+abbrev pub metal-layer : Float → SheetLayer → Bool
+metal-layer wavelength l = coefficients-finite l && metal-within (film wavelength l)
+
+unfoldable pub metal-layers : Float → Float → List SheetLayer → Bool
+metal-layers wavelength sum [] = le sum sixteen
+metal-layers wavelength sum (l ∷ ls) = metal-layer wavelength l && metal-layers wavelength (sum ⊕ absorption wavelength (film wavelength l)) ls
+
+-- whether a block passes at a wavelength, with a SURFACE before it, and n_incident·abs(sin) after it, for one of b before it
+unfoldable pub judgement-at : List ℕ → ℕ → ℕ → Float → Float → Judgement
+judgement-at src at surface wavelength b =
     let k = kind (word src at) in
     let beam = beam-at src at in
     cond (eqb k 2) (record { passes = beam-passes (beam .«wavelength_nm») (beam .s) (beam .p); snell = b })
     (cond (eqb k 3) (judgement (surface-value (surface-at src at [])))
-    (cond (layer-kind 2 k) (record { passes = layer-admitted wavelength b (layer-at src at); snell = b })
+    (cond (layer-kind 2 k)
+    (record { passes = layer-admitted wavelength b (layer-at src at) || metal-at src surface wavelength; snell = b })
     (cond (eqb k 7) (record { passes = wavelength-passes wavelength; snell = b })
     (record { passes = true; snell = b }))))
 
+-- the SURFACE of a layer that stands after the block at a place
+unfoldable pub surface-before : List ℕ → ℕ → ℕ → ℕ
+surface-before src at surface = cond (eqb (kind (word src at)) 3) at surface
+
 -- the layers of the SURFACE at a place
 unfoldable pub surface-holds-at : List ℕ → ℕ → Float → Bool
-surface-holds-at src at wavelength =
-    layers-admitted wavelength (snell-of (surface-at src at [])) (layers-at src (next-place src at) (layer-run 16 src at))
+surface-holds-at src at wavelength = surface-admitted wavelength (whole-at src at)
 
 -- the layers of n SURFACEs, the first of which begins at a place, up to the next kind 7
 unfoldable pub layers-hold-at : ℕ → List ℕ → ℕ → Float → Bool

@@ -1,18 +1,18 @@
 // The gate of document 01: any bytes of any length are admitted, with their count of surfaces, or
 // refused with 4, 5 or 6, in that order over the whole sheet.
 ghost use mathlib.Core.Path.{_≡_};
-ghost use mathlib.Core.Bool.{_&&_};
+ghost use mathlib.Core.Bool.{_&&_, _||_};
 ghost use lib.Dec.{T};
-ghost use lib.Ieee.Scale.{finite};
+ghost use Rattle.ieee.specs.Functions.{zero-f};
 ghost use Rattle.gate_limits.specs.Limits.{layer-within};
 ghost use Rattle.sheet.specs.Internal.{layer-at, layers-at};
 ghost use Rattle.sheet.specs.Claim.{longest, length-fits};
 ghost use Rattle.sheet.specs.Read.{decode, graded, surfaces-of, grammar};
 ghost use Rattle.refusal.specs.Outcome.{answer, refusal, map};
-ghost use Rattle.gate.specs.Gate.{layer-admitted, outcome, within-limits, gate};
+ghost use Rattle.gate.specs.Gate.{coefficients-finite, layer-admitted, outcome, within-limits, gate};
 ghost use Rattle.gate.specs.Wavelength.{layers-admitted};
-ghost use Rattle.sheet_values.specs.Values.{cauchy-film};
-ghost use Rattle.gate.specs.Internal.{judgement-at, surface-holds-at, layers-hold-at, holds-at};
+ghost use Rattle.sheet_values.specs.Internal.{plain-at, cauchy-at};
+ghost use Rattle.gate.specs.Internal.{glass-finite, cauchy-admitted, metal-at, metal-layer, metal-layers, judgement-at, surface-before, surface-holds-at, layers-hold-at, holds-at};
 use gate_limits::Judgement;
 use refusal::Refusal;
 use sheet::Verdict;
@@ -50,22 +50,95 @@ fn outside(place: usize) -> Gated
     Gated::Refused(Refusal { number: 6, place })
 }
 
-// A kind 6 at a wavelength: its coefficients are finite, and its index is tested as a layer's n.
-fn cauchy_passes(wavelength_nm: f64, snell: f64, glass: Cauchy) -> bool
-    ensures { λ r. ⌜ r ≡ (finite (glass .a) && (finite (glass .b) && finite (glass .c))) && layer-within snell (cauchy-film «wavelength_nm» glass) ⌝ }
+// The coefficients of a kind 6 are finite.
+fn glass_finite(glass: Cauchy) -> bool
+    ensures { λ r. ⌜ r ≡ glass-finite glass ⌝ }
 {
-    ieee::is_finite(glass.a)
-        && (ieee::is_finite(glass.b)
-            && (ieee::is_finite(glass.c)
-                && gate_limits::layer_within(
-                    snell,
-                    sheet_values::cauchy_film(wavelength_nm, glass),
-                )))
+    ieee::is_finite(glass.a) && (ieee::is_finite(glass.b) && ieee::is_finite(glass.c))
 }
 
-// Whether the block at a place is within the limits at a wavelength, and n_incident * abs(sin) after it.
-fn judge(src: &[u8], at: usize, wavelength_nm: f64, snell: f64) -> Judgement
-    ensures { λ r. ⌜ r ≡ judgement-at (now (src .entry)) at «wavelength_nm» snell ⌝ }
+// The layer of either kind at a place: a kind 6's coefficients are finite.
+fn coefficients_finite(src: &[u8], at: usize) -> bool
+    ensures { λ r. ⌜ r ≡ coefficients-finite (layer-at (now (src .entry)) at) ⌝ }
+{
+    if sheet::kind_at(src, at) == 6 {
+        return glass_finite(sheet_values::cauchy_at(src, at));
+    }
+    true
+}
+
+// A kind 6 at a wavelength: its coefficients are finite, and its index is tested as a layer's n.
+fn cauchy_passes(wavelength_nm: f64, snell: f64, glass: Cauchy) -> bool
+    ensures { λ r. ⌜ r ≡ cauchy-admitted «wavelength_nm» snell glass ⌝ }
+{
+    glass_finite(glass)
+        && gate_limits::layer_within(snell, sheet_values::cauchy_film(wavelength_nm, glass))
+}
+
+// ---- metal films (document 02, slip 12)
+
+// The layer of either kind at a place, at a wavelength.
+fn metal_layer(src: &[u8], at: usize, wavelength_nm: f64) -> bool
+    ensures { λ r. ⌜ r ≡ metal-layer «wavelength_nm» (layer-at (now (src .entry)) at) ⌝ }
+{
+    if !coefficients_finite(src, at) {
+        return false;
+    }
+    gate_limits::metal_within(sheet_values::layer_at(src, at, wavelength_nm))
+}
+
+// The n layers from a place on, and the sum of what they absorb, in their order.
+fn metal_layers(src: &[u8], at: usize, n: usize, wavelength_nm: f64) -> bool
+    ensures { λ r. ⌜ r ≡ metal-layers «wavelength_nm» zero-f (layers-at (now (src .entry)) at n) ⌝ }
+{
+    let mut place = at;
+    let mut sum = 0.0;
+    let mut i = 0;
+    while i < n {
+        if !metal_layer(src, place, wavelength_nm) {
+            return false;
+        }
+        let layer = sheet_values::layer_at(src, place, wavelength_nm);
+        sum = sum + gate_limits::absorption(wavelength_nm, layer);
+        place = sheet::next_place(src, place);
+        i += 1;
+    }
+    sum <= 16.0
+}
+
+// The SURFACE at a place with its layers.
+fn metal_holds(src: &[u8], at: usize, wavelength_nm: f64) -> bool
+    ensures { λ r. ⌜ r ≡ metal-at (now (src .entry)) at «wavelength_nm» ⌝ }
+{
+    let n = sheet::layer_run(src, at);
+    if !gate_limits::may_be_metal(sheet_values::surface_at(src, at), n) {
+        return false;
+    }
+    metal_layers(src, sheet::next_place(src, at), n, wavelength_nm)
+}
+
+// ---- a sheet, block after block
+
+// A LAYER, or else its SURFACE under the limits of metal films.
+fn plain_stands(src: &[u8], at: usize, surface: usize, wavelength_nm: f64, snell: f64) -> bool
+    ensures { λ r. ⌜ r ≡ layer-within snell (plain-at (now (src .entry)) at) || metal-at (now (src .entry)) surface «wavelength_nm» ⌝ }
+{
+    gate_limits::layer_within(snell, sheet_values::plain_at(src, at))
+        || metal_holds(src, surface, wavelength_nm)
+}
+
+// The same of a kind 6.
+fn cauchy_stands(src: &[u8], at: usize, surface: usize, wavelength_nm: f64, snell: f64) -> bool
+    ensures { λ r. ⌜ r ≡ cauchy-admitted «wavelength_nm» snell (cauchy-at (now (src .entry)) at) || metal-at (now (src .entry)) surface «wavelength_nm» ⌝ }
+{
+    cauchy_passes(wavelength_nm, snell, sheet_values::cauchy_at(src, at))
+        || metal_holds(src, surface, wavelength_nm)
+}
+
+// Whether the block at a place is within the limits at a wavelength, with the SURFACE before it, and n_incident *
+// abs(sin) after it.
+fn judge(src: &[u8], at: usize, surface: usize, wavelength_nm: f64, snell: f64) -> Judgement
+    ensures { λ r. ⌜ r ≡ judgement-at (now (src .entry)) at surface «wavelength_nm» snell ⌝ }
 {
     let kind = sheet::kind_at(src, at);
     if kind == 2 {
@@ -80,13 +153,13 @@ fn judge(src: &[u8], at: usize, wavelength_nm: f64, snell: f64) -> Judgement
     }
     if kind == 4 {
         return Judgement {
-            passes: gate_limits::layer_within(snell, sheet_values::plain_at(src, at)),
+            passes: plain_stands(src, at, surface, wavelength_nm, snell),
             snell,
         };
     }
     if kind == 6 {
         return Judgement {
-            passes: cauchy_passes(wavelength_nm, snell, sheet_values::cauchy_at(src, at)),
+            passes: cauchy_stands(src, at, surface, wavelength_nm, snell),
             snell,
         };
     }
@@ -102,6 +175,17 @@ fn judge(src: &[u8], at: usize, wavelength_nm: f64, snell: f64) -> Judgement
     }
 }
 
+// The SURFACE of a layer that stands after the block at a place.
+fn surface_before(src: &[u8], at: usize, surface: usize) -> usize
+    ensures { λ r. ⌜ r ≡ surface-before (now (src .entry)) at surface ⌝ }
+{
+    if sheet::kind_at(src, at) == 3 {
+        at
+    } else {
+        surface
+    }
+}
+
 // The limits of a sheet that is in grammar, block after block, each layer at the wavelength that its SURFACE is met with.
 fn limits(src: &[u8], count: u32) -> Gated
     requires { ⌜ T (length-fits (now src)) × (grammar (now src) ≡ answer count) ⌝ }
@@ -111,14 +195,16 @@ fn limits(src: &[u8], count: u32) -> Gated
     let beam = sheet_values::beam_of(src);
     let mut wavelength_nm = beam.wavelength_nm;
     let mut at: usize = 0;
+    let mut surface: usize = 0;
     let mut snell = 0.0;
     while at < total {
         wavelength_nm = sheet_values::met_with(src, at, wavelength_nm);
-        let judgement = judge(src, at, wavelength_nm, snell);
+        let judgement = judge(src, at, surface, wavelength_nm, snell);
         if !judgement.passes {
             return outside(at);
         }
         snell = judgement.snell;
+        surface = surface_before(src, at, surface);
         at = sheet::next_place(src, at);
     }
     Gated::Admitted(count)
@@ -168,19 +254,15 @@ fn layers_pass(src: &[u8], at: usize, n: usize, wavelength_nm: f64, snell: f64) 
     true
 }
 
-// The layers of the SURFACE at a place.
+// The layers of the SURFACE at a place, under either set of limits.
 fn surface_holds(src: &[u8], at: usize, wavelength_nm: f64) -> bool
     ensures { λ r. ⌜ r ≡ surface-holds-at (now (src .entry)) at «wavelength_nm» ⌝ }
 {
     let judgement = gate_limits::judge_surface(sheet_values::surface_at(src, at));
     let n = sheet::layer_run(src, at);
-    layers_pass(
-        src,
-        sheet::next_place(src, at),
-        n,
-        wavelength_nm,
-        judgement.snell,
-    )
+    let place = sheet::next_place(src, at);
+    layers_pass(src, place, n, wavelength_nm, judgement.snell)
+        || metal_holds(src, at, wavelength_nm)
 }
 
 // The layers of n SURFACEs, the first of which begins at a place, up to the next kind 7.

@@ -18,13 +18,13 @@ use Rattle.ieee.proofs.Range.Constants.{one-in}
 use Rattle.math_trig.specs.Trig.{sin, cos}
 use Rattle.math_trig.proofs.TrigBounds.{sin-mag, cos-mag}
 use Rattle.thin_film_solver.specs.declared.ThinFilmLayer.{ThinFilmLayer}
-use Rattle.thin_film_bounds.specs.Solver.{Refracts, AdmittedLayer, AdmittedLayers}
+use Rattle.thin_film_bounds.specs.Solver.{Refracts, AdmittedLayer, Each}
 use Rattle.gate_limits.specs.declared.Surface.{Surface}
 use Rattle.gate_limits.specs.Coating.{interface, preset-layers}
 use Rattle.gate_limits.specs.Limits.{hundred, ten-thousand, hundred-thousand, within, wavelength-passes, snell-size, refracts, layer-within, layers-within, layer-passes, layers-pass, angle-passes, surface-passes}
 
 -- ---- the ends
-four-in : In 4 0 4 0 four
+pub four-in : In 4 0 4 0 four
 unfolding ofBits
 four-in = in-lit four tt
 
@@ -40,7 +40,7 @@ ten-thousand-in : In 10000 0 10000 0 ten-thousand
 unfolding ofBits
 ten-thousand-in = in-lit ten-thousand tt
 
-hundred-thousand-in : In 100000 0 100000 0 hundred-thousand
+pub hundred-thousand-in : In 100000 0 100000 0 hundred-thousand
 unfolding ofBits
 hundred-thousand-in = in-lit hundred-thousand tt
 
@@ -90,7 +90,7 @@ layer-in n0 angle layer h f t =
       refracts = refracts-in n0 angle (layer .n) h f (and-r C D t₂);
     }
 
-pub layers-in : (n0 angle : Float) (layers : List ThinFilmLayer) → In 1 0 4 0 n0 → T (finite angle) → T (layers-pass n0 angle layers) → AdmittedLayers (n0 ⊗ sin angle) layers
+pub layers-in : (n0 angle : Float) (layers : List ThinFilmLayer) → In 1 0 4 0 n0 → T (finite angle) → T (layers-pass n0 angle layers) → Each (AdmittedLayer (n0 ⊗ sin angle)) layers
 unfolding layers-within
 layers-in n0 angle [] h f t = tt
 layers-in n0 angle (layer ∷ layers) h f t = (layer-in n0 angle layer h f (and-l (layer-passes n0 angle layer) (layers-pass n0 angle layers) t), layers-in n0 angle layers h f (and-r (layer-passes n0 angle layer) (layers-pass n0 angle layers) t))

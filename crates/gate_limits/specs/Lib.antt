@@ -1,3 +1,4 @@
 -- A surface: its coating and its limits.
 pub mod Coating
 pub mod Limits
+pub mod Known

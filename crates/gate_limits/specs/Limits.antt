@@ -1,11 +1,15 @@
--- 01 section 3, the gate's limits: all ends included, every product rounded once. Definitions only.
+-- 01 section 3 and 02 slip 12, the gate's limits: all ends included, every product rounded once. Definitions only.
 -- A NaN is within no limit; a zero of either sign is equal to zero.
-use mathlib.Core.Bool.{Bool, true, _&&_}
+use Prim.Native.Nat.{ℕ}
+use mathlib.Core.Bool.{Bool, true, _&&_, _||_}
 use mathlib.Core.List.{List, [], _∷_}
+use lib.Dec.{eqb, leb}
+use lib.ListN.{length}
 use lib.Ieee.{Float, binary64, le, eq, ofBits}
 use lib.Ieee.Scale.{finite}
-use Rattle.ieee.specs.Operators.{_⊗_}
-use Rattle.ieee.specs.Functions.{zero-f, one, seven-eighths, abs, four, quarter}
+use Rattle.ieee.specs.Operators.{_⊕_, _⊗_, _⊘_}
+use Rattle.ieee.specs.Functions.{zero-f, one, two, seven-eighths, abs, four, quarter}
+use Rattle.math_trig.specs.Angles.{pi}
 use Rattle.math_trig.specs.Trig.{sin, cos}
 use Rattle.thin_film_solver.specs.declared.ThinFilmLayer.{ThinFilmLayer}
 use Rattle.gate_limits.specs.declared.Surface.{Surface}
@@ -23,6 +27,18 @@ ten-thousand = ofBits binary64 0x40C3_8800_0000_0000
 -- 100,000
 abbrev pub hundred-thousand : Float
 hundred-thousand = ofBits binary64 0x40F8_6A00_0000_0000
+
+-- 0.0625
+abbrev pub sixteenth : Float
+sixteenth = ofBits binary64 0x3FB0_0000_0000_0000
+
+-- 8
+abbrev pub eight : Float
+eight = ofBits binary64 0x4020_0000_0000_0000
+
+-- 16
+abbrev pub sixteen : Float
+sixteen = ofBits binary64 0x4030_0000_0000_0000
 
 unfoldable pub within : Float → Float → Float → Bool
 within lo hi x = le lo x && le x hi
@@ -79,6 +95,34 @@ surface-passes s = within one four (s .«n_incident») && (within one four (s .�
 abbrev pub judgement : Surface → Judgement
 judgement s = record { passes = surface-passes s; snell = snell-size (s .«n_incident») (s .«angle_rad») }
 
--- ---- a SURFACE with its LAYERs at the wavelength that it is met with, on which none of these limits depends
+-- ---- metal films, 02 slip 12: 'n 0.0625 to 4, k 0 to 8', and 'The other gate limits remain': n_incident·abs(sin) is zero here
+unfoldable pub metal-within : ThinFilmLayer → Bool
+metal-within layer =
+    within sixteenth four (layer .n) && (within zero-f eight (layer .k) && within zero-f hundred-thousand (layer .«thickness_nm»))
+
+unfoldable pub metals-within : List ThinFilmLayer → Bool
+metals-within [] = true
+metals-within (layer ∷ layers) = metal-within layer && metals-within layers
+
+-- '((2·π·thickness)/wavelength)·k'
+unfoldable pub absorption : Float → ThinFilmLayer → Float
+absorption wavelength layer = two ⊗ pi ⊗ layer .«thickness_nm» ⊘ wavelength ⊗ layer .k
+
+-- 'the sum over its layers .. rounded at each step in the order of the list', onto a sum so far
+unfoldable pub absorptions : Float → Float → List ThinFilmLayer → Float
+absorptions wavelength sum [] = sum
+absorptions wavelength sum (layer ∷ layers) = absorptions wavelength (sum ⊕ absorption wavelength layer) layers
+
+-- 'A custom surface at angle zero, of either sign, may now have 1 to 4 layers under other limits'
+unfoldable pub may-be-metal : Surface → ℕ → Bool
+may-be-metal s count = eqb (s .coating) 5 && (eq (s .«angle_rad») zero-f && (leb 1 count && leb count 4))
+
+-- 'and the sum over its layers .. at most 16'
+unfoldable pub metal-passes : Float → Surface → List ThinFilmLayer → Bool
+metal-passes wavelength s layers =
+    may-be-metal s (length layers) && (metals-within layers && le (absorptions wavelength zero-f layers) sixteen)
+
+-- ---- a SURFACE with its LAYERs at the wavelength that it is met with: 'A surface passes under the old limits or under these.'
 unfoldable pub passes : Float → Surface → List ThinFilmLayer → Bool
-passes wavelength s layers = surface-passes s && layers-pass (s .«n_incident») (s .«angle_rad») layers
+passes wavelength s layers =
+    surface-passes s && (layers-pass (s .«n_incident») (s .«angle_rad») layers || metal-passes wavelength s layers)

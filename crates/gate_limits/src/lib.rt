@@ -1,7 +1,7 @@
-// One surface of a train: its coating by code, and the limits of document 01's section 3.
+// One surface of a train: its coating by code, and the limits of document 01's section 3 and of document 02's slip 12.
 ghost use mathlib.Core.Path.{_≡_};
 ghost use Rattle.gate_limits.specs.Coating.{coded, interface, preset-layers};
-ghost use Rattle.gate_limits.specs.Limits.{within, wavelength-passes, beam-passes, layer-within, layers-within, angle-within, surface-within, judgement};
+ghost use Rattle.gate_limits.specs.Limits.{within, wavelength-passes, beam-passes, layer-within, layers-within, angle-within, surface-within, judgement, metal-within, absorption, may-be-metal};
 use thin_film::SurfaceCoating;
 use thin_film_coating::Coating;
 use thin_film_solver::ThinFilmLayer;
@@ -135,4 +135,28 @@ pub fn judge_surface(surface: Surface) -> Judgement
         passes: surface_within(snell, theta.cos, surface),
         snell,
     }
+}
+
+// ---- metal films, under other limits
+
+// A layer.
+pub fn metal_within(layer: ThinFilmLayer) -> bool
+    ensures { λ r. ⌜ r ≡ metal-within layer ⌝ }
+{
+    within(0.0625, 4.0, layer.n)
+        && (within(0.0, 8.0, layer.k) && within(0.0, 100000.0, layer.thickness_nm))
+}
+
+// What a layer adds to the sum that is limited.
+pub fn absorption(wavelength_nm: f64, layer: ThinFilmLayer) -> f64
+    ensures { λ r. ⌜ r ≡ absorption «wavelength_nm» layer ⌝ }
+{
+    2.0 * 3.141592653589793 * layer.thickness_nm / wavelength_nm * layer.k
+}
+
+// A custom surface at angle zero that has 1 to 4 layers.
+pub fn may_be_metal(surface: Surface, count: usize) -> bool
+    ensures { λ r. ⌜ r ≡ may-be-metal surface count ⌝ }
+{
+    surface.coating == 5 && (surface.angle_rad == 0.0 && (1 <= count && count <= 4))
 }

@@ -107,8 +107,8 @@ refracted-jones n1 n2 cos-i cos-t N M C D =
     let rp : Mag 8 0 (n2 ⊗ cos-i ⊖ n1 ⊗ cos-t) = sub-mag (in-mag c) (in-mag d) tt in
     let t : Mag 8 0 (two ⊗ n1 ⊗ cos-i) = mul-mag {p = 8} {j = 0} (mul-mag (in-mag two-in) (in-mag N) tt) (in-mag C) tt in
     record {
-      reflection = diattenuator-pow (of-real-pow {p = 16} {j = 0} 411 (div-mag rs s tt) tt) (of-real-pow {p = 16} {j = 0} 411 (div-mag rp p tt) tt);
-      transmission = diattenuator-pow (of-real-pow {p = 16} {j = 0} 411 (div-mag t s tt) tt) (of-real-pow {p = 16} {j = 0} 411 (div-mag t p tt) tt);
+      reflection = diattenuator-pow (of-real-pow {p = 16} {j = 0} 475 (div-mag rs s tt) tt) (of-real-pow {p = 16} {j = 0} 475 (div-mag rp p tt) tt);
+      transmission = diattenuator-pow (of-real-pow {p = 16} {j = 0} 475 (div-mag t s tt) tt) (of-real-pow {p = 16} {j = 0} 475 (div-mag t p tt) tt);
     }
 
 jones-cos-in : (q : Float) → Mag slope 51 q → In 7 4 1 0 (cos-t q)

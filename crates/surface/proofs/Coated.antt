@@ -1,6 +1,6 @@
--- A coated surface within the limits, with at most 16 layers: evaluate refuses nothing, and every number of its response is bounded. Assumes nothing.
+-- A coated surface within the limits: evaluate refuses nothing, and every number of its response is bounded. Assumes nothing.
 use mathlib.Core.Path.{_≡_}
-use Prim.Native.Nat.{_≤_}
+use Prim.Native.Nat.{ℕ, _≤_}
 use native.Mathlib.Nat.{le-trans}
 use mathlib.Core.Bool.{Bool, true, false}
 use mathlib.Core.List.{List, [], _∷_, reverseAux}
@@ -37,7 +37,7 @@ use Rattle.thin_film_valid.specs.Ideal.{ideal-ar, ideal-mirror, ideal-beamsplit
 use Rattle.thin_film_coating.specs.Evaluate.{rust-respond, rust-evaluate-coating, evaluate-coating}
 use Rattle.thin_film.specs.Evaluate.{rust-evaluate-surface, evaluate-surface}
 use Rattle.polarization.specs.Surface.{surface-coating-jones}
-use Rattle.thin_film_bounds.specs.Solver.{AdmittedLayers, Bounded}
+use Rattle.thin_film_bounds.specs.Solver.{AdmittedLayer, AbsorbingLayer, Each, AdmittedLayers, all-lossless, all-absorbing, Bounded}
 use Rattle.thin_film_bounds.proofs.Powers.{zero-pow, cpow-up}
 use Rattle.thin_film_bounds.proofs.InTheGlass.{absorptance-passes}
 use Rattle.thin_film_bounds.proofs.Solve.{every-response-bounded}
@@ -71,19 +71,36 @@ chosen-few (S.Custom C.IdealAr) layers h = lit≤ tt
 chosen-few (S.Custom C.IdealMirror) layers h = lit≤ tt
 chosen-few (S.Custom C.IdealBeamsplitter) layers h = lit≤ tt
 
-turned : (snell : Float) (layers rest : List ThinFilmLayer) → AdmittedLayers snell layers → AdmittedLayers snell rest → AdmittedLayers snell (reverseAux layers rest)
-turned snell [] rest h g = g
-turned snell (layer ∷ layers) rest h g = turned snell layers (layer ∷ rest) (h .1) (h .0, g)
+-- the old limits of the surface's own layers
+pub chosen-lossless : (s : Surface) (w : Float) (coating : SurfaceCoating) (layers : List ThinFilmLayer) → Inside s → T (layers-pass (s .«n_incident») (s .«angle_rad») (layers-of coating []))
+    → T (layers-pass (s .«n_incident») (s .«angle_rad») layers) → length layers ≤ 16 → AdmittedLayers (s .«n_incident» ⊗ sin (s .«angle_rad»)) w (layers-of coating layers)
+chosen-lossless s w coating layers h p t few =
+    let n0 = s .«n_incident» in
+    let angle = s .«angle_rad» in
+    all-lossless (layers-in n0 angle (layers-of coating layers) (h .incident) (h .finite-angle) (chosen-pass n0 angle coating layers p t)) (chosen-few coating layers few)
 
-ordered-in : (snell : Float) (reversed : Bool) (layers : List ThinFilmLayer) → AdmittedLayers snell layers → AdmittedLayers snell (ordered reversed layers)
+turned : (P : ThinFilmLayer → Type 0) (layers rest : List ThinFilmLayer) → Each P layers → Each P rest → Each P (reverseAux layers rest)
+turned P [] rest h g = g
+turned P (layer ∷ layers) rest h g = turned P layers (layer ∷ rest) (h .1) (h .0, g)
+
+reversed : (P : ThinFilmLayer → Type 0) (turn : Bool) (layers : List ThinFilmLayer) → Each P layers → Each P (ordered turn layers)
 unfolding ordered
-ordered-in snell false layers h = h
-ordered-in snell true layers h = turned snell layers [] h tt
+reversed P false layers h = h
+reversed P true layers h = turned P layers [] h tt
 
-ordered-few : (reversed : Bool) (layers : List ThinFilmLayer) → length layers ≤ 16 → length (ordered reversed layers) ≤ 16
+ordered-few : (turn : Bool) (layers : List ThinFilmLayer) {most : ℕ} → length layers ≤ most → length (ordered turn layers) ≤ most
 unfolding ordered
 ordered-few false layers h = h
 ordered-few true layers h = rw length-reverse h
+
+ordered-in : (snell w : Float) (turn : Bool) (layers : List ThinFilmLayer) → AdmittedLayers snell w layers → AdmittedLayers snell w (ordered turn layers)
+ordered-in snell w turn layers (all-lossless gs few) = all-lossless (reversed (AdmittedLayer snell) turn layers gs) (ordered-few turn layers few)
+ordered-in snell w turn layers (all-absorbing z gs few) = all-absorbing z (reversed (AbsorbingLayer w) turn layers gs) (ordered-few turn layers few)
+
+-- 16 at the most
+few-enough : {snell w : Float} {layers : List ThinFilmLayer} → AdmittedLayers snell w layers → length layers ≤ 16
+few-enough (all-lossless gs few) = few
+few-enough (all-absorbing z gs few) = le-trans few (lit≤ tt)
 
 -- ---- the ideal coatings
 root-half : In 1 1 1 0 (sqrt half)
@@ -92,10 +109,10 @@ root-half = sqrt-in half-in tt
 ideal-ar-bounded : Bounded ideal-ar
 unfolding Solve.rust-respond with-absorptance
 ideal-ar-bounded = record {
-  rs = zero-pow 411;
-  rp = zero-pow 411;
-  ts = of-real-pow 259 one-mag tt;
-  tp = of-real-pow 259 one-mag tt;
+  rs = zero-pow 475;
+  rp = zero-pow 475;
+  ts = of-real-pow 291 one-mag tt;
+  tp = of-real-pow 291 one-mag tt;
   reflectance-s = zero-foot;
   reflectance-p = zero-foot;
   transmittance-s = in-up one-in tt;
@@ -109,10 +126,10 @@ ideal-ar-bounded = record {
 ideal-mirror-bounded : Bounded ideal-mirror
 unfolding Solve.rust-respond with-absorptance
 ideal-mirror-bounded = record {
-  rs = of-real-pow 411 (neg-mag one-mag) tt;
-  rp = of-real-pow 411 one-mag tt;
-  ts = zero-pow 259;
-  tp = zero-pow 259;
+  rs = of-real-pow 475 (neg-mag one-mag) tt;
+  rp = of-real-pow 475 one-mag tt;
+  ts = zero-pow 291;
+  tp = zero-pow 291;
   reflectance-s = in-up one-in tt;
   reflectance-p = in-up one-in tt;
   transmittance-s = zero-foot;
@@ -126,10 +143,10 @@ ideal-mirror-bounded = record {
 ideal-beamsplitter-bounded : Bounded ideal-beamsplitter
 unfolding Solve.rust-respond with-absorptance
 ideal-beamsplitter-bounded = record {
-  rs = of-real-pow 411 (in-mag root-half) tt;
-  rp = of-real-pow 411 (in-mag root-half) tt;
-  ts = of-real-pow 259 (in-mag root-half) tt;
-  tp = of-real-pow 259 (in-mag root-half) tt;
+  rs = of-real-pow 475 (in-mag root-half) tt;
+  rp = of-real-pow 475 (in-mag root-half) tt;
+  ts = of-real-pow 291 (in-mag root-half) tt;
+  tp = of-real-pow 291 (in-mag root-half) tt;
   reflectance-s = in-up half-in tt;
   reflectance-p = in-up half-in tt;
   transmittance-s = in-up half-in tt;
@@ -163,18 +180,17 @@ module _ (n0 ns angle w : Float) (N : In 1 0 4 0 n0) (M : In 1 0 4 0 ns) (f : T 
   }
 
 pub surface-responds : (s : Surface) (w : Float) (coating : SurfaceCoating) (layers : List ThinFilmLayer) → Inside s → In 100 0 10000 0 w
-    → T (layers-pass (s .«n_incident») (s .«angle_rad») (layers-of coating [])) → T (layers-pass (s .«n_incident») (s .«angle_rad») layers) → length layers ≤ 16
+    → AdmittedLayers (s .«n_incident» ⊗ sin (s .«angle_rad»)) w (layers-of coating layers)
     → Responds (evaluate-surface coating layers (s .«n_incident») (s .«n_substrate») (s .«angle_rad») w)
 unfolding evaluate-coating rust-evaluate-surface evaluate-surface
-surface-responds s w coating layers h W p t few =
+surface-responds s w coating layers h W a =
     let n0 = s .«n_incident» in
     let ns = s .«n_substrate» in
     let angle = s .«angle_rad» in
     let read = ordered (lt ns n0) (layers-of coating layers) in
-    let all : AdmittedLayers (n0 ⊗ sin angle) read = ordered-in (n0 ⊗ sin angle) (lt ns n0) (layers-of coating layers) (layers-in n0 angle (layers-of coating layers) (h .incident) (h .finite-angle) (chosen-pass n0 angle coating layers p t)) in
-    let short : length read ≤ 16 = ordered-few (lt ns n0) (layers-of coating layers) (chosen-few coating layers few) in
-    coating-responds n0 ns angle w (h .incident) (h .substrate) (h .finite-angle) W (coating-of coating) read short
-    (every-response-bounded n0 ns angle w read (record { incident = h .incident; substrate = h .substrate; finite-angle = h .finite-angle; cosine = h .cosine; wavelength-in = W; refracts = h .bent; admitted = all; few = short }))
+    let all : AdmittedLayers (n0 ⊗ sin angle) w read = ordered-in (n0 ⊗ sin angle) w (lt ns n0) (layers-of coating layers) a in
+    coating-responds n0 ns angle w (h .incident) (h .substrate) (h .finite-angle) W (coating-of coating) read (few-enough all)
+    (every-response-bounded n0 ns angle w read (record { incident = h .incident; substrate = h .substrate; finite-angle = h .finite-angle; cosine = h .cosine; wavelength-in = W; refracts = h .bent; admitted = all }))
 
 -- ---- what a bounded response gives
 pub bounded-powers : {r : CoatingResponse} → Bounded r → UnitPowers (coated-powers r)

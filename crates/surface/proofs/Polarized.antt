@@ -1,4 +1,4 @@
--- Jones matrices with entries up to 2 ^ 411, and what follows of their Mueller matrices: Stokes parts are up to 2 ^ 828, entries up to 2 ^ 830. Assumes nothing.
+-- Jones matrices with entries up to 2 ^ 475, and what follows of their Mueller matrices: Stokes parts are up to 2 ^ 956, entries up to 2 ^ 958. Assumes nothing.
 use Prim.Native.Nat.{ℕ, zero, suc, _*_, _^_, _<_, zero-le}
 use native.Mathlib.Nat.{not-suc-le-zero, le-of-suc-le-suc}
 use mathlib.Core.List.{List, [], _∷_}
@@ -36,14 +36,14 @@ each-at d (more p e) (suc i) l = each-at d e i (le-of-suc-le-suc l)
 
 -- ---- Jones matrices
 pub record JonesPow (j : JonesMatrix) : Type 0 where
-  pub j0 : CPow 411 (entry j 0)
-  pub j1 : CPow 411 (entry j 1)
-  pub j2 : CPow 411 (entry j 2)
-  pub j3 : CPow 411 (entry j 3)
+  pub j0 : CPow 475 (entry j 0)
+  pub j1 : CPow 475 (entry j 1)
+  pub j2 : CPow 475 (entry j 2)
+  pub j3 : CPow 475 (entry j 3)
 
-pub diattenuator-pow : {x y : Complex} → CPow 411 x → CPow 411 y → JonesPow (diattenuator x y)
+pub diattenuator-pow : {x y : Complex} → CPow 475 x → CPow 475 y → JonesPow (diattenuator x y)
 unfolding diattenuator
-diattenuator-pow h g = record { j0 = h; j1 = zero-pow 411; j2 = zero-pow 411; j3 = g }
+diattenuator-pow h g = record { j0 = h; j1 = zero-pow 475; j2 = zero-pow 475; j3 = g }
 
 pub record PowerJones (j : SurfaceJones) : Type 0 where
   pub reflection : JonesPow (j .reflection)
@@ -90,15 +90,15 @@ right = record { ex = of-real-pow 0 inv-sqrt2-mag tt; ey = record { re = to-pow 
 
 -- ---- Stokes vectors
 record StokesPow (s : StokesVector) : Type 0 where
-  s0 : Pow 828 (s .s0)
-  s1 : Pow 828 (s .s1)
-  s2 : Pow 828 (s .s2)
-  s3 : Pow 828 (s .s3)
+  s0 : Pow 956 (s .s0)
+  s1 : Pow 956 (s .s1)
+  s2 : Pow 956 (s .s2)
+  s3 : Pow 956 (s .s3)
 
 two-pow : Pow 1 two
 two-pow = to-pow 1 (in-mag two-in) tt
 
-stokes-pow : {v : JonesVector} → CPow 413 (v .ex) → CPow 413 (v .ey) → StokesPow (to-stokes v)
+stokes-pow : {v : JonesVector} → CPow 477 (v .ex) → CPow 477 (v .ey) → StokesPow (to-stokes v)
 unfolding to-stokes
 stokes-pow h g =
     let x = add-pow (mul-pow (h .re) (h .re) (lit≤ tt)) (mul-pow (h .im) (h .im) (lit≤ tt)) (lit≤ tt) in
@@ -119,17 +119,17 @@ half-pow : Pow 0 half
 half-pow = to-pow 0 (in-mag half-in) tt
 
 -- one row, of a Stokes part of each response
-module _ {a b c d : Float} (A : Pow 828 a) (B : Pow 828 b) (C : Pow 828 c) (D : Pow 828 d) where
-  mean-pow : Pow 829 (mean a b)
+module _ {a b c d : Float} (A : Pow 956 a) (B : Pow 956 b) (C : Pow 956 c) (D : Pow 956 d) where
+  mean-pow : Pow 957 (mean a b)
   mean-pow = mul-pow half-pow (add-pow A B (lit≤ tt)) (lit≤ tt)
 
-  gap-pow : Pow 829 (half-gap a b)
+  gap-pow : Pow 957 (half-gap a b)
   gap-pow = mul-pow half-pow (sub-pow A B (lit≤ tt)) (lit≤ tt)
 
-  third-pow : Pow 830 (c ⊖ mean a b)
+  third-pow : Pow 958 (c ⊖ mean a b)
   third-pow = sub-pow (pow-up C (lit≤ tt)) mean-pow (lit≤ tt)
 
-  fourth-pow : Pow 830 (d ⊖ mean a b)
+  fourth-pow : Pow 958 (d ⊖ mean a b)
   fourth-pow = sub-pow (pow-up D (lit≤ tt)) mean-pow (lit≤ tt)
 
   row : {rest : List Float} → Each Finite rest → Each Finite (mean a b ∷ half-gap a b ∷ (c ⊖ mean a b) ∷ (d ⊖ mean a b) ∷ rest)

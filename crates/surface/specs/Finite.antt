@@ -18,6 +18,7 @@ use Rattle.polarization_mueller.specs.declared.JonesMatrix.{JonesMatrix}
 use Rattle.polarization_mueller.specs.declared.MuellerMatrix.{MuellerMatrix}
 use Rattle.polarization_mueller.specs.Jones as Jones
 use Rattle.polarization_mueller.specs.Mueller as Mueller
+use Rattle.thin_film_bounds.specs.Solver.{Each}
 use Rattle.gate_limits.specs.declared.Surface.{Surface}
 use Rattle.surface.specs.declared.Powers.{Powers}
 use Rattle.surface.specs.declared.Answers.{Answers}
@@ -78,11 +79,16 @@ pub record Answered (wavelength : Float) (s : Surface) (layers : List ThinFilmLa
   pub reflection-mueller : FiniteMueller (value .«reflection_mueller»)
   pub transmission-mueller : FiniteMueller (value .«transmission_mueller»)
 
--- for every wavelength and surface within the limits, with 0 to 16 layers
+-- the angle and each k are f64s
+pub record Held (s : Surface) (layers : List ThinFilmLayer) : Type 0 where
+  pub angle : T (fits binary64 (s .«angle_rad»))
+  pub each-k : Each (λ (layer : ThinFilmLayer). T (fits binary64 (layer .k))) layers
+
+-- for every wavelength and surface within the limits, the old ones or those of metal films, with 0 to 16 layers
 abbrev pub EverySurfaceAnswered : Type 0
 EverySurfaceAnswered =
-    (wavelength : Float) (s : Surface) (layers : List ThinFilmLayer) → T (wavelength-passes wavelength) → T (passes wavelength s layers)
-    → length layers ≤ 16 → Answered wavelength s layers
+    (wavelength : Float) (s : Surface) (layers : List ThinFilmLayer) → Held s layers → T (wavelength-passes wavelength)
+    → T (passes wavelength s layers) → length layers ≤ 16 → Answered wavelength s layers
 
 -- a surface that is answered, within the limits or not, has the same powers alone
 abbrev pub PowersAnswered : Type 0

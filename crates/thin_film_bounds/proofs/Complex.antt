@@ -67,11 +67,24 @@ half-root-in {x} h =
     let b : In 7 5 1 0 (max (x ⊘ two) zero-f) = max-keep a zero-in tt in
     sqrt-in b tt
 
+-- and of 1 it is 1
+half-root-one : {x : Float} → In 2 0 2 0 x → In 1 0 1 0 (half-root x)
+unfolding half-root
+half-root-one {x} h =
+    let a : In 1 0 1 0 (x ⊘ two) = div-in h two-in tt in
+    let b : In 1 0 1 0 (max (x ⊘ two) zero-f) = max-keep a zero-in tt in
+    sqrt-in b tt
+
+root-real : {a i p j : ℕ} (z : Complex) → In 7 5 1 0 (z .re) → Mag 0 0 (z .im) → T (fits binary64 (z .re)) → In a i p j (half-root (z .re ⊕ z .re)) → Real a i p j (sqrt z)
+root-real {a} {i} {p} {j} z h m f r =
+    subst (λ (w : Complex). Real a i p j w) (sym (root-at (z .re) (z .im) f (in-up h tt) m))
+    (record { re = r; im = cond-mag (le zero-f (z .im)) zero-mag (neg-mag zero-mag) })
+
 pub sqrt-real : (z : Complex) → Real 7 5 1 0 z → T (fits binary64 (z .re)) → Real 7 4 1 0 (sqrt z)
-sqrt-real z h f =
-    let u : In 7 4 2 0 (z .re ⊕ z .re) = add-in (h .re) (h .re) tt in
-    subst (λ (w : Complex). Real 7 4 1 0 w) (sym (root-at (z .re) (z .im) f (in-up (h .re) tt) (h .im)))
-    (record { re = half-root-in u; im = cond-mag (le zero-f (z .im)) zero-mag (neg-mag zero-mag) })
+sqrt-real z h f = let u : In 7 4 2 0 (z .re ⊕ z .re) = add-in (h .re) (h .re) tt in root-real z (h .re) (h .im) f (half-root-in u)
+
+pub sqrt-one : (z : Complex) → Real 1 0 1 0 z → T (fits binary64 (z .re)) → Real 1 0 1 0 (sqrt z)
+sqrt-one z h f = let u : In 2 0 2 0 (z .re ⊕ z .re) = add-in (h .re) (h .re) tt in root-real z (in-up (h .re) tt) (h .im) f (half-root-one u)
 
 -- ---- e ^ z, where e ^ x is at most p: both parts are at most p
 pub exp-mag : {p : ℕ} (z : Complex) → Mag p 0 (Exp.exp (z .re)) → T (finite (z .im)) → T (at-most (p * 1) (2 ^ 0 * 2 ^ 0) p 0) → CMag p 0 (exp z)

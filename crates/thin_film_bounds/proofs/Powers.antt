@@ -58,17 +58,18 @@ norm-plus {k} {z} h l =
     let i = mul-pow (h .im) (h .im) m in
     add-plus (z .re ⊗ z .re) (z .im ⊗ z .im) (sq-plus (z .re) (h .re .fine) (r .fine)) (sq-plus (z .im) (h .im .fine) (i .fine)) (add-pow r i l .fine)
 
--- ---- the guarded quotient: a denominator that is not below 1e-28 is 2 ^ -94 at least
-quotient-pow : {i j q l : ℕ} (z w : Complex) (d : Float) → CPow i z → CPow j w → In 1 94 q l d → suc (i + j) + 94 ≤ 1023 → CPow (suc (i + j) + 94) (quotient z w d)
+-- ---- the quotient by a denominator of 2 ^ -m at least
+pub quotient-pow : {i j m q l : ℕ} (z w : Complex) (d : Float) → CPow i z → CPow j w → In 1 m q l d → suc (i + j) + m ≤ 1023 → CPow (suc (i + j) + m) (quotient z w d)
 unfolding quotient
-quotient-pow {i} {j} z w d h g D b =
-    let m : i + j ≤ 1023 = omega arith in
+quotient-pow {i} {j} {m} z w d h g D b =
+    let r : i + j ≤ 1023 = omega arith in
     let n : suc (i + j) ≤ 1023 = omega arith in
     record {
-      re = div-pow (add-pow (mul-pow (h .re) (g .re) m) (mul-pow (h .im) (g .im) m) n) D b;
-      im = div-pow (sub-pow (mul-pow (h .im) (g .re) m) (mul-pow (h .re) (g .im) m) n) D b;
+      re = div-pow (add-pow (mul-pow (h .re) (g .re) r) (mul-pow (h .im) (g .im) r) n) D b;
+      im = div-pow (sub-pow (mul-pow (h .im) (g .re) r) (mul-pow (h .re) (g .im) r) n) D b;
     }
 
+-- the guarded one: a denominator that is not below 1e-28 is 2 ^ -94 at least
 pub cdiv-pow : {i j : ℕ} (z w : Complex) → CPow i z → CPow j w → suc (i + j) + 94 ≤ 1023 → suc (j + j) ≤ 1023 → CPow (suc (i + j) + 94) (div z w)
 unfolding div
 cdiv-pow {i} {j} z w h g b c =

@@ -1,7 +1,6 @@
--- The solver's response to a surface within the limits, with at most 16 layers: every number is finite, and the powers are from 0 to 1. Assumes nothing.
+-- The solver's response to a surface within the limits: every number is finite, and the powers are from 0 to 1. Assumes nothing.
 use mathlib.Core.List.{List}
 use Prim.Native.Nat.{ℕ}
-use native.Mathlib.Omega.{arith}
 use lib.Dec.{T, lit≤}
 use lib.Ieee.{Float, lt, eq, le, ofBits}
 use lib.Ieee.Bits.{is-true}
@@ -33,57 +32,58 @@ use Rattle.thin_film_solver.specs.Absorptance.{with-absorptance}
 use Rattle.thin_film_bounds.specs.Range.{CPow, Real, MPow}
 use Rattle.thin_film_bounds.specs.Solver.{AdmittedArguments, Bounded, EveryResponseBounded}
 use Rattle.thin_film_bounds.proofs.Complex.{real-in, real-up, mul-real}
-use Rattle.thin_film_bounds.proofs.Powers.{cpow-up, real-pow, cadd-pow, csub-pow, cmul-pow, norm-pow, norm-plus, cdiv-pow, mpow-up, identity-pow}
+use Rattle.thin_film_bounds.proofs.Powers.{cpow-up, real-pow, cadd-pow, csub-pow, cmul-pow, norm-pow, norm-plus, cdiv-pow}
 use Rattle.thin_film_bounds.proofs.InTheGlass.{absorptance-passes}
-use Rattle.thin_film_bounds.proofs.Layer.{eta-div, product-s-pow, product-p-pow}
+use Rattle.thin_film_bounds.proofs.Lossless.{eta-div}
+use Rattle.thin_film_bounds.proofs.Layer.{Products, all-products}
 
--- ---- the amplitudes, from a matrix with entries up to 2 ^ 144
+-- ---- the amplitudes, from a matrix with entries up to 2 ^ 176
 double-pow : {z : Complex} → CPow 5 z → CPow 6 (scale z two)
 unfolding scale
 double-pow h =
     let t : Pow 1 two = to-pow 1 (in-mag two-in) tt in
     record { re = mul-pow (h .re) t (lit≤ tt); im = mul-pow (h .im) t (lit≤ tt) }
 
-module _ (m : Matrix) (eta0 eta : Complex) (M : MPow 144 m) (E0 : CPow 5 eta0) (E : CPow 5 eta) where
-  b-pow : CPow 151 (b-of m eta)
+module _ (m : Matrix) (eta0 eta : Complex) (M : MPow 176 m) (E0 : CPow 5 eta0) (E : CPow 5 eta) where
+  b-pow : CPow 183 (b-of m eta)
   unfolding b-of
   b-pow = cadd-pow (cpow-up (M .m11) (lit≤ tt)) (cmul-pow (M .m12) E (lit≤ tt)) (lit≤ tt)
 
-  c-pow : CPow 157 (c-of m eta)
+  c-pow : CPow 189 (c-of m eta)
   unfolding c-of
   c-pow = cpow-up (cadd-pow (cpow-up (M .m21) (lit≤ tt)) (cmul-pow (M .m22) E (lit≤ tt)) (lit≤ tt)) (lit≤ tt)
 
-  scaled : CPow 157 (mul eta0 (b-of m eta))
+  scaled : CPow 189 (mul eta0 (b-of m eta))
   scaled = cmul-pow E0 b-pow (lit≤ tt)
 
-  divisor : CPow 158 (add (mul eta0 (b-of m eta)) (c-of m eta))
+  divisor : CPow 190 (add (mul eta0 (b-of m eta)) (c-of m eta))
   divisor = cadd-pow scaled c-pow (lit≤ tt)
 
-  reflection-pow : CPow 411 (reflection m eta0 eta)
+  reflection-pow : CPow 475 (reflection m eta0 eta)
   unfolding reflection
   reflection-pow = cdiv-pow (sub (mul eta0 (b-of m eta)) (c-of m eta)) (add (mul eta0 (b-of m eta)) (c-of m eta)) (csub-pow scaled c-pow (lit≤ tt)) divisor (lit≤ tt) (lit≤ tt)
 
-  transmission-pow : CPow 259 (transmission m eta0 eta)
+  transmission-pow : CPow 291 (transmission m eta0 eta)
   unfolding transmission
   transmission-pow = cdiv-pow (scale eta0 two) (add (mul eta0 (b-of m eta)) (c-of m eta)) (double-pow E0) divisor (lit≤ tt) (lit≤ tt)
 
 -- ---- the powers, clamped between 0 and 1, and the phases
-reflectance-in : {r : Complex} → CPow 411 r → In 0 0 1 0 (reflectance r)
+reflectance-in : {r : Complex} → CPow 475 r → In 0 0 1 0 (reflectance r)
 unfolding reflectance
 reflectance-in h = clamp-in one-in zero-foot (plus-in (norm-plus h (lit≤ tt)) (norm-pow h (lit≤ tt))) tt
 
-transmittance-in : {eta0 eta t : Complex} → Real 1 2 16 0 eta0 → Real 7 4 22 0 eta → CPow 259 t → In 0 0 1 0 (transmittance eta0 eta t)
+transmittance-in : {eta0 eta t : Complex} → Real 1 2 16 0 eta0 → Real 7 4 22 0 eta → CPow 291 t → In 0 0 1 0 (transmittance eta0 eta t)
 unfolding transmittance
 transmittance-in {eta0} {eta} {t} h g c =
     let q : In 0 0 88 0 (eta .re ⊘ eta0 .re) = div-in (g .re) (h .re) tt in
-    let x : Pow 526 (eta .re ⊘ eta0 .re ⊗ norm-sq t) = mul-pow (to-pow 7 (in-mag q) tt) (norm-pow c (lit≤ tt)) (lit≤ tt) in
+    let x : Pow 590 (eta .re ⊘ eta0 .re ⊗ norm-sq t) = mul-pow (to-pow 7 (in-mag q) tt) (norm-pow c (lit≤ tt)) (lit≤ tt) in
     clamp-in one-in zero-foot (plus-in (mul-plus (eta .re ⊘ eta0 .re) (norm-sq t) (q .sign) (norm-plus c (lit≤ tt)) (x .fine)) x) tt
 
 arg-mag : {k : ℕ} {z : Complex} → CPow k z → Mag 8 0 (arg z)
 unfolding arg
 arg-mag {z = z} h = atan2-mag (z .im) (z .re) (finite-number (z .im) (h .im .fine)) (finite-number (z .re) (h .re .fine))
 
-response-bounded : (ms mp : Matrix) (e0s es e0p ep : Complex) → MPow 144 ms → MPow 144 mp → Real 1 2 16 0 e0s → Real 7 4 22 0 es → Real 1 2 16 0 e0p → Real 7 4 22 0 ep
+response-bounded : (ms mp : Matrix) (e0s es e0p ep : Complex) → MPow 176 ms → MPow 176 mp → Real 1 2 16 0 e0s → Real 7 4 22 0 es → Real 1 2 16 0 e0p → Real 7 4 22 0 ep
     → Bounded (respond (solve ms e0s es) (solve mp e0p ep))
 unfolding rust-respond with-absorptance respond solve
 response-bounded ms mp e0s es e0p ep MS MP A B C D =
@@ -154,18 +154,15 @@ module _ (n0 ns angle w : Float) (layers : List ThinFilmLayer) (g : AdmittedArgu
   unfolding eta-sub-p
   eta-p = eta-div (real ns) (cos-theta-sub (n0 ⊗ sin angle ⊘ ns)) (real-in (g .substrate)) cosine
 
-  s-pow : MPow 144 (product-s (n0 ⊗ sin angle) w identity layers)
-  s-pow = let f = g .few in mpow-up (product-s-pow (n0 ⊗ sin angle) w snell (g .wavelength-in) 0 identity layers identity-pow (g .admitted) (omega arith)) (omega arith)
-
-  p-pow : MPow 144 (product-p (n0 ⊗ sin angle) w identity layers)
-  p-pow = let f = g .few in mpow-up (product-p-pow (n0 ⊗ sin angle) w snell (g .wavelength-in) 0 identity layers identity-pow (g .admitted) (omega arith)) (omega arith)
+  products : Products (n0 ⊗ sin angle) w layers
+  products = all-products (n0 ⊗ sin angle) w layers snell (g .wavelength-in) (g .admitted)
 
   bounded : Bounded (evaluate n0 ns angle w layers)
   unfolding respond rust-evaluate evaluate
   bounded =
       response-bounded (product-s (n0 ⊗ sin angle) w identity layers) (product-p (n0 ⊗ sin angle) w identity layers)
       (eta0-s n0 (cos angle)) (eta-sub-s (n0 ⊗ sin angle) ns) (eta0-p n0 (cos angle)) (eta-sub-p (n0 ⊗ sin angle) ns)
-      s-pow p-pow (eta0-s-real (g .incident) (g .cosine)) eta-s (eta0-p-real (g .incident) (g .cosine)) eta-p
+      (products .s) (products .p) (eta0-s-real (g .incident) (g .cosine)) eta-s (eta0-p-real (g .incident) (g .cosine)) eta-p
 
 pub every-response-bounded : EveryResponseBounded
 every-response-bounded = bounded

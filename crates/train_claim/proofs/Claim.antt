@@ -34,7 +34,7 @@ use Rattle.gate.proofs.Claim.{gate-claim}
 use Rattle.train_steps.specs.declared.State.{State}
 use Rattle.train_steps.specs.Train.{chosen, chosen-of, chosen-powers, fresh, start, after-one, stepped, step, with-wavelength, retuned, retune, state-after, after-each, Ran, ran, run}
 use Rattle.train_claim.specs.Claim.{Action, a-step, a-retune, answer-to, act, acts, told, count-steps, steps, Course, meets, is-told, course, course-of, product, chosen-s, chosen-p, worked-out, Falls, AllFall, AllAnswered, AdmittedSheet, EveryCall, TurnedBack, TrainClaim}
-use Rattle.train_claim.proofs.One.{one, two}
+use Rattle.train_claim.proofs.One.{one, two, metal}
 use Rattle.train_claim.proofs.Falls.{Unit-powers, stays, taken, unit, begun, power-finite, sum-finite}
 use Rattle.train_claim.proofs.Writes.{course-steps, held-after, each-s, each-p, left-alone}
 
@@ -325,4 +325,5 @@ train-claim = record {
   turned-back = turned-back;
   one = one;
   two = two;
+  metal = metal;
 }

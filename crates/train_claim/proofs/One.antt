@@ -16,13 +16,15 @@ use Rattle.thin_film_solver.specs.Solve.{dielectric}
 use Rattle.thin_film_presets.specs.Layers.{bragg-layers, broadband-layers}
 use Rattle.thin_film.specs.Coating.{mgf2-layers, mirror-layers, layers-of}
 use Rattle.gate_limits.specs.Coating.{coded, interface}
-use Rattle.gate_limits.specs.Limits.{within, beam-passes, layer-within, layers-within, angle-passes, surface-passes}
+use Rattle.gate_limits.specs.Limits.{within, beam-passes, layer-within, layers-within, angle-passes, surface-passes, metal-within, metals-within, absorption, absorptions, may-be-metal, metal-passes}
 use Rattle.sheet.specs.Blocks.{All}
-use Rattle.sheet.specs.Sheet.{SheetLayer, layer, cauchy, Tuning, keeps, tunes, SheetSurface, Sheet, GoodLayer, GoodTuning, GoodSurface, WellFormed}
+use Rattle.sheet.specs.Sheet.{SheetLayer, layer, cauchy, Tuning, keeps, tunes, SheetSurface, Sheet, GoodLayer, GoodTuning, GoodSurface, WellFormed, raw-words, layers-blocks, surfaces-blocks, blocks}
+use Rattle.sheet.specs.Read.{numbers}
 use Rattle.sheet_values.specs.Values.{value, cauchy-index, films}
+use Rattle.gate.specs.Gate.{all-finite, verdict, tuned, leading, carried, walked}
 use Rattle.gate.specs.Wavelength.{layers-admitted, layers-hold, holds}
 use Rattle.gate.specs.Claim.{HoldsFrom, WithinLimits}
-use Rattle.train_claim.specs.Claim.{EveryPayload}
+use Rattle.train_claim.specs.Claim.{EveryPayload, MetalFilm}
 
 -- 1 to 1.5, angle 0
 abbrev tuned-pane : Tuning → ℕ → List SheetLayer → SheetSurface
@@ -123,4 +125,21 @@ two = record {
   payloads = refl;
   layers = refl;
   tunings = refl;
+}
+
+-- ---- a metal film: n 0.25, k 7, 32 nm, of a surface of 1 to 1.5 at angle 0, at 512 nm
+abbrev gold : SheetLayer
+gold = layer 0x3FD0_0000_0000_0000 0x401C_0000_0000_0000 0x4040_0000_0000_0000
+
+abbrev gilt : Sheet
+gilt = record { edition = 1; wavelength = 0x4080_0000_0000_0000; s = 0x3FF0_0000_0000_0000; p = 0x3FF0_0000_0000_0000; surfaces = pane 10 (gold ∷ []) ∷ [] }
+
+pub metal : MetalFilm
+unfolding blocks surfaces-blocks layers-blocks raw-words numbers walked verdict tuned carried leading metals-within metal-within absorption absorptions may-be-metal metal-passes all-finite holds layers-hold layers-admitted layers-of within beam-passes layer-within layers-within angle-passes surface-passes coded interface films sin sin-at nearest-whole wrap less-turns reduce first-line fold second-fold series cos-at cos-of cos abs clamp Ieee.rem Ieee.lt Ieee.le Ieee.eq Ieee.add Ieee.sub Ieee.mul Ieee.div Ieee.round Ieee.neg Ieee.ofInt Ieee.isNan ofBits
+metal = record {
+  sheet = gilt;
+  formed = record { edition = inl refl; wavelength = omega arith; s = omega arith; p = omega arith; surfaces = (custom 1 keeps 10 (gold ∷ []) tt (omega arith) refl (omega arith) ((omega arith, (omega arith, omega arith)), tt), tt); few = omega arith };
+  within = record { beam = of-true _ refl; surfaces = (of-true _ refl, tt); holds = of-true _ refl; tuned = (tt, tt) };
+  layers = refl;
+  outside = refl;
 }

@@ -17,7 +17,7 @@ use Rattle.sheet.specs.Sheet.{SheetLayer, Tuning, keeps, tunes, SheetSurface, n
 use Rattle.sheet.specs.Claim.{Bytes}
 use Rattle.sheet_values.specs.Values.{value, film, films, surface-value, met-with, met-at}
 use Rattle.sheet_surfaces.specs.Surfaces.{nth-surface, nth-layer, surface-answers}
-use Rattle.gate.specs.Gate.{gated}
+use Rattle.gate.specs.Gate.{old, verdicts-by, gated}
 use Rattle.gate.specs.Wavelength.{holds}
 use Rattle.gate.specs.Claim.{WithinLimits, GateClaim}
 use Rattle.train_steps.specs.declared.State.{State}
@@ -208,6 +208,14 @@ pub record EveryPayload (edition : ℕ) (kinds : List ℕ) (tuning : Tuning) : T
       [] ∷ [] ∷ [] ∷ [] ∷ [] ∷ [] ∷ [] ∷ [] ∷ [] ∷ [] ∷ (4 ∷ []) ∷ kinds ∷ [] ∷ [] ∷ [] ∷ [] ∷ []
   pub tunings : map (λ (y : SheetSurface). y .tuning) (sheet .surfaces) ≡ replicate 11 keeps ++ (tuning ∷ replicate 4 keeps)
 
+-- ---- an admitted sheet with a metal film, the LAYER of whose only SURFACE is outside section 3's limits
+pub record MetalFilm : Type 0 where
+  pub sheet : Sheet
+  pub formed : WellFormed sheet
+  pub within : WithinLimits sheet
+  pub layers : map kinds-of (sheet .surfaces) ≡ (4 ∷ []) ∷ []
+  pub outside : getD (verdicts-by old sheet) 3 true ≡ false
+
 -- ---- demand 3
 pub record TrainClaim : Type 0 where
   -- 'For any bytes, the gate admits them as a sheet exactly when they meet 01's grammar and limits.'
@@ -218,3 +226,4 @@ pub record TrainClaim : Type 0 where
   -- of edition 1 with 16 LAYERs; of edition 2 with 15 and a kind 6 among them, after a kind 7 of 1,024 nm
   pub one : EveryPayload 1 (replicate 16 4) keeps
   pub two : EveryPayload 2 (4 ∷ 6 ∷ replicate 14 4) (tunes 0x4090_0000_0000_0000)
+  pub metal : MetalFilm

@@ -11,7 +11,7 @@ use lib.Ieee.{Float}
 use Rattle.gate_limits.specs.Limits.{wavelength-passes, surface-passes}
 use Rattle.sheet.specs.Sheet.{Tuning, keeps, tunes, SheetSurface, no-surface, nth, Sheet}
 use Rattle.sheet_values.specs.Values.{value, surface-value, met-with}
-use Rattle.gate.specs.Wavelength.{snell-of, layers-admitted, unless-tuned, layers-hold, holds}
+use Rattle.gate.specs.Wavelength.{surface-admitted, unless-tuned, layers-hold, holds}
 use Rattle.gate.specs.Internal.{holds-at}
 use Rattle.gate.proofs.Admitted.{Admitted}
 use Rattle.gate.proofs.HoldsHere.{holds-here}
@@ -26,14 +26,14 @@ from-nth (y ∷ ys) (suc d) h lt = from-nth ys d (h .1) (omega arith)
 
 module _ (y : SheetSurface) (more : List SheetSurface) (p : T (surface-passes (surface-value y))) where
   -- at a wavelength that is tested on its layers
-  at-its : (w : Float) → T (wavelength-passes w && (layers-admitted w (snell-of y) (y .layers) && layers-hold w more)) → Met w y × T (holds w more)
+  at-its : (w : Float) → T (wavelength-passes w && (surface-admitted w y && layers-hold w more)) → Met w y × T (holds w more)
   unfolding holds
   at-its w h =
-      let a = both (wavelength-passes w) (layers-admitted w (snell-of y) (y .layers) && layers-hold w more) h in
-      let b = both (layers-admitted w (snell-of y) (y .layers)) (layers-hold w more) (a .1) in
+      let a = both (wavelength-passes w) (surface-admitted w y && layers-hold w more) h in
+      let b = both (surface-admitted w y) (layers-hold w more) (a .1) in
       ((a .0, passes-met w y p (b .0)), and (wavelength-passes w) (layers-hold w more) (a .0) (b .1))
 
-  ready : (w : Float) (t : Tuning) → HoldsFrom t (untuned y ∷ more) → T (wavelength-passes w && unless-tuned t (layers-admitted w (snell-of y) (y .layers) && layers-hold w more)) → Met (met-with w t) y × T (holds (met-with w t) more)
+  ready : (w : Float) (t : Tuning) → HoldsFrom t (untuned y ∷ more) → T (wavelength-passes w && unless-tuned t (surface-admitted w y && layers-hold w more)) → Met (met-with w t) y × T (holds (met-with w t) more)
   unfolding holds layers-hold
   ready w keeps f h = at-its w h
   ready w (tunes v) f h = at-its (value v) f

@@ -1,68 +1,65 @@
 -- `gate::judge` meets its contract. Assumes nothing.
 use mathlib.Core.Path.{_≡_, sym}
-use mathlib.Core.Bool.{Bool, _&&_}
+use mathlib.Core.Bool.{Bool, _||_}
 use mathlib.Core.List.{List, []}
 use Prim.Native.Nat.{ℕ}
 use lib.Ieee.{Float}
-use lib.Ieee.Scale.{finite}
 use borrow.Author.Needs.{needs}
-use borrow.Author.Tests.{eq-eqb, ne-eqb}
+use borrow.Author.Tests.{ne-eqb}
 use Rattle.gate_limits.specs.declared.Judgement.{Judgement}
 use Rattle.gate_limits.specs.declared.Surface.{Surface}
 use Rattle.gate_limits.specs.Limits.{wavelength-passes, beam-passes, layer-within, judgement}
-use Rattle.thin_film_solver.specs.declared.ThinFilmLayer.{ThinFilmLayer}
 use Rattle.sheet.specs.Words.{word, kind}
 use Rattle.sheet.specs.Internal.{surface-at}
 use Rattle.sheet_values.specs.declared.Beam.{Beam}
-use Rattle.sheet_values.specs.declared.Cauchy.{Cauchy}
-use Rattle.sheet_values.specs.Values.{cauchy-film, surface-value}
+use Rattle.sheet_values.specs.Values.{surface-value}
 use Rattle.sheet_values.specs.Internal.{beam-at, plain-at, cauchy-at}
-use Rattle.gate.specs.Internal.{judgement-at}
+use Rattle.gate.specs.Internal.{cauchy-admitted, metal-at, judgement-at}
 use Rattle.gate.proofs.judge.Statement.{statement}
 use Rattle.gate.proofs.judge.Tie as tie
 
-module _ (src : List ℕ) (at k : ℕ) (v b : Float) (is : k ≡ kind (word src at)) where
-  beam : k ≡ 2 → (m : Beam) → m ≡ beam-at src at → (t : Bool) → t ≡ beam-passes (m .«wavelength_nm») (m .s) (m .p) → record { passes = t; snell = b } ≡ judgement-at src at v b
+module _ (src : List ℕ) (at surf k : ℕ) (v b : Float) (is : k ≡ kind (word src at)) where
+  beam : k ≡ 2 → (m : Beam) → m ≡ beam-at src at → (t : Bool) → t ≡ beam-passes (m .«wavelength_nm») (m .s) (m .p) → record { passes = t; snell = b } ≡ judgement-at src at surf v b
   unfolding judgement-at
   beam e m m-is t t-is = simp (sym is, e, t-is, m-is)
 
-  surface : k ≡ 3 → (s : Surface) → s ≡ surface-value (surface-at src at []) → (j : Judgement) → j ≡ judgement s → j ≡ judgement-at src at v b
+  surface : k ≡ 3 → (s : Surface) → s ≡ surface-value (surface-at src at []) → (j : Judgement) → j ≡ judgement s → j ≡ judgement-at src at surf v b
   unfolding judgement-at
   surface e s s-is j j-is = simp (j-is, s-is, sym is, e)
 
-  layer : k ≡ 4 → (l : ThinFilmLayer) → l ≡ plain-at src at → (t : Bool) → t ≡ layer-within b l → record { passes = t; snell = b } ≡ judgement-at src at v b
+  layer : k ≡ 4 → (t : Bool) → t ≡ (layer-within b (plain-at src at) || metal-at src surf v) → record { passes = t; snell = b } ≡ judgement-at src at surf v b
   unfolding judgement-at
-  layer e l l-is t t-is = simp (t-is, l-is, sym is, e)
+  layer e t t-is = simp (t-is, sym is, e)
 
-  cauchy : k ≡ 6 → (g : Cauchy) → g ≡ cauchy-at src at → (t : Bool) → t ≡ ((finite (g .a) && (finite (g .b) && finite (g .c))) && layer-within b (cauchy-film v g)) → record { passes = t; snell = b } ≡ judgement-at src at v b
+  cauchy : k ≡ 6 → (t : Bool) → t ≡ (cauchy-admitted v b (cauchy-at src at) || metal-at src surf v) → record { passes = t; snell = b } ≡ judgement-at src at surf v b
   unfolding judgement-at
-  cauchy e g g-is t t-is = simp (t-is, g-is, sym is, e)
+  cauchy e t t-is = simp (t-is, sym is, e)
 
-  tuning : k ≡ 7 → (t : Bool) → t ≡ wavelength-passes v → record { passes = t; snell = b } ≡ judgement-at src at v b
+  tuning : k ≡ 7 → (t : Bool) → t ≡ wavelength-passes v → record { passes = t; snell = b } ≡ judgement-at src at surf v b
   unfolding judgement-at
   tuning e t t-is = simp (t-is, sym is, e)
 
-  other : (k ≡ 2 → ⊥) → (k ≡ 3 → ⊥) → (k ≡ 4 → ⊥) → (k ≡ 6 → ⊥) → (k ≡ 7 → ⊥) → record { passes = Bool.true; snell = b } ≡ judgement-at src at v b
+  other : (k ≡ 2 → ⊥) → (k ≡ 3 → ⊥) → (k ≡ 4 → ⊥) → (k ≡ 6 → ⊥) → (k ≡ 7 → ⊥) → record { passes = Bool.true; snell = b } ≡ judgement-at src at surf v b
   unfolding judgement-at
   other p q r s t = simp (sym is, ne-eqb _ _ p, ne-eqb _ _ q, ne-eqb _ _ r, ne-eqb _ _ s, ne-eqb _ _ t)
 
 returns : tie.Need-returns
-returns c = beam _ _ _ _ _ (c .before .before .before .kind-at .ensures) (c .before .before .if1 .taken) _ (c .before .beam-at .ensures) _ (c .beam-passes .ensures)
+returns c = beam _ _ _ _ _ _ (c .before .before .before .kind-at .ensures) (c .before .before .if1 .taken) _ (c .before .beam-at .ensures) _ (c .beam-passes .ensures)
 
 returns-2 : tie.Need-returns-2
-returns-2 c = surface _ _ _ _ _ (c .before .before .before .before .kind-at .ensures) (c .before .before .if2 .taken) _ (c .before .surface-at .ensures) _ (c .judge-surface .ensures)
+returns-2 c = surface _ _ _ _ _ _ (c .before .before .before .before .kind-at .ensures) (c .before .before .if2 .taken) _ (c .before .surface-at .ensures) _ (c .judge-surface .ensures)
 
 returns-3 : tie.Need-returns-3
-returns-3 c = layer _ _ _ _ _ (c .before .before .before .before .before .kind-at .ensures) (c .before .before .if3 .taken) _ (c .before .plain-at .ensures) _ (c .layer-within .ensures)
+returns-3 c = layer _ _ _ _ _ _ (c .before .before .before .before .kind-at .ensures) (c .before .if3 .taken) _ (c .plain-stands .ensures)
 
 returns-4 : tie.Need-returns-4
-returns-4 c = cauchy _ _ _ _ _ (c .before .before .before .before .before .before .kind-at .ensures) (c .before .before .if4 .taken) _ (c .before .cauchy-at .ensures) _ (c .cauchy-passes .ensures)
+returns-4 c = cauchy _ _ _ _ _ _ (c .before .before .before .before .before .kind-at .ensures) (c .before .if4 .taken) _ (c .cauchy-stands .ensures)
 
 returns-5 : tie.Need-returns-5
-returns-5 c = tuning _ _ _ _ _ (c .before .before .before .before .before .before .kind-at .ensures) (c .before .if5 .taken) _ (c .wavelength-passes .ensures)
+returns-5 c = tuning _ _ _ _ _ _ (c .before .before .before .before .before .before .kind-at .ensures) (c .before .if5 .taken) _ (c .wavelength-passes .ensures)
 
 returns-6 : tie.Need-returns-6
-returns-6 c = other _ _ _ _ _ (c .before .before .before .before .before .kind-at .ensures) (c .before .before .before .before .if1 .left) (c .before .before .before .if2 .left) (c .before .before .if3 .left) (c .before .if4 .left) (c .if5 .left)
+returns-6 c = other _ _ _ _ _ _ (c .before .before .before .before .before .kind-at .ensures) (c .before .before .before .before .if1 .left) (c .before .before .before .if2 .left) (c .before .before .if3 .left) (c .before .if4 .left) (c .if5 .left)
 
 pub judge-spec : {M : Type 1} → statement M
-judge-spec = tie.close (tie.spec (λ c κs. search needs) (λ c κs. search needs) (λ c κs. search needs) returns (λ c κs. search needs) (λ c κs. search needs) returns-2 (λ c κs. search needs) (λ c κs. search needs) returns-3 (λ c κs. search needs) (λ c κs. search needs) returns-4 (λ c κs. search needs) returns-5 returns-6)
+judge-spec = tie.close (tie.spec (λ c κs. search needs) (λ c κs. search needs) (λ c κs. search needs) returns (λ c κs. search needs) (λ c κs. search needs) returns-2 (λ c κs. search needs) returns-3 (λ c κs. search needs) returns-4 (λ c κs. search needs) returns-5 returns-6)
