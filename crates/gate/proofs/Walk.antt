@@ -16,7 +16,7 @@ use Rattle.ieee.proofs.Signs.{zero-is}
 use Rattle.math_trig.specs.Trig.{sin}
 use Rattle.math_trig.proofs.AtZero.{sin-zero}
 use Rattle.refusal.specs.Outcome.{Outcome, answer, refusal, map}
-use Rattle.gate_limits.specs.declared.Judgement.{Judgement}
+use Rattle.gate.specs.declared.Passage.{Passage}
 use Rattle.gate_limits.specs.Limits.{wavelength-passes, may-be-metal, metal-passes}
 use Rattle.sheet.specs.Words.{word, count, kind, payload, float}
 use Rattle.sheet.specs.Blocks.{Block, Result, read, fault, starts}
@@ -32,7 +32,7 @@ use Rattle.sheet_values.specs.Values.{value, met-with}
 use Rattle.sheet_values.specs.Internal.{beam-at}
 use Rattle.sheet_values.proofs.Here.{beam-here}
 use Rattle.gate.specs.Gate.{all-finite, layer-admitted, metal-admitted, snell-of, verdict, either, tuned, leading, carried, walked, verdicts, judged, within-limits}
-use Rattle.gate.specs.Internal.{whole-at, metal-at, judgement-at, surface-before}
+use Rattle.gate.specs.Internal.{whole-at, metal-at, passage-at}
 
 -- ---- one block: what the code finds at its place is what its words say
 or-comm : (a b : Bool) → (a || b) ≡ (b || a)
@@ -40,6 +40,10 @@ or-comm true true = refl
 or-comm true false = refl
 or-comm false true = refl
 or-comm false false = refl
+
+-- the SURFACE of a layer after a block
+abbrev after : ℕ → ℕ → Block → ℕ
+after at surface k = cond (eqb (kind (k .word)) 3) at surface
 
 module _ (src : List ℕ) (at : ℕ) (k : Block) (ks : List Block) (h : Stands src at (k ∷ ks)) where
   w : word src at ≡ k .word
@@ -90,31 +94,34 @@ module _ (src : List ℕ) (at : ℕ) (k : Block) (ks : List Block) (h : Stands s
   -- what is judged of it, after the SURFACE y at a place
   module _ (v b : Float) (surface : ℕ) (y : SheetSurface) (bent : b ≡ snell-of y) (metal : metal-at src surface v ≡ metal-admitted v y) where
     abbrev Judges : Type 0
-    Judges = judgement-at src at surface v b ≡ record { passes = either v y k; snell = snell-of (carried y k ks) }
+    Judges = passage-at src at surface v b ≡ record { passes = either v y k; snell = snell-of (carried y k ks); surface = after at surface k }
+
+    abbrev passage : Bool → Passage
+    passage t = record { passes = t; snell = snell-of y; surface = surface }
 
     is-beam : kind (k .word) ≡ 2 → Judges
-    unfolding judgement-at verdict carried floats-after
+    unfolding passage-at verdict carried floats-after
     is-beam e = let le : 3 ≤ 3 = omega arith in rw (w, e, f0 2 3 e refl le, f1 2 3 e refl le, f2 2 3 e refl le, bent) refl
 
     is-surface : kind (k .word) ≡ 3 → Judges
-    unfolding judgement-at verdict carried floats-after
+    unfolding passage-at verdict carried floats-after
     is-surface e = let le : 3 ≤ 3 = omega arith in rw (w, e, f0 3 3 e refl le, f1 3 3 e refl le, f2 3 3 e refl le) refl
 
-    layer-judged : _≡_ {A = Judgement} (record { passes = layer-admitted v b (layer-at src at) || metal-at src surface v; snell = b }) (record { passes = metal-admitted v y || layer-admitted v (snell-of y) (layer-at src at); snell = snell-of y })
-    layer-judged = rw (bent, metal) (ap (λ (t : Bool). record { passes = t; snell = snell-of y }) (or-comm (layer-admitted v (snell-of y) (layer-at src at)) (metal-admitted v y)))
+    layer-judged : _≡_ {A = Passage} (record { passes = layer-admitted v b (layer-at src at) || metal-at src surface v; snell = b; surface = surface }) (passage (metal-admitted v y || layer-admitted v (snell-of y) (layer-at src at)))
+    layer-judged = rw (bent, metal) (ap passage (or-comm (layer-admitted v (snell-of y) (layer-at src at)) (metal-admitted v y)))
 
     -- a LAYER or a kind 6
     is-layer : (n : ℕ) → (n ≡ 4) ⊎ (n ≡ 6) → kind (k .word) ≡ n → layer-at src at ≡ layer-of k → Judges
-    unfolding judgement-at verdict carried
-    is-layer n (inl p) e l = let f : kind (k .word) ≡ 4 = e ∙ p in rw (w, f) refl ∙ layer-judged ∙ ap (λ (z : SheetLayer). record { passes = metal-admitted v y || layer-admitted v (snell-of y) z; snell = snell-of y }) l ∙ rw f refl
-    is-layer n (inr p) e l = let f : kind (k .word) ≡ 6 = e ∙ p in rw (w, f) refl ∙ layer-judged ∙ ap (λ (z : SheetLayer). record { passes = metal-admitted v y || layer-admitted v (snell-of y) z; snell = snell-of y }) l ∙ rw f refl
+    unfolding passage-at verdict carried
+    is-layer n (inl p) e l = let f : kind (k .word) ≡ 4 = e ∙ p in rw (w, f) refl ∙ layer-judged ∙ ap (λ (z : SheetLayer). passage (metal-admitted v y || layer-admitted v (snell-of y) z)) l ∙ rw f refl
+    is-layer n (inr p) e l = let f : kind (k .word) ≡ 6 = e ∙ p in rw (w, f) refl ∙ layer-judged ∙ ap (λ (z : SheetLayer). passage (metal-admitted v y || layer-admitted v (snell-of y) z)) l ∙ rw f refl
 
     -- a kind 7 and what has no limits
     is-other : eqb (kind (k .word)) 2 ≡ false → eqb (kind (k .word)) 3 ≡ false → eqb (kind (k .word)) 4 ≡ false → eqb (kind (k .word)) 6 ≡ false → Judges
-    unfolding judgement-at verdict carried
+    unfolding passage-at verdict carried
     is-other p q r s = rw (w, p, q, r, s, bent) (last (eqb (kind (k .word)) 7))
       where
-        last : (t : Bool) → _≡_ {A = Judgement} (cond t (record { passes = wavelength-passes v; snell = snell-of y }) (record { passes = true; snell = snell-of y })) (record { passes = cond t (wavelength-passes v) true; snell = snell-of y })
+        last : (t : Bool) → cond t (passage (wavelength-passes v)) (passage true) ≡ passage (cond t (wavelength-passes v) true)
         last true = refl
         last false = refl
 
@@ -168,13 +175,13 @@ pub record Remembered (src : List ℕ) (surface : ℕ) (b : Float) (y : SheetSur
   pub metal : (v : Float) → metal-at src surface v ≡ metal-admitted v y
 
 onward : (src : List ℕ) (at surface : ℕ) (y : SheetSurface) (k : Block) (ks : List Block) → Stands src at (k ∷ ks) → ((v : Float) → metal-at src surface v ≡ metal-admitted v y)
-    → (v : Float) → metal-at src (surface-before src at surface) v ≡ metal-admitted v (carried y k ks)
-unfolding surface-before carried
+    → (v : Float) → metal-at src (after at surface k) v ≡ metal-admitted v (carried y k ks)
+unfolding carried
 onward src at surface y k ks h m v = by (eqb (kind (k .word)) 3) refl
   where
-    by : (t : Bool) → eqb (kind (k .word)) 3 ≡ t → metal-at src (cond (eqb (kind (word src at)) 3) at surface) v ≡ metal-admitted v (cond t (surface-of k (leading 16 ks)) y)
-    by true e = rw (w src at k ks h, e) (unfold metal-at in ap (metal-admitted v) (whole-here src at k ks h (eqb-true (kind (k .word)) 3 e)))
-    by false e = rw (w src at k ks h, e) (m v)
+    by : (t : Bool) → eqb (kind (k .word)) 3 ≡ t → metal-at src (cond t at surface) v ≡ metal-admitted v (cond t (surface-of k (leading 16 ks)) y)
+    by true e = unfold metal-at in ap (metal-admitted v) (whole-here src at k ks h (eqb-true (kind (k .word)) 3 e))
+    by false e = m v
 
 -- before the first SURFACE
 no-snell : zero-f ≡ snell-of no-surface
@@ -251,35 +258,35 @@ module _ (src : List ℕ) (n at surface : ℕ) (v b : Float) (o : Outcome ℕ) w
   abbrev Rest : SheetSurface → List Block → Type 0
   Rest y ks = judged n (starts at ks) (walked either v y ks) ≡ o
 
-  module _ (u : Float) (u-is : u ≡ met-with v (tuning-at src at)) (j : Judgement) (j-is : j ≡ judgement-at src at surface u b) where
+  module _ (u : Float) (u-is : u ≡ met-with v (tuning-at src at)) (j : Passage) (j-is : j ≡ passage-at src at surface u b) where
     -- what is judged of the first block
     here : (y : SheetSurface) → Remembered src surface b y → (k : Block) (ks : List Block) → Stands src at (k ∷ ks)
-        → (u ≡ tuned v k) × (j ≡ record { passes = either (tuned v k) y k; snell = snell-of (carried y k ks) })
+        → (u ≡ tuned v k) × (j ≡ record { passes = either (tuned v k) y k; snell = snell-of (carried y k ks); surface = after at surface k })
     here y r k ks s =
         let t = u-is ∙ tunes-here src at k ks s v in
-        (t, j-is ∙ judges src at k ks s u b surface y (r .bent) (r .metal u) ∙ ap (λ (z : Float). record { passes = either z y k; snell = snell-of (carried y k ks) }) t)
+        (t, j-is ∙ judges src at k ks s u b surface y (r .bent) (r .metal u) ∙ ap (λ (z : Float). record { passes = either z y k; snell = snell-of (carried y k ks); surface = after at surface k }) t)
 
     fails : (y : SheetSurface) → Remembered src surface b y → (ks : List Block) → Stands src at ks → Rest y ks → at < count src → not (j .passes) ≡ true → refusal 6 at ≡ o
     unfolding walked judged starts
     fails y r [] s e lt f = absurd (omega (arith, ends-here src at s))
     fails y r (k ∷ ks) s e lt f =
-        let p : either (tuned v k) y k ≡ false = sym (ap (λ (z : Judgement). z .passes) (here y r k ks s .1)) ∙ not-true (j .passes) f in
+        let p : either (tuned v k) y k ≡ false = sym (ap (λ (z : Passage). z .passes) (here y r k ks s .1)) ∙ not-true (j .passes) f in
         rw p at e
 
     holds : (y : SheetSurface) → Remembered src surface b y → (ks : List Block) → Stands src at ks → Rest y ks → at < count src → not (j .passes) ≡ false
-        → (at < next-place src at) × Left src n (next-place src at) (surface-before src at surface) u (j .snell) o
+        → (at < next-place src at) × Left src n (next-place src at) (j .surface) u (j .snell) o
     unfolding walked judged starts
     holds y r [] s e lt f = absurd (omega (arith, ends-here src at s))
     holds y r (k ∷ ks) s e lt f =
         let q = here y r k ks s in
-        let p : either (tuned v k) y k ≡ true = sym (ap (λ (z : Judgement). z .passes) (q .1)) ∙ not-false (j .passes) f in
+        let p : either (tuned v k) y k ≡ true = sym (ap (λ (z : Passage). z .passes) (q .1)) ∙ not-false (j .passes) f in
         let m = next-is src at k ks s in (
           omega arith,
           record {
             left = ks;
             stands = next-stands src at k ks s;
             before = carried y k ks;
-            remembered = record { bent = ap (λ (z : Judgement). z .snell) (q .1); metal = onward src at surface y k ks s (r .metal) };
+            remembered = record { bent = ap (λ (z : Passage). z .snell) (q .1); metal = λ v. ap (λ (z : Passage). metal-at src (z .surface) v) (q .1) ∙ onward src at surface y k ks s (r .metal) v };
             judges = rw (m, q .0) (rw p at e);
           },
         )
@@ -287,8 +294,8 @@ module _ (src : List ℕ) (n at surface : ℕ) (v b : Float) (o : Outcome ℕ) w
     pub block-fails : Left src n at surface v b o → at < count src → not (j .passes) ≡ true → refusal 6 at ≡ o
     block-fails i lt f = fails (i .before) (i .remembered) (i .left) (i .stands) (i .judges) lt f
 
-    pub block-holds : Left src n at surface v b o → at < count src → not (j .passes) ≡ false → (z : ℕ) → z ≡ surface-before src at surface → (q : ℕ) → q ≡ next-place src at → (at < q) × Left src n q z u (j .snell) o
-    block-holds i lt f z d q e = rw (d, e) (holds (i .before) (i .remembered) (i .left) (i .stands) (i .judges) lt f)
+    pub block-holds : Left src n at surface v b o → at < count src → not (j .passes) ≡ false → (q : ℕ) → q ≡ next-place src at → (at < q) × Left src n q (j .surface) u (j .snell) o
+    block-holds i lt f q e = rw e (holds (i .before) (i .remembered) (i .left) (i .stands) (i .judges) lt f)
 
   ended : (y : SheetSurface) (ks : List Block) → Stands src at ks → Rest y ks → count src ≤ at → answer n ≡ o
   unfolding walked judged

@@ -6,7 +6,7 @@ use lib.Dec.{eqb}
 use lib.Ieee.{Float, le}
 use lib.Ieee.Scale.{finite}
 use Rattle.ieee.specs.Operators.{_⊕_}
-use Rattle.gate_limits.specs.declared.Judgement.{Judgement}
+use Rattle.gate.specs.declared.Passage.{Passage}
 use Rattle.gate_limits.specs.Limits.{sixteen, wavelength-passes, beam-passes, layer-within, metal-within, absorption, judgement}
 use Rattle.sheet.specs.Words.{word, kind}
 use Rattle.sheet.specs.Read.{layer-kind}
@@ -41,21 +41,18 @@ unfoldable pub metal-layers : Float → Float → List SheetLayer → Bool
 metal-layers wavelength sum [] = le sum sixteen
 metal-layers wavelength sum (l ∷ ls) = metal-layer wavelength l && metal-layers wavelength (sum ⊕ absorption wavelength (film wavelength l)) ls
 
--- whether a block passes at a wavelength, with a SURFACE before it, and n_incident·abs(sin) after it, for one of b before it
-unfoldable pub judgement-at : List ℕ → ℕ → ℕ → Float → Float → Judgement
-judgement-at src at surface wavelength b =
+-- whether a block passes at a wavelength, with a SURFACE before it and an n_incident·abs(sin) of b; and those of the layers after it
+unfoldable pub passage-at : List ℕ → ℕ → ℕ → Float → Float → Passage
+passage-at src at surface wavelength b =
     let k = kind (word src at) in
     let beam = beam-at src at in
-    cond (eqb k 2) (record { passes = beam-passes (beam .«wavelength_nm») (beam .s) (beam .p); snell = b })
-    (cond (eqb k 3) (judgement (surface-value (surface-at src at [])))
+    let j = judgement (surface-value (surface-at src at [])) in
+    cond (eqb k 2) (record { passes = beam-passes (beam .«wavelength_nm») (beam .s) (beam .p); snell = b; surface = surface })
+    (cond (eqb k 3) (record { passes = j .passes; snell = j .snell; surface = at })
     (cond (layer-kind 2 k)
-    (record { passes = layer-admitted wavelength b (layer-at src at) || metal-at src surface wavelength; snell = b })
-    (cond (eqb k 7) (record { passes = wavelength-passes wavelength; snell = b })
-    (record { passes = true; snell = b }))))
-
--- the SURFACE of a layer that stands after the block at a place
-unfoldable pub surface-before : List ℕ → ℕ → ℕ → ℕ
-surface-before src at surface = cond (eqb (kind (word src at)) 3) at surface
+    (record { passes = layer-admitted wavelength b (layer-at src at) || metal-at src surface wavelength; snell = b; surface = surface })
+    (cond (eqb k 7) (record { passes = wavelength-passes wavelength; snell = b; surface = surface })
+    (record { passes = true; snell = b; surface = surface }))))
 
 -- the layers of the SURFACE at a place
 unfoldable pub surface-holds-at : List ℕ → ℕ → Float → Bool

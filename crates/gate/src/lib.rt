@@ -12,8 +12,7 @@ ghost use Rattle.refusal.specs.Outcome.{answer, refusal, map};
 ghost use Rattle.gate.specs.Gate.{coefficients-finite, layer-admitted, outcome, within-limits, gate};
 ghost use Rattle.gate.specs.Wavelength.{layers-admitted};
 ghost use Rattle.sheet_values.specs.Internal.{plain-at, cauchy-at};
-ghost use Rattle.gate.specs.Internal.{glass-finite, cauchy-admitted, metal-at, metal-layer, metal-layers, judgement-at, surface-before, surface-holds-at, layers-hold-at, holds-at};
-use gate_limits::Judgement;
+ghost use Rattle.gate.specs.Internal.{glass-finite, cauchy-admitted, metal-at, metal-layer, metal-layers, passage-at, surface-holds-at, layers-hold-at, holds-at};
 use refusal::Refusal;
 use sheet::Verdict;
 use sheet_values::Cauchy;
@@ -135,54 +134,60 @@ fn cauchy_stands(src: &[u8], at: usize, surface: usize, wavelength_nm: f64, snel
         || metal_holds(src, surface, wavelength_nm)
 }
 
-// Whether the block at a place is within the limits at a wavelength, with the SURFACE before it, and n_incident *
-// abs(sin) after it.
-fn judge(src: &[u8], at: usize, surface: usize, wavelength_nm: f64, snell: f64) -> Judgement
-    ensures { λ r. ⌜ r ≡ judgement-at (now (src .entry)) at surface «wavelength_nm» snell ⌝ }
+// Whether a block is within the limits, and what the layers after it are judged with: n_incident * abs(sin) of their
+// SURFACE, and its place.
+struct Passage {
+    passes: bool,
+    snell: f64,
+    surface: usize,
+}
+
+// The block at a place, at a wavelength and after the SURFACE at another.
+fn judge(src: &[u8], at: usize, surface: usize, wavelength_nm: f64, snell: f64) -> Passage
+    ensures { λ r. ⌜ r ≡ passage-at (now (src .entry)) at surface «wavelength_nm» snell ⌝ }
 {
     let kind = sheet::kind_at(src, at);
     if kind == 2 {
         let beam = sheet_values::beam_at(src, at);
-        return Judgement {
+        return Passage {
             passes: gate_limits::beam_passes(beam.wavelength_nm, beam.s, beam.p),
             snell,
+            surface,
         };
     }
     if kind == 3 {
-        return gate_limits::judge_surface(sheet_values::surface_at(src, at));
+        let judgement = gate_limits::judge_surface(sheet_values::surface_at(src, at));
+        return Passage {
+            passes: judgement.passes,
+            snell: judgement.snell,
+            surface: at,
+        };
     }
     if kind == 4 {
-        return Judgement {
+        return Passage {
             passes: plain_stands(src, at, surface, wavelength_nm, snell),
             snell,
+            surface,
         };
     }
     if kind == 6 {
-        return Judgement {
+        return Passage {
             passes: cauchy_stands(src, at, surface, wavelength_nm, snell),
             snell,
+            surface,
         };
     }
     if kind == 7 {
-        return Judgement {
+        return Passage {
             passes: gate_limits::wavelength_passes(wavelength_nm),
             snell,
+            surface,
         };
     }
-    Judgement {
+    Passage {
         passes: true,
         snell,
-    }
-}
-
-// The SURFACE of a layer that stands after the block at a place.
-fn surface_before(src: &[u8], at: usize, surface: usize) -> usize
-    ensures { λ r. ⌜ r ≡ surface-before (now (src .entry)) at surface ⌝ }
-{
-    if sheet::kind_at(src, at) == 3 {
-        at
-    } else {
-        surface
+        surface,
     }
 }
 
@@ -199,12 +204,12 @@ fn limits(src: &[u8], count: u32) -> Gated
     let mut snell = 0.0;
     while at < total {
         wavelength_nm = sheet_values::met_with(src, at, wavelength_nm);
-        let judgement = judge(src, at, surface, wavelength_nm, snell);
-        if !judgement.passes {
+        let passage = judge(src, at, surface, wavelength_nm, snell);
+        if !passage.passes {
             return outside(at);
         }
-        snell = judgement.snell;
-        surface = surface_before(src, at, surface);
+        snell = passage.snell;
+        surface = passage.surface;
         at = sheet::next_place(src, at);
     }
     Gated::Admitted(count)

@@ -14,33 +14,33 @@ use Rattle.sheet.specs.Internal.{surface-at}
 use Rattle.sheet_values.specs.declared.Beam.{Beam}
 use Rattle.sheet_values.specs.Values.{surface-value}
 use Rattle.sheet_values.specs.Internal.{beam-at, plain-at, cauchy-at}
-use Rattle.gate.specs.Internal.{cauchy-admitted, metal-at, judgement-at}
+use Rattle.gate.specs.Internal.{cauchy-admitted, metal-at, passage-at}
 use Rattle.gate.proofs.judge.Statement.{statement}
 use Rattle.gate.proofs.judge.Tie as tie
 
 module _ (src : List ℕ) (at surf k : ℕ) (v b : Float) (is : k ≡ kind (word src at)) where
-  beam : k ≡ 2 → (m : Beam) → m ≡ beam-at src at → (t : Bool) → t ≡ beam-passes (m .«wavelength_nm») (m .s) (m .p) → record { passes = t; snell = b } ≡ judgement-at src at surf v b
-  unfolding judgement-at
+  beam : k ≡ 2 → (m : Beam) → m ≡ beam-at src at → (t : Bool) → t ≡ beam-passes (m .«wavelength_nm») (m .s) (m .p) → record { passes = t; snell = b; surface = surf } ≡ passage-at src at surf v b
+  unfolding passage-at
   beam e m m-is t t-is = simp (sym is, e, t-is, m-is)
 
-  surface : k ≡ 3 → (s : Surface) → s ≡ surface-value (surface-at src at []) → (j : Judgement) → j ≡ judgement s → j ≡ judgement-at src at surf v b
-  unfolding judgement-at
+  surface : k ≡ 3 → (s : Surface) → s ≡ surface-value (surface-at src at []) → (j : Judgement) → j ≡ judgement s → record { passes = j .passes; snell = j .snell; surface = at } ≡ passage-at src at surf v b
+  unfolding passage-at
   surface e s s-is j j-is = simp (j-is, s-is, sym is, e)
 
-  layer : k ≡ 4 → (t : Bool) → t ≡ (layer-within b (plain-at src at) || metal-at src surf v) → record { passes = t; snell = b } ≡ judgement-at src at surf v b
-  unfolding judgement-at
+  layer : k ≡ 4 → (t : Bool) → t ≡ (layer-within b (plain-at src at) || metal-at src surf v) → record { passes = t; snell = b; surface = surf } ≡ passage-at src at surf v b
+  unfolding passage-at
   layer e t t-is = simp (t-is, sym is, e)
 
-  cauchy : k ≡ 6 → (t : Bool) → t ≡ (cauchy-admitted v b (cauchy-at src at) || metal-at src surf v) → record { passes = t; snell = b } ≡ judgement-at src at surf v b
-  unfolding judgement-at
+  cauchy : k ≡ 6 → (t : Bool) → t ≡ (cauchy-admitted v b (cauchy-at src at) || metal-at src surf v) → record { passes = t; snell = b; surface = surf } ≡ passage-at src at surf v b
+  unfolding passage-at
   cauchy e t t-is = simp (t-is, sym is, e)
 
-  tuning : k ≡ 7 → (t : Bool) → t ≡ wavelength-passes v → record { passes = t; snell = b } ≡ judgement-at src at surf v b
-  unfolding judgement-at
+  tuning : k ≡ 7 → (t : Bool) → t ≡ wavelength-passes v → record { passes = t; snell = b; surface = surf } ≡ passage-at src at surf v b
+  unfolding passage-at
   tuning e t t-is = simp (t-is, sym is, e)
 
-  other : (k ≡ 2 → ⊥) → (k ≡ 3 → ⊥) → (k ≡ 4 → ⊥) → (k ≡ 6 → ⊥) → (k ≡ 7 → ⊥) → record { passes = Bool.true; snell = b } ≡ judgement-at src at surf v b
-  unfolding judgement-at
+  other : (k ≡ 2 → ⊥) → (k ≡ 3 → ⊥) → (k ≡ 4 → ⊥) → (k ≡ 6 → ⊥) → (k ≡ 7 → ⊥) → record { passes = Bool.true; snell = b; surface = surf } ≡ passage-at src at surf v b
+  unfolding passage-at
   other p q r s t = simp (sym is, ne-eqb _ _ p, ne-eqb _ _ q, ne-eqb _ _ r, ne-eqb _ _ s, ne-eqb _ _ t)
 
 returns : tie.Need-returns

@@ -25,15 +25,15 @@ returns c = c .outside .ensures ∙ block-fails _ _ _ _ _ _ _ _ (c .before .befo
 
 loop-less : tie.Need-loop-less Inv-loop μ-loop
 loop-less c =
-    let h = block-holds _ _ _ _ _ _ _ _ (c .before .before .before .before .before .met-with .ensures) _ (c .before .before .before .before .judge .ensures) (c .before .before .before .before .before .before .before .loop .inv) (c .before .before .before .before .before .before .loop-test .taken) (c .before .before .if1 .left) _ (c .before .surface-before .ensures) _ (c .next-place .ensures) in
-    omega (arith, h .0, c .before .before .before .before .before .before .loop-test .taken)
+    let h = block-holds _ _ _ _ _ _ _ _ (c .before .before .before .before .met-with .ensures) _ (c .before .before .before .judge .ensures) (c .before .before .before .before .before .before .loop .inv) (c .before .before .before .before .before .loop-test .taken) (c .before .if1 .left) _ (c .next-place .ensures) in
+    omega (arith, h .0, c .before .before .before .before .before .loop-test .taken)
 
 loop-again : tie.Need-loop-again Inv-loop μ-loop
 loop-again c =
-    block-holds _ _ _ _ _ _ _ _ (c .before .before .before .before .before .met-with .ensures) _ (c .before .before .before .before .judge .ensures) (c .before .before .before .before .before .before .before .loop .inv) (c .before .before .before .before .before .before .loop-test .taken) (c .before .before .if1 .left) _ (c .before .surface-before .ensures) _ (c .next-place .ensures) .1
+    block-holds _ _ _ _ _ _ _ _ (c .before .before .before .before .met-with .ensures) _ (c .before .before .before .judge .ensures) (c .before .before .before .before .before .before .loop .inv) (c .before .before .before .before .before .loop-test .taken) (c .before .if1 .left) _ (c .next-place .ensures) .1
 
 returns-2 : tie.Need-returns-2 Inv-loop μ-loop
 returns-2 c = all-within _ _ _ _ _ _ _ (c .before .loop .inv) (c .loop-test .left)
 
 pub limits-spec : {M : Type 1} → statement M
-limits-spec = tie.close (tie.spec Inv-loop μ-loop (λ c κs. search needs) loop-holds (λ c κs. search needs) (λ c κs. search needs) (λ c κs. search needs) returns (λ c κs. search needs) (λ c κs. search needs) loop-less loop-again returns-2)
+limits-spec = tie.close (tie.spec Inv-loop μ-loop (λ c κs. search needs) loop-holds (λ c κs. search needs) (λ c κs. search needs) (λ c κs. search needs) returns (λ c κs. search needs) loop-less loop-again returns-2)
