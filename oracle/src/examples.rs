@@ -1,7 +1,9 @@
 // Named example sheets: every coating in both directions, no surfaces and 64, layers, and each refusal at several places.
 
 use crate::sheet_cases::from_words;
-use crate::sheets::{example, largest, largest_of_two, mixed, plain, retuned, varied, Face, Plan};
+use crate::sheets::{
+    example, gilded, largest, largest_of_two, mixed, plain, retuned, varied, Face, Plan,
+};
 
 fn face(payload: u32, numbers: [f64; 3], layers: &[[f64; 3]]) -> Face {
     Face {
@@ -83,6 +85,7 @@ fn admitted() -> Vec<(String, Vec<u8>)> {
     add("64_surfaces_of_16_glasses", largest_of_two());
     add("edition_2", of_two(varied()));
     add("glasses_and_layers", mixed());
+    add("metal_films", gilded());
     add("retuned_twice", retuned());
     add("retuned_before_the_first", {
         let mut sheet = of_two(plan(vec![face(10, [1.0, 1.52, 0.3], &LAYERS)]));
@@ -253,6 +256,24 @@ fn refused() -> Vec<(String, Vec<u8>)> {
         glass(2, [1.5, f64::INFINITY, 0.0, 80.0]),
     );
     add("6_glass_too_thick", glass(2, [1.5, 0.0042, 0.0, 100_001.0]));
+    let gold = [0.26, 6.97, 20.0];
+    add(
+        "6_metal_at_an_angle",
+        plan(vec![face(10, [1.0, 1.52, 0.001], &[gold])]).bytes(),
+    );
+    add(
+        "6_metal_of_five_layers",
+        plan(vec![face(11, [1.0, 1.52, 0.0], &[gold; 5])]).bytes(),
+    );
+    add(
+        "6_metal_too_thick",
+        plan(vec![face(
+            11,
+            [1.0, 1.52, 0.0],
+            &[LAYERS[0], [0.26, 6.97, 250.0]],
+        )])
+        .bytes(),
+    );
     add("6_retuned_to_99", {
         let mut sheet = retuned();
         sheet.surfaces[1].retune = Some(99.0);

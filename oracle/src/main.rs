@@ -22,6 +22,7 @@ oracle findings
 oracle bench [--runs N]
 oracle compare [--seed S] [--count N] [--spoil I]
 oracle measure [--seed S] [--count N]
+oracle metal [--seed S] [--count N]
 oracle laws [--seed S] [--count N] [--spoil I]
 oracle head_on [--seed S] [--count N]
 oracle phase [--seed S] [--count N] [--spoil I]
@@ -156,8 +157,13 @@ fn execute(command: &str, options: &Options) -> Result<bool, String> {
             bench::bench(options.runs.unwrap_or(9) as usize);
             Ok(true)
         }
-        "measure" => {
-            let found = measure::measure(seed, options.count.unwrap_or(1_000_000));
+        "measure" | "metal" => {
+            let draw = if command == "metal" {
+                measure::metal
+            } else {
+                measure::admitted
+            };
+            let found = measure::measure(seed, options.count.unwrap_or(1_000_000), draw);
             print!("{}", found.table());
             Ok(found.sound())
         }

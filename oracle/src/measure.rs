@@ -4,6 +4,7 @@ use crate::record::numbers;
 use crate::reference::thin_film::{evaluate_tmm_multilayer, Complex, ThinFilmLayer};
 use crate::section2::{abs, asin, sin, sqrt, PI, T};
 use crate::sheet::{limits, preset_layers, Layer, Sheet, Surface};
+use crate::sheets::metal_layers;
 use crate::traced::{bare, solve, Count, Of, Seen};
 use crate::train::{answers, powers, Answers, Light};
 use crate::values::{neighbour, Rng};
@@ -216,6 +217,49 @@ pub fn admitted(rng: &mut Rng) -> Sheet {
     }
 }
 
+/// A beam's wavelength and one surface with layers of metal, admitted under slip 12's limits.
+pub fn metal(rng: &mut Rng) -> Sheet {
+    let wavelength = wavelength(rng);
+    loop {
+        let count = 1 + rng.below(4);
+        let mut films: Vec<ThinFilmLayer> = metal_layers(rng, wavelength, count)
+            .iter()
+            .map(|layer| ThinFilmLayer {
+                n: layer[0],
+                k: layer[1],
+                thickness_nm: layer[2],
+            })
+            .collect();
+        if rng.one_in(3) {
+            for film in &mut films {
+                let quarters = 1.0 + rng.below(3) as f64;
+                film.thickness_nm = quarters * wavelength / (4.0 * film.n);
+            }
+        }
+        let sheet = Sheet {
+            wavelength,
+            s: 1.0,
+            p: 1.0,
+            surfaces: vec![Surface {
+                word: 8,
+                reflected: rng.one_in(2),
+                coating: 5,
+                n_incident: index(rng),
+                n_substrate: index(rng),
+                angle: rng.pick(&[0.0, -0.0]),
+                layers: films
+                    .into_iter()
+                    .map(|film| (0, Layer::Fixed(film)))
+                    .collect(),
+                retune: None,
+            }],
+        };
+        if sheet.surfaces[0].metal(wavelength) {
+            return sheet;
+        }
+    }
+}
+
 pub fn all_finite(found: &Answers) -> bool {
     let finite = |z: &Complex| z.re.is_finite() && z.im.is_finite();
     let light = match &found.light {
@@ -279,16 +323,16 @@ fn describe(sheet: &Sheet) -> String {
         surface.coating, surface.n_incident, surface.n_substrate, surface.angle, sheet.wavelength
     );
     for layer in surface.films(sheet.wavelength) {
-        text += &format!(" | {:?} {:?}", layer.n, layer.thickness_nm);
+        text += &format!(" | {:?} {:?} {:?}", layer.n, layer.k, layer.thickness_nm);
     }
     text
 }
 
-pub fn measure(seed: u64, count: u64) -> Seen {
+pub fn measure(seed: u64, count: u64, draw: fn(&mut Rng) -> Sheet) -> Seen {
     let mut rng = Rng::new(seed);
     let mut seen = Seen::default();
     for _ in 0..count {
-        surface(&admitted(&mut rng), &mut seen);
+        surface(&draw(&mut rng), &mut seen);
     }
     seen
 }

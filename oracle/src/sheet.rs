@@ -1,7 +1,8 @@
-// Document 01, sections 1 and 3, and document 02, slips 3 and 5: the sheet's words and grammar (refusals 4 and 5) and the gate (refusal 6).
+// Document 01, sections 1 and 3, and document 02, slips 3, 5 and 12: the sheet's words and grammar (refusals 4 and 5) and
+// the gate (refusal 6).
 
 use crate::reference::thin_film::{Coating, SurfaceCoating, ThinFilmLayer};
-use crate::section2::{abs, cos, sin};
+use crate::section2::{abs, cos, sin, T};
 
 /// 01's number of a refusal, and its place (0 where there is none).
 #[derive(Clone, Copy, Debug, PartialEq)]
@@ -58,8 +59,7 @@ impl Sheet {
         in_band(wavelength)
             && left
                 .take_while(|y| y.retune.is_none())
-                .flat_map(|y| y.layers.iter().map(move |(_, layer)| (y, layer)))
-                .all(|(y, layer)| layer_at(y, layer, wavelength))
+                .all(|y| y.outside(wavelength).is_none())
     }
 }
 
@@ -68,6 +68,38 @@ impl Surface {
     pub fn films(&self, wavelength: f64) -> Vec<ThinFilmLayer> {
         let film = |(_, layer): &(usize, Layer)| layer.film(wavelength);
         self.layers.iter().map(film).collect()
+    }
+
+    /// The word of the first layer outside section 3's limits at a wavelength; none where slip 12's hold.
+    pub fn outside(&self, wavelength: f64) -> Option<usize> {
+        let mut fail = self.layers.iter();
+        let first = fail.find(|(_, layer)| !layer_at(self, layer, wavelength));
+        first
+            .filter(|_| !self.metal(wavelength))
+            .map(|(word, _)| *word)
+    }
+
+    /// Slip 12's limits: 1 to 4 layers at angle zero. What is left of 16 after each layer's term is not looked at: the
+    /// terms are added, each sum rounded.
+    pub fn metal(&self, wavelength: f64) -> bool {
+        let terms: Vec<f64> = self
+            .films(wavelength)
+            .iter()
+            .map(|film| T * film.thickness_nm / wavelength * film.k)
+            .collect();
+        let total = terms.iter().copied().reduce(|sum, term| sum + term);
+        let each = |(_, layer): &(usize, Layer)| {
+            let film = layer.film(wavelength);
+            layer.is_finite()
+                && within(film.n, 0.0625, 4.0)
+                && within(film.k, 0.0, 8.0)
+                && within(film.thickness_nm, 0.0, 100_000.0)
+        };
+        self.coating == 5
+            && self.angle == 0.0
+            && self.layers.len() <= 4
+            && total.is_some_and(|sum| sum <= 16.0)
+            && self.layers.iter().all(each)
     }
 }
 
@@ -230,10 +262,8 @@ pub fn limits(sheet: &Sheet) -> Result<(), Refusal> {
         if !surface_passes(surface) {
             return refuse(6, surface.word);
         }
-        for (word, layer) in &surface.layers {
-            if !layer_at(surface, layer, sheet.met(i)) {
-                return refuse(6, *word);
-            }
+        if let Some(word) = surface.outside(sheet.met(i)) {
+            return refuse(6, word);
         }
     }
     Ok(())

@@ -2,7 +2,9 @@
 
 use crate::section2::{abs, cos, sin, T};
 use crate::sheet::Layer;
-use crate::sheets::{example, largest, largest_of_two, mixed, plain, retuned, varied, Face, Plan};
+use crate::sheets::{
+    depth, example, gilded, largest, largest_of_two, mixed, plain, retuned, varied, Face, Plan,
+};
 use crate::values::neighbour;
 
 /// All fixed sheets; only the last ones are long.
@@ -12,6 +14,7 @@ pub fn cases() -> Vec<Vec<u8>> {
         varied().bytes(),
         mixed().bytes(),
         retuned().bytes(),
+        gilded().bytes(),
         empty().bytes(),
     ];
     list.extend(lengths());
@@ -21,6 +24,11 @@ pub fn cases() -> Vec<Vec<u8>> {
     list.extend(edges());
     list.extend(
         limits()
+            .into_iter()
+            .flat_map(|(inside, outside)| [inside, outside]),
+    );
+    list.extend(
+        metals()
             .into_iter()
             .flat_map(|(inside, outside)| [inside, outside]),
     );
@@ -393,6 +401,92 @@ pub fn limits() -> Vec<(Vec<u8>, Vec<u8>)> {
     list
 }
 
+/// Layers whose sum is 16 at 1,000 nm, and more than 16 from the last on: n, k, thickness.
+pub const IN_ORDER: [[f64; 3]; 4] = [
+    [1.0, 0.125, 155.625],
+    [1.0, 7.25, 178.25],
+    [1.0, 3.75, 68.25],
+    [1.0, 1.75, 559.3005511259004],
+];
+
+/// The same for slip 12's limits: n, k, thickness and the sum at each of four places, the angle, the count, the order.
+pub fn metals() -> Vec<(Vec<u8>, Vec<u8>)> {
+    let up = |x: f64| (x, neighbour(x, 1));
+    let down = |x: f64| (x, neighbour(x, -1));
+    let film = [0.25, 2.0, 64.0];
+    let mut list = Vec::new();
+    let plan = one(10, [1.0, 1.5, 0.0], &[film; 4]);
+    for place in 0..4 {
+        let sum = |x: f64| {
+            let mut layers = plan.surfaces[0].layers.clone();
+            layers[place][2] = x;
+            depth(&layers, plan.beam[0]) <= 16.0
+        };
+        for (field, (inside, outside)) in [
+            (0, down(0.0625)),
+            (0, up(4.0)),
+            (1, down(0.0)),
+            (1, (-0.0, neighbour(0.0, -1))),
+            (1, up(8.0)),
+            (2, down(0.0)),
+            (2, (-0.0, neighbour(0.0, -1))),
+            (2, boundary(64.0, 1000.0, sum)),
+        ] {
+            list.push(pair(
+                &plan,
+                |plan| &mut plan.surfaces[0].layers[place][field],
+                inside,
+                outside,
+            ));
+        }
+        let mut thick = plan.clone();
+        thick.surfaces[0].layers[place][1] = 1e-300;
+        list.push(pair(
+            &thick,
+            |plan| &mut plan.surfaces[0].layers[place][2],
+            100_000.0,
+            neighbour(100_000.0, 1),
+        ));
+        // A kind 6 among them.
+        let mut glass = plan.clone();
+        glass.edition = 2;
+        glass.surfaces[0].layers[place] = vec![0.25, 0.0, 0.0, 64.0];
+        for (inside, outside) in [down(0.0625), up(4.0)] {
+            list.push(pair(
+                &glass,
+                |plan| &mut plan.surfaces[0].layers[place][0],
+                inside,
+                outside,
+            ));
+        }
+    }
+    for (inside, outside) in [up(0.0), (-0.0, neighbour(0.0, -1))] {
+        list.push(pair(
+            &plan,
+            |plan| &mut plan.surfaces[0].numbers[2],
+            inside,
+            outside,
+        ));
+    }
+    // The wavelength below which the sum is over 16.
+    let layers = &plan.surfaces[0].layers;
+    let (inside, outside) = boundary(550.0, 100.0, |x| depth(layers, x) <= 16.0);
+    list.push(pair(&plan, |plan| &mut plan.beam[0], inside, outside));
+    for count in 1..=4 {
+        let five = one(10, [1.0, 1.5, 0.0], &[film; 5]);
+        list.push((
+            one(10, [1.0, 1.5, 0.0], &vec![film; count]).bytes(),
+            five.bytes(),
+        ));
+    }
+    let mut order = one(10, [1.0, 1.5, 0.0], &IN_ORDER);
+    order.beam[0] = 1000.0;
+    let inside = order.bytes();
+    order.surfaces[0].layers.reverse();
+    list.push((inside, order.bytes()));
+    list
+}
+
 const SPECIAL: [f64; 10] = [
     f64::NAN,
     f64::INFINITY,
@@ -409,7 +503,7 @@ const SPECIAL: [f64; 10] = [
 /// Every field of a sheet of either edition with each special value.
 fn fields() -> Vec<Vec<u8>> {
     let mut list = Vec::new();
-    for whole in [varied().write(), mixed().write(), retuned().write()] {
+    for whole in [varied(), mixed(), retuned(), gilded()].map(|plan| plan.write()) {
         for kind in &whole.kinds {
             for field in 0..whole.floats(*kind) {
                 for x in SPECIAL {

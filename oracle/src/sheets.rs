@@ -121,7 +121,27 @@ pub fn varied() -> Plan {
     }
 }
 
-/// The same in edition 2 with a kind 6 in place of two of its LAYERs.
+/// A sheet of edition 2 with films of metal, LAYERs and kinds 6, at angle zero of either sign.
+pub fn gilded() -> Plan {
+    let face = |payload, numbers, layers: Vec<Vec<f64>>| Face {
+        payload,
+        numbers,
+        layers,
+        retune: None,
+    };
+    let glass = vec![0.5, 0.01, 0.0, 80.0];
+    let films = plain(&[[1.38, 0.0, 99.0], [0.25, 7.0, 20.0], [4.0, 0.0, 10.0]]);
+    let mut plan = varied();
+    plan.edition = 2;
+    plan.surfaces = vec![
+        face(11, [1.0, 1.5, 0.0], plain(&[[0.0625, 8.0, 20.0]])),
+        face(10, [1.5, 1.0, -0.0], [films, vec![glass]].concat()),
+        face(0, [1.0, 1.5, 0.25], Vec::new()),
+    ];
+    plan
+}
+
+/// `varied` in edition 2 with a kind 6 in place of two of its LAYERs.
 pub fn mixed() -> Plan {
     let mut plan = varied();
     plan.edition = 2;
@@ -227,6 +247,84 @@ fn index_at(layer: &[f64], wavelength: f64) -> f64 {
     }
 }
 
+/// Slip 12's sum of n, k, thickness.
+pub fn depth(layers: &[Vec<f64>], wavelength: f64) -> f64 {
+    let term = |layer: &Vec<f64>| T * layer[2] / wavelength * layer[1];
+    layers.iter().fold(0.0, |sum, layer| sum + term(layer))
+}
+
+/// Layers of metal for slip 12's limits, each limit often met exactly, and the sum often as near to 16 as it comes.
+pub fn metal_layers(rng: &mut Rng, wavelength: f64, count: usize) -> Vec<Vec<f64>> {
+    let mut layers = Vec::new();
+    for _ in 0..count {
+        let n = match rng.below(4) {
+            0 => rng.pick(&[0.0625, 4.0, 1.0, neighbour(0.0625, 1), neighbour(4.0, -1)]),
+            1 => rng.log(-4, 1),
+            _ => rng.uniform(0.0625, 4.0),
+        };
+        let k = match rng.below(6) {
+            0 => rng.pick(&[0.0, -0.0, f64::from_bits(1), neighbour(8.0, -1)]),
+            1 => 8.0,
+            2 => rng.log(-60, 2),
+            _ => rng.uniform(0.0, 8.0),
+        };
+        let thickness = match rng.below(6) {
+            0 => rng.pick(&[0.0, -0.0, f64::from_bits(1)]),
+            1 => rng.uniform(0.0, 100_000.0),
+            2 => rng.log(-1074, 6),
+            _ => rng.uniform(0.0, 16.0) * wavelength / (T * k),
+        };
+        layers.push(vec![n, k, thickness.min(100_000.0)]);
+    }
+    let last = rng.below(count);
+    if layers[last][1] > 0.0 && rng.one_in(2) {
+        // The largest thickness of one layer with which the sum is at most 16, or one beside it.
+        let (mut low, mut high) = (0, 100_000_f64.to_bits() + 1);
+        while high - low > 1 {
+            let middle = low + (high - low) / 2;
+            layers[last][2] = f64::from_bits(middle);
+            if depth(&layers, wavelength) <= 16.0 {
+                low = middle;
+            } else {
+                high = middle;
+            }
+        }
+        layers[last][2] = neighbour(f64::from_bits(low), -rng.pick(&[0, 0, 1, 7]));
+    }
+    layers
+}
+
+/// A custom surface at angle zero that passes under slip 12's limits at a wavelength.
+pub fn metal_face(rng: &mut Rng, edition: u32, wavelength: f64, payload: u32) -> Face {
+    loop {
+        let count = 1 + rng.below(4);
+        let mut face = Face {
+            payload,
+            numbers: [index(rng), index(rng), rng.pick(&[0.0, -0.0])],
+            layers: metal_layers(rng, wavelength, count),
+            retune: None,
+        };
+        for layer in &mut face.layers {
+            if edition == 2 && layer[1] == 0.0 && rng.one_in(2) {
+                *layer = dispersed(rng, layer, wavelength);
+            }
+        }
+        if passes_alone(edition, wavelength, &face) {
+            return face;
+        }
+    }
+}
+
+/// Whether the gate admits a surface at a wavelength.
+fn passes_alone(edition: u32, wavelength: f64, face: &Face) -> bool {
+    let alone = Plan {
+        edition,
+        beam: [wavelength, 1.0, 1.0],
+        surfaces: vec![face.clone()],
+    };
+    gate(&alone.bytes()).is_ok()
+}
+
 /// A surface that passes the gate at a wavelength.
 fn valid_face(rng: &mut Rng, edition: u32, wavelength: f64, payload: u32, layers: usize) -> Face {
     let code = payload / 2;
@@ -260,12 +358,7 @@ fn valid_face(rng: &mut Rng, edition: u32, wavelength: f64, payload: u32, layers
             let turns = rng.bits() >> (34 + rng.below(30));
             face.numbers[2] += turns as f64 * T;
         }
-        let alone = Plan {
-            edition,
-            beam: [wavelength, 1.0, 1.0],
-            surfaces: vec![face.clone()],
-        };
-        if gate(&alone.bytes()).is_ok() {
+        if passes_alone(edition, wavelength, &face) {
             return face;
         }
     }
@@ -305,7 +398,11 @@ pub fn random_plan(rng: &mut Rng, edition: u32, surfaces: usize, layers: usize) 
             rng.below(16)
         };
         let count = rng.below(layers + 1);
-        let mut face = valid_face(rng, edition, wavelength, payload as u32, count);
+        let mut face = if custom && layers > 0 && rng.one_in(3) {
+            metal_face(rng, edition, wavelength, payload as u32)
+        } else {
+            valid_face(rng, edition, wavelength, payload as u32, count)
+        };
         face.retune = tunes.then_some(wavelength);
         list.push(face);
     }
@@ -350,7 +447,7 @@ pub fn damaged(rng: &mut Rng) -> Vec<u8> {
     let mut out = plan.write();
     let count = out.words.len();
     let at = rng.below(count);
-    match rng.below(16) {
+    match rng.below(20) {
         0 => {
             let mut bytes = out.bytes();
             bytes.truncate(rng.below(count * 4));
@@ -381,9 +478,13 @@ pub fn damaged(rng: &mut Rng) -> Vec<u8> {
         _ => {
             let kind = rng.pick(&out.kinds);
             let field = kind + 1 + 2 * rng.below(out.floats(kind));
-            let x = match rng.below(3) {
+            let old = u64::from(out.words[field]) << 32 | u64::from(out.words[field + 1]);
+            let x = match rng.below(6) {
                 0 => rng.pick(&CORE),
                 1 => neighbour(rng.pick(&LIMITS[..8]), rng.below(3) as i64 - 1),
+                2 => neighbour(rng.pick(&[0.0625, 8.0, 16.0, 0.0]), rng.below(3) as i64 - 1),
+                // Beside what it was, where a sum or a product may be at its limit.
+                3 | 4 => neighbour(f64::from_bits(old), rng.below(3) as i64 - 1),
                 _ => any(rng),
             };
             out.words[field] = (x.to_bits() >> 32) as u32;

@@ -197,10 +197,11 @@ pub fn push_step(rng: &mut Rng, words: &mut Vec<u64>) {
     step_words(rng, &bytes, words);
 }
 
-/// A wavelength for a retune: near one, at a limit, at or beside a line, or anything at all.
+/// A wavelength for a retune: near one, beside it, at a limit, at or beside a line, or anything at all.
 pub fn tune(rng: &mut Rng, near: f64) -> f64 {
     match rng.below(8) {
-        0..=2 => near * rng.uniform(0.9, 1.1),
+        0 | 1 => near * rng.uniform(0.9, 1.1),
+        2 => neighbour(near, rng.below(5) as i64 - 2),
         3 => neighbour(rng.pick(&[100.0, 10_000.0]), rng.below(3) as i64 - 1),
         4 => any(rng),
         5 => rng.pick(&[f64::NAN, f64::INFINITY, 0.0, -500.0, 99.0]),

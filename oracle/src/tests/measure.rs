@@ -1,6 +1,6 @@
 // `measure`: its surfaces are admitted and of every kind, and what is found of them is sound.
 
-use crate::measure::{admitted, measure};
+use crate::measure::{admitted, measure, metal};
 use crate::sheet::limits;
 use crate::traced::{Count, Of};
 use crate::values::Rng;
@@ -33,7 +33,7 @@ fn surfaces_of_every_kind_are_admitted() {
 
 #[test]
 fn what_is_found_is_sound() {
-    let seen = measure(7, 20_000);
+    let seen = measure(7, 20_000, admitted);
     assert!(seen.sound(), "{}", seen.table());
     assert_eq!(seen.counted(Count::Surfaces), 20_000);
     for never in [
@@ -50,5 +50,25 @@ fn what_is_found_is_sound() {
     assert!(seen.extreme(Of::ProductP) < 4_f64.powi(8) * 1.000001);
     assert!(seen.extreme(Of::ByDenS) > 15.0 / 28.0 * 0.999999);
     assert!(seen.extreme(Of::ByDenP) > 4.0 * 0.999999);
-    assert_eq!(seen.table(), measure(7, 20_000).table());
+    assert_eq!(seen.table(), measure(7, 20_000, admitted).table());
+}
+
+/// Surfaces with layers of metal: their guards never act, and s and p are alike.
+#[test]
+fn metal_films_are_sound() {
+    let seen = measure(7, 20_000, metal);
+    assert!(seen.sound(), "{}", seen.table());
+    for never in [
+        Count::Different,
+        Count::Guard,
+        Count::Total,
+        Count::LeastCos,
+        Count::Reflectance,
+    ] {
+        assert_eq!(seen.counted(never), 0);
+    }
+    assert!(seen.extreme(Of::LayerS) < 8e7);
+    assert!(seen.extreme(Of::ProductS) < 1e12);
+    assert!(seen.extreme(Of::ByDenS) > 3.99);
+    assert_eq!(seen.extreme(Of::ProductS), seen.extreme(Of::ProductP));
 }

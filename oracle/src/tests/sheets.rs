@@ -3,9 +3,9 @@
 use crate::examples::examples;
 use crate::functions::train::actions;
 use crate::sheet::{gate, Layer, Refusal};
-use crate::sheet_cases::{cases, limits};
+use crate::sheet_cases::{cases, limits, metals, IN_ORDER};
 use crate::sheets::{
-    damaged, example, largest, largest_of_two, mixed, retuned, sheet, valid, varied,
+    damaged, example, gilded, largest, largest_of_two, mixed, retuned, sheet, valid, varied,
 };
 use crate::train::{listed, program, retune, run, start, step, Action, State};
 use crate::values::Rng;
@@ -202,7 +202,7 @@ fn grammar() {
 
 #[test]
 fn each_limit_has_two_sides() {
-    for (inside, outside) in limits() {
+    for (inside, outside) in limits().into_iter().chain(metals()) {
         assert!(gate(&inside).is_ok(), "{:?}", refused(&inside));
         assert_eq!(refused(&outside).0, 6);
     }
@@ -219,6 +219,59 @@ fn a_layer_at_fault_has_its_own_word_and_a_preset_its_surfaces() {
     assert_eq!(refused(&plan.bytes()), (6, 8));
     plan.surfaces[0].payload = 0;
     assert_eq!(refused(&plan.bytes()), (0, 1));
+}
+
+/// Slip 12: the word is that of the first layer outside the old limits, of the first surface under neither set.
+#[test]
+fn the_word_of_a_metal_film() {
+    let plan = gilded();
+    assert_eq!(refused(&plan.bytes()), (0, 3));
+    // The surface's second layer is the first outside the old limits; any of its layers may be at fault.
+    let second = 8 + 7 + 7 + 7 + 7;
+    for (layer, field, x) in [
+        (0, 0, 0.06),
+        (1, 1, 8.1),
+        (2, 1, 1e300),
+        (3, 3, 100_001.0),
+        (3, 0, f64::INFINITY),
+        (0, 1, f64::NAN),
+    ] {
+        let mut plan = plan.clone();
+        plan.surfaces[1].layers[layer][field] = x;
+        let word = if layer == 0 { second - 7 } else { second };
+        assert_eq!(refused(&plan.bytes()), (6, word), "{layer} {field} {x}");
+    }
+    let mut plan = plan.clone();
+    plan.surfaces[1].numbers[2] = 1e-3;
+    assert_eq!(refused(&plan.bytes()), (6, second));
+    plan.surfaces[0].layers = vec![plan.surfaces[0].layers[0].clone(); 5];
+    assert_eq!(refused(&plan.bytes()), (6, 8 + 7));
+    plan.surfaces[0].payload = 9;
+    plan.surfaces[0].layers.clear();
+    plan.surfaces[1].numbers[2] = -0.0;
+    assert_eq!(refused(&plan.bytes()), (0, 3));
+}
+
+/// The sum in the order of the list, by hand.
+#[test]
+fn the_sum_in_its_order() {
+    let term = |layer: &[f64; 3]| 2.0 * std::f64::consts::PI * layer[2] / 1000.0 * layer[1];
+    let sum = |from: f64, layer: &[f64; 3]| from + term(layer);
+    assert_eq!(IN_ORDER.iter().fold(0.0, sum), 16.0);
+    assert_eq!(IN_ORDER.iter().rev().fold(0.0, sum), 16.000000000000004);
+}
+
+/// A wavelength set anew is tested on the sum.
+#[test]
+fn a_retune_of_a_metal_film() {
+    let sheet = gate(&gilded().bytes()).expect("admitted");
+    let term = |w: f64| 2.0 * std::f64::consts::PI * 20.0 / w * 8.0;
+    assert!(term(100.0) <= 16.0);
+    assert!(sheet.holds(0, 550.0) && sheet.holds(3, 100.0));
+    let mut plan = gilded();
+    plan.surfaces[0].layers[0][2] = 100.0;
+    let sheet = gate(&plan.bytes()).expect("admitted");
+    assert!(!sheet.holds(0, 300.0) && sheet.holds(1, 300.0) && sheet.holds(0, 400.0));
 }
 
 #[test]
@@ -416,7 +469,7 @@ fn the_examples_have_their_refusals() {
     }
     names.sort();
     names.dedup();
-    assert_eq!(names.len(), 74);
+    assert_eq!(names.len(), 78);
 }
 
 #[test]
