@@ -23,6 +23,7 @@ CUSTOM = 5
 PRESET_INDICES = {2: [1.38], 3: [1.46, 2.3], 4: [2.3, 1.46]}
 DIRECTIONS = ["transmitted", "reflected"]
 MOST_SURFACES, MOST_LAYERS = 64, 16
+MOST_METAL = 4  # layers of a surface with metal films
 
 EDITION_FORM = "edition 1|2"
 BEAM_FORM = "beam NUMBER nm s NUMBER p NUMBER"
@@ -390,6 +391,25 @@ def to_text(sheet):
 
 # ---- refusals in words, document 01's table
 
+def metal_missed(surface, wavelength):
+    """Which limits of metal films (document 02, slip 12) a surface with its layers misses; the gate itself decides."""
+    layers = surface["layers"]
+    if surface["floats"][2] != 0:
+        return ["they are met at angle 0 only"]
+    if len(layers) > MOST_METAL:
+        return [f"at most {MOST_METAL} layers are with them, not {len(layers)}"]
+    said, total = [], 0.0
+    for number_, layer in enumerate(layers, 1):
+        n, k, thickness = index_at(layer, wavelength), 0.0 if is_glass(layer) else layer["floats"][1], layer["floats"][-1]
+        for name, x, low, high in [("n", n, 0.0625, 4), ("k", k, 0, 8), ("the thickness", thickness, 0, 100000)]:
+            if not low <= x <= high:
+                said.append(f"{name} of layer {number_} is {written(x)}, not from {low} to {high}")
+        total += 2 * math.pi * thickness / wavelength * k
+    if not said and not total <= 16:
+        said.append(f"2 pi thickness / wavelength times k adds up to {written(total)}, more than 16")
+    return said
+
+
 def outside(block, surface, wavelength):
     """Which limits of section 3 the numbers miss; the gate itself decides."""
     said = []
@@ -433,6 +453,9 @@ def outside(block, surface, wavelength):
                 said.append(f"k is {written(block['floats'][1])}, not zero")
         within("the thickness", thickness, 0, 100000)
         bends("n", n)
+        missed = metal_missed(surface, wavelength)
+        if missed and (n < 1 or not is_glass(block) and block["floats"][1] != 0):
+            said.append("of metal films, " + ", ".join(missed))
     return "; ".join(said) or "it is outside the limits by less than these figures show"
 
 

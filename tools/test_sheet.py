@@ -106,7 +106,10 @@ REFUSED = [
     (BEAM + "surface bare transmitted from 1 to 5 at 0 rad\n", "refused 6 8: surface 1 (line 2) is outside the gate: the second index is 5, not from 1 to 4"),
     (BEAM + "surface bare transmitted from 1 to 2 at 80 deg\n", "refused 6 8: surface 1 (line 2) is outside the gate: the angle's cosine is 0.17364817766693041, less than 0.25"),
     (BEAM + "surface mgf2 transmitted from 2 to 4 at 45 deg\n", "refused 6 8: surface 1 (line 2) is outside the gate: n_incident times sin is 1.414213562373095, more than 0.875 of the coating's index 1.38, 1.2075"),
-    (BEAM + CUSTOM + LAYER + "layer 1.38 thickness 99 nm k 0.1\n", "refused 6 22: layer 2 of surface 1 (line 4) is outside the gate: k is 0.1, not zero"),
+    (BEAM + CUSTOM.replace("0 rad", "0.1 rad") + LAYER + "layer 1.38 thickness 99 nm k 0.1\n", "refused 6 22: layer 2 of surface 1 (line 4) is outside the gate: k is 0.1, not zero; of metal films, they are met at angle 0 only"),
+    (BEAM + CUSTOM + 4 * LAYER + "layer 1.38 thickness 99 nm k 0.1\n", "refused 6 43: layer 5 of surface 1 (line 7) is outside the gate: k is 0.1, not zero; of metal films, at most 4 layers are with them, not 5"),
+    (BEAM + CUSTOM + LAYER + "layer 0.05 thickness 99 nm\n", "refused 6 22: layer 2 of surface 1 (line 4) is outside the gate: n is 0.05, not from 1 to 4; of metal films, n of layer 2 is 0.05, not from 0.0625 to 4"),
+    (BEAM + CUSTOM + LAYER + "layer 0.5 thickness 500 nm k 4\n", "refused 6 22: layer 2 of surface 1 (line 4) is outside the gate: n is 0.5, not from 1 to 4; k is 4, not zero; of metal films, 2 pi thickness / wavelength times k adds up to 25.132741228718345, more than 16"),
     (BEAM + CUSTOM + GLASS + "glass a 1.5 b 1 c 0 thickness 80 nm\n", "refused 6 24: layer 2 of surface 1 (line 4) is outside the gate: its index at 500 nm is 5.5, not from 1 to 4"),
     (BEAM + CUSTOM + GLASS + "glass a 1.5 b 0x7FF0000000000000 c 0 thickness 80 nm\n", "refused 6 24: layer 2 of surface 1 (line 4) is outside the gate: B is not finite; its index at 500 nm is 0x7FF0000000000000, not from 1 to 4"),
 ]
@@ -176,6 +179,21 @@ class Glasses(unittest.TestCase):
         for name in ("glasses", "doubled"):
             given = EXAMPLES / f"{name}.txt"
             self.assertEqual(tool("losses", str(given), "--program", PROGRAM), (0, (EXAMPLES / f"{name}.losses").read_bytes(), ""))
+
+
+class Metals(unittest.TestCase):
+    """Metal films."""
+
+    def test_the_example(self):
+        given = EXAMPLES / "metals.txt"
+        self.assertEqual(tool("losses", str(given), "--program", PROGRAM), (0, (EXAMPLES / "metals.losses").read_bytes(), ""))
+
+    def test_four_layers_at_either_zero(self):
+        film = "layer 0.0625 thickness 10 nm k 8\n"
+        for angle in ["0 rad", "-0 rad"]:
+            status, printed, _ = losses(BEAM + CUSTOM.replace("0 rad", angle) + 4 * film)
+            self.assertEqual(status, 0)
+            self.assertIn(b"4 layers", printed)
 
 
 class QuarterWaves(unittest.TestCase):
