@@ -253,6 +253,9 @@ module _ (src : List ℕ) (x : Sheet) (is-admitted : gated src ≡ answer x) (fo
           let m : min (count-steps actions) (length xs) ≡ length xs = min-eq-right l in
           omega (arith, from-fresh actions .over (omega arith))
 
+  pub powers-after : (actions : List Action) → Unit-powers (worked-out x actions)
+  powers-after actions = subst Unit-powers (lists actions) (from-fresh actions .powers)
+
   -- ---- the whole run
   module _ (list : List Float) (room : 2 * length xs ≤ length list) where
     ran-whole : run src list ≡ record { result = answer (length xs); list = after-each (fresh x) xs ++ drop (2 * length xs) list }
@@ -274,7 +277,7 @@ module _ (src : List ℕ) (x : Sheet) (is-admitted : gated src ≡ answer x) (fo
     writes-s = λ list room d i h. entry list room d (2 * i) ∙ each-s d (drop (2 * length xs) list) (fresh x) xs i h ∙ ap (λ (ws : List Float). product (value (x .s)) (chosen-s ws xs)) (sym (course-steps xs (suc i) 0 (value (x .wavelength)))) ∙ out-s i;
     writes-p = λ list room d i h. entry list room d (2 * i + 1) ∙ each-p d (drop (2 * length xs) list) (fresh x) xs i h ∙ ap (λ (ws : List Float). product (value (x .p)) (chosen-p ws xs)) (sym (course-steps xs (suc i) 0 (value (x .wavelength)))) ∙ out-p i;
     answers = λ actions. from-fresh actions .answers;
-    finite = λ actions. let u = subst Unit-powers (lists actions) (from-fresh actions .powers) in ((power-finite _ (u .s), power-finite _ (u .p)), sum-finite _ _ (u .s) (u .p));
+    finite = λ actions. let u = powers-after actions in ((power-finite _ (u .s), power-finite _ (u .p)), sum-finite _ _ (u .s) (u .p));
   }
     where
       out-s : (i : ℕ) → product (value (x .s)) (chosen-s (course-of x (steps (suc i)) .met) xs) ≡ worked-out x (steps (suc i)) .s

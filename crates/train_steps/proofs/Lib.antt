@@ -2,3 +2,4 @@
 pub mod Takes
 pub mod Here
 pub mod Written
+pub mod RunAt

@@ -1,17 +1,19 @@
 -- Scaffolding, not to be believed: the powers of a surface by the shorter way that the code goes, and of the SURFACE at a place of some
 -- bytes.
-use mathlib.Core.List.{List, []}
-use Prim.Native.Nat.{ℕ, _+_}
+use mathlib.Core.List.{List, [], _∷_}
+use Prim.Native.Nat.{ℕ, zero, suc, _+_}
 use lib.Ieee.{Float}
 use Rattle.ieee.specs.Operators.{_⊗_}
 use Rattle.thin_film_solver.specs.declared.ThinFilmLayer.{ThinFilmLayer}
 use Rattle.gate_limits.specs.declared.Surface.{Surface}
 use Rattle.surface.specs.Answers.{powers}
-use Rattle.sheet.specs.Internal.{next-place, layer-run, tuning-at, surface-at, layers-at, onto}
+use Rattle.sheet.specs.Sheet.{SheetSurface}
+use Rattle.sheet.specs.Internal.{next-place, place-on, layer-run, tuning-at, surface-at, layers-at, onto, begin}
 use Rattle.sheet_values.specs.Values.{films, surface-value, met-with}
+use Rattle.sheet_values.specs.Internal.{beam-at}
 use Rattle.train_steps.specs.declared.Chosen.{Chosen}
 use Rattle.train_steps.specs.declared.State.{State}
-use Rattle.train_steps.specs.Train.{chosen-of}
+use Rattle.train_steps.specs.Train.{chosen-of, after-one}
 
 -- without Jones and Mueller matrices
 unfoldable pub chosen-alone : Float → Surface → List ThinFilmLayer → Chosen
@@ -28,3 +30,19 @@ moved-at src at st =
     let w = met-with (st .«wavelength_nm») (tuning-at src at) in
     let c = chosen-at src (onto src at) (layer-run 16 src (onto src at)) w in
     record { done = st .done + 1; s = st .s ⊗ c .s; p = st .p ⊗ c .p; «wavelength_nm» = w }
+
+-- after n surfaces, the first of which begins at a place
+unfoldable pub moved-on : ℕ → List ℕ → ℕ → State → State
+moved-on zero src at st = st
+moved-on (suc n) src at st = moved-on n src (place-on src (onto src at) (suc (layer-run 16 src (onto src at)))) (moved-at src at st)
+
+-- after n surfaces from the start, with a wavelength in place of the BEAM's
+unfoldable pub run-at : List ℕ → ℕ → Float → State
+run-at src n wavelength =
+    let b = beam-at src (next-place src 0) in
+    moved-on n src (begin src 0) (record { done = 0; s = b .s; p = b .p; «wavelength_nm» = wavelength })
+
+-- after each of some surfaces
+unfoldable pub after-all : State → List SheetSurface → State
+after-all st [] = st
+after-all st (y ∷ ys) = after-all (after-one st y) ys

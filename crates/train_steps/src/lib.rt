@@ -8,7 +8,7 @@ ghost use Rattle.refusal.specs.Outcome.{answer};
 ghost use Rattle.sheet.specs.Sheet.{Sheet};
 ghost use Rattle.gate.specs.Gate as Gate;
 ghost use Rattle.train_steps.specs.Train.{chosen, fresh, start, outcome, step, retune, after-each, run, sum};
-ghost use Rattle.train_steps.specs.Internal.{chosen-at, moved-at};
+ghost use Rattle.train_steps.specs.Internal.{chosen-at, moved-at, run-at};
 use gate::Gated;
 use refusal::Refusal;
 use sheet_answers::PowersReply;
@@ -182,6 +182,27 @@ fn write_each(src: &[u8], count: usize, list: &mut [f64])
         begin = sheet::place_on(src, at, n + 1);
         i += 1;
     }
+}
+
+// The state after count surfaces from the start, with a wavelength in place of the BEAM's; it gates nothing.
+pub fn run_at(src: &[u8], count: u32, wavelength_nm: f64) -> State
+    ensures { λ r. ⌜ r ≡ run-at (now (src .entry)) count «wavelength_nm» ⌝ }
+{
+    let beam = sheet_values::beam_of(src);
+    let mut state = State {
+        done: 0,
+        s: beam.s,
+        p: beam.p,
+        wavelength_nm,
+    };
+    let mut begin = sheet::begin_of(src, 0);
+    let mut i = 0;
+    while i < count {
+        state = moved_at(src, begin, state);
+        begin = sheet::after_layers(src, sheet::onto(src, begin));
+        i += 1;
+    }
+    state
 }
 
 // A run over the whole sheet from its start: s, p after each surface go to the lent list.

@@ -1,0 +1,16 @@
+-- `band::lines_fit` meets its contract. Assumes nothing.
+use borrow.Author.Tests.{eq-eqb, ne-eqb, le-leb, lt-leb}
+use Rattle.band.proofs.lines_fit.Statement.{statement}
+use Rattle.band.proofs.lines_fit.Tie as tie
+
+returns : tie.Need-returns
+returns c = simp (le-leb _ _ (c .before .if1 .taken), le-leb _ _ (c .if2 .taken))
+
+returns-2 : tie.Need-returns-2
+returns-2 c = simp (le-leb _ _ (c .before .if1 .taken), lt-leb _ _ (c .if2 .left))
+
+returns-3 : tie.Need-returns-3
+returns-3 c = simp (lt-leb _ _ (c .if1 .left))
+
+pub lines-fit-spec : {M : Type 1} → statement M
+lines-fit-spec = tie.close (tie.spec returns returns-2 returns-3)

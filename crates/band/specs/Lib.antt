@@ -1,0 +1,3 @@
+-- A whole band.
+pub mod Band
+pub mod Internal

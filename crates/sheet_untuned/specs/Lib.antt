@@ -1,0 +1,4 @@
+-- Sheets without kind 7.
+pub mod Untuned
+pub mod Claim
+pub mod Internal
