@@ -2,3 +2,5 @@
 pub mod Line
 pub mod Lines
 pub mod Sums
+pub mod Bounds
+pub mod Claim

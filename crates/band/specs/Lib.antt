@@ -1,3 +1,4 @@
 -- A whole band.
 pub mod Band
+pub mod Claim
 pub mod Internal

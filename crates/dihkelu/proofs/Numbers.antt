@@ -37,13 +37,16 @@ use Rattle.c_stack.proofs.Flat.{flat-length}
 use Rattle.c_mueller.specs.Mueller.{converted}
 use Rattle.c_mueller.proofs.Answered.{converted-sound}
 use Rattle.c_stack.proofs.Stacked.{Few, few-layers, few-sound}
+use Rattle.band.specs.Band.{band}
 use Rattle.dihkelu.specs.Train.{went, started, moved, run-done}
 use Rattle.sheet_edition_1.specs.Edition.{to-edition-1}
+use Rattle.dihkelu.specs.Band.{banded}
 use Rattle.dihkelu.specs.Numbers.{Tells, said, Numbers}
 use Rattle.c_call.proofs.Returned.{Sound}
 use Rattle.dihkelu.proofs.Places.{plain-sound, gate-sound}
 use Rattle.dihkelu.proofs.Answered.{answers-sound}
 use Rattle.dihkelu.proofs.Rewritten.{Fine, Small, fine}
+use Rattle.dihkelu.proofs.Band.{band-sound, band-small}
 
 -- ---- one number
 tells-answer : (n : ℕ) → n < 2 ^ 32 → Tells (answer n) n
@@ -199,6 +202,7 @@ numbers = record {
   of-retune = of-retune;
   of-run = of-run;
   of-edition-1 = λ src bytes output. tells-fine (to-edition-1 src output .result) (fine src bytes output);
+  of-band = λ src bytes ws ns list. tells banded (band src ws ns) (band-sound src bytes ws ns) (band-small src bytes ws ns) list;
   of-answers = λ src bytes i list. tells surface-answered (surface-answers src i) (answers-sound src bytes i) (λ a e. answers-small a) list;
   of-evaluate = λ code design n-incident n-substrate angle wavelength flat list.
       let o = evaluate code design n-incident n-substrate angle wavelength flat in

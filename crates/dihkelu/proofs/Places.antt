@@ -73,8 +73,8 @@ starts-below at [] i lt = absurd (omega arith)
 starts-below at (b ∷ bs) zero lt = omega (arith, length-append (b .raw) (flat bs))
 starts-below at (b ∷ bs) (suc i) lt = let h = starts-below (at + suc (length (b .raw))) bs i (omega arith) in omega (arith, length-append (b .raw) (flat bs))
 
-place-below : (x : Sheet) → WellFormed x → (place : ℕ) → FirstOutside x place → place ≤ 9865
-place-below x h place f = omega (arith, f .stands, starts-below 0 (blocks x) (f .block) (f .inside), length-limits x h .1 .0)
+pub place-below : (x : Sheet) → WellFormed x → (place i : ℕ) → i < length (blocks x) → place ≡ getD (places x) i 0 → place ≤ 9865
+place-below x h place i lt e = omega (arith, starts-below 0 (blocks x) i lt, length-limits x h .1 .0)
 
 -- ---- the gate
 module _ (src : List ℕ) (bytes : Bytes src) where
@@ -94,7 +94,7 @@ module _ (src : List ℕ) (bytes : Bytes src) where
   of-case : {o : Outcome Sheet} → Case src o → Sound o
   of-case (short f) = (omega arith, omega arith)
   of-case (broken t place d) = let l = fits t in let w = words-of-length src in (omega arith, omega (arith, faulty src place d))
-  of-case (outside t x d place f) = (omega arith, omega (arith, place-below x (grammar-claim .reads src bytes t x .0 d .0) place f))
+  of-case (outside t x d place f) = (omega arith, omega (arith, place-below x (grammar-claim .reads src bytes t x .0 d .0) place (f .block) (f .inside) (f .stands)))
   of-case (inside t x d h) = tt
 
   pub gate-sound : Sound (gated src)

@@ -26,8 +26,10 @@ use Rattle.c_quarter_waves.specs.Waves.{counted}
 use Rattle.c_call.specs.Call.{Reply, returned, answered}
 use Rattle.c_call.specs.Layout.{evaluated, surface-answered, rows}
 use Rattle.sheet_edition_1.specs.Edition.{to-edition-1}
+use Rattle.band.specs.Band.{band}
 use Rattle.dihkelu.specs.Train.{started, moved, run-done}
 use Rattle.dihkelu.specs.Edition.{rewritten}
+use Rattle.dihkelu.specs.Band.{banded}
 
 -- For an answer the high 32 bits are 0 and the low 32 bits the call's own number; for a refusal they are its number, which is not 0, and
 -- its place.
@@ -56,6 +58,8 @@ pub record Numbers : Type 0 where
   pub of-run : (src : List ℕ) → Bytes src → (list : List Float) → Tells (run src list .result) (run-done (run src list) .returned)
   pub of-edition-1 : (src : List ℕ) → Bytes src → (output : List ℕ) →
       Tells (to-edition-1 src output .result) (rewritten (to-edition-1 src output) .returned)
+  pub of-band : (src : List ℕ) → Bytes src → (wavelengths : List Float) (weights : List ℕ) (list : List Float)
+      → Tells (said banded (band src wavelengths weights) list) (answered banded (band src wavelengths weights) list .returned)
   pub of-answers : (src : List ℕ) → Bytes src → (i : ℕ) (list : List Float) →
       Tells (said surface-answered (surface-answers src i) list) (answered surface-answered (surface-answers src i) list .returned)
   pub of-evaluate : (code : ℕ) (design n-incident n-substrate angle wavelength : Float) (flat list : List Float)

@@ -19,11 +19,14 @@ ghost use Rattle.c_range.specs.Range.{ranged};
 ghost use Rattle.quarter_waves.specs.Waves.{quarter-waves};
 ghost use Rattle.c_quarter_waves.specs.Waves.{counted};
 ghost use Rattle.train_steps.specs.Train.{step, retune, run};
+ghost use Rattle.band.specs.Band.{band};
 ghost use Rattle.sheet_surfaces.specs.Surfaces.{surface-answers};
 ghost use Rattle.dihkelu.specs.Train.{called, state, started, moved, run-done};
 ghost use Rattle.sheet_edition_1.specs.Edition.{to-edition-1};
 ghost use Rattle.dihkelu.specs.Edition.{copied, rewritten};
+ghost use Rattle.dihkelu.specs.Band.{banded};
 ghost use Rattle.dihkelu.specs.Version.{version};
+use band::BandReply;
 use gate::Gated;
 use sheet_edition_1::Rewritten;
 use thin_film_layers::Evaluation;
@@ -265,6 +268,25 @@ pub extern "C" fn dihkelu_edition_1(sheet: &[u8], output: &mut [u8]) -> u64
     match sheet_edition_1::to_edition_1(sheet, output) {
         Rewritten::Length(n) => n as u64,
         Rewritten::Refused(r) => c_call::packed(r),
+    }
+}
+
+// ---- a whole band
+
+// The means of s and of p over the lines of a band, each a wavelength and a weight: writes s, p and returns
+// the count of lines; or a refusal: 4, 5, 6, 12, 15, 16, then 8.
+#[no_mangle]
+pub extern "C" fn dihkelu_band(
+    sheet: &[u8],
+    wavelengths_nm: &[f64],
+    weights: &[u32],
+    list: &mut [f64],
+) -> u64
+    ensures { λ r. ⌜ done r (now (list .exit)) ≡ answered banded (band (now (sheet .entry)) (now («wavelengths_nm» .entry)) (now (weights .entry))) (now (list .entry)) ⌝ }
+{
+    match band::band(sheet, wavelengths_nm, weights) {
+        BandReply::Powers(b) => c_call::put_both(b.lines as u64, b.s, b.p, list),
+        BandReply::Refused(r) => c_call::packed(r),
     }
 }
 

@@ -1,7 +1,7 @@
 -- Demand 1. Assumes nothing.
 use mathlib.Core.Path.{_≡_, refl, sym, ap, _∙_, subst}
 use mathlib.Core.Bool.{Bool, true, false, _&&_, _||_, cond}
-use mathlib.Core.Logic.{_⊎_, inl, ⊎-elim}
+use mathlib.Core.Logic.{_⊎_, inl, inr, ⊎-elim}
 use mathlib.Core.List.{List, [], _∷_, _++_, map as map-list}
 use Prim.Native.Nat.{ℕ, zero, suc, _*_, _≤_, _<_}
 use native.Mathlib.Omega.{arith}
@@ -59,6 +59,13 @@ use Rattle.train_claim.proofs.Claim.{train-claim}
 use Rattle.sheet_edition_1.specs.Edition.{translated, no-tuning, edition-1, Written, written, to-edition-1}
 use Rattle.edition_1_claim.specs.Claim.{FirstTuning}
 use Rattle.edition_1_claim.proofs.Claim.{edition-1-claim}
+use Rattle.sheet_untuned.specs.Untuned.{without-tuning}
+use Rattle.sheet_untuned.specs.Claim.{Untuned, FirstTuning}
+use Rattle.sheet_untuned.proofs.Claim.{untuned-claim}
+use Rattle.band.specs.declared.BandPowers.{BandPowers}
+use Rattle.band.specs.Band.{each-line, tested, powers, band}
+use Rattle.band.specs.Claim as Band
+use Rattle.band.proofs.Claim.{band-claim}
 use Rattle.refusal_claim.specs.Claim.{one-of, Only, Refuses, Sheet, Numbers, at, RefusalClaim}
 
 -- ---- numbers of refusals
@@ -483,6 +490,95 @@ of-nth-layer = record {
   );
 }
 
+-- ---- a band
+abbrev of-bands : List ℕ
+of-bands = 4 ∷ 5 ∷ 6 ∷ 12 ∷ 15 ∷ 16 ∷ []
+
+abbrev colours : Data.Sheet
+colours = train-claim .two .sheet
+
+coloured : Sheet
+coloured = record { src = encode colours; bytes = grammar-claim .fits colours (train-claim .two .formed) .1 }
+
+coloured-admitted : gated (coloured .src) ≡ answer colours
+unfolding coloured
+coloured-admitted = gate-claim .admits (encode colours) (grammar-claim .fits colours (train-claim .two .formed) .1) colours .1 ((train-claim .two .formed, train-claim .two .within), refl)
+
+-- one of its surfaces stands after a kind 7
+kept : (ys : List Data.SheetSurface) → All (λ (y : Data.SheetSurface). y .tuning ≡ Data.keeps) ys → map-list (λ (y : Data.SheetSurface). y .tuning) ys ≡ replicate (length ys) Data.keeps
+kept [] h = refl
+kept (y ∷ ys) h = λ i. h .0 i ∷ kept ys (h .1) i
+
+tuned-not : Untuned colours → ⊥
+tuned-not u = apart (sym (ap (λ (ts : List Data.Tuning). getD ts 11 Data.keeps) (train-claim .two .tunings)) ∙ ap (λ (ts : List Data.Tuning). getD ts 11 Data.keeps) (kept (colours .surfaces) u) ∙ all-kept (length (colours .surfaces)) 11)
+  where
+    all-kept : (n i : ℕ) → getD (replicate n Data.keeps) i Data.keeps ≡ Data.keeps
+    all-kept zero i = refl
+    all-kept (suc n) zero = refl
+    all-kept (suc n) (suc i) = all-kept n i
+
+    is-kept : Data.Tuning → ℕ
+    is-kept Data.keeps = 0
+    is-kept (Data.tunes w) = 1
+
+    apart : Data.tunes 0x4090_0000_0000_0000 ≡ Data.keeps → ⊥
+    apart e = let z : _≡_ {A = ℕ} 1 0 = ap is-kept e in omega arith
+
+twelve : (place : ℕ) × (band (coloured .src) [] [] ≡ refusal 12 place)
+twelve = by (untuned-claim .either colours (train-claim .two .formed))
+  where
+    by : Untuned colours ⊎ ((place : ℕ) × FirstTuning colours place) → (place : ℕ) × (band (coloured .src) [] [] ≡ refusal 12 place)
+    by (inl u) = absurd (tuned-not u)
+    by (inr (place, f)) = (place, band-claim .twelve (coloured .src) colours coloured-admitted place f [] [])
+
+band-only : (x : Data.Sheet) (ws : List Float) (ns : List ℕ) (o : Outcome BandPowers) → Band.Told x ws ns o → Only of-bands o
+band-only x ws ns _ (Band.lists f) = tt
+band-only x ws ns _ (Band.weight l i f) = tt
+band-only x ws ns _ (Band.wavelength l h i f) = tt
+band-only x ws ns _ (Band.passed l h p) = tt
+
+band-of : (x : Sheet) (ws : List Float) (ns : List ℕ) → Only of-bands (band (x .src) ws ns)
+band-of x ws ns = go (gated (x .src)) refl (gated-only (x .src))
+  where
+    go : (o : Outcome Data.Sheet) → gated (x .src) ≡ o → Only (4 ∷ 5 ∷ 6 ∷ []) o → Only of-bands (band (x .src) ws ns)
+    go (refusal number place) g t = subst (Only of-bands) (sym (band-claim .turned-back (x .src) number place g ws ns)) (wider number sheets (12 ∷ 15 ∷ 16 ∷ []) t)
+    go (answer y) g t = by (untuned-claim .either y (gate-claim .admits (x .src) (x .bytes) y .0 g .0 .0))
+      where
+        by : Untuned y ⊎ ((place : ℕ) × FirstTuning y place) → Only of-bands (band (x .src) ws ns)
+        by (inl u) = band-only y ws ns (band (x .src) ws ns) (band-claim .told (x .src) (x .bytes) y g u ws ns)
+        by (inr (place, f)) = subst (Only of-bands) (sym (band-claim .twelve (x .src) y g place f ws ns)) tt
+
+-- a sheet of edition 1 has no kind 7
+whole-untuned : without-tuning (whole .src) ≡ answer panes
+whole-untuned = untuned-claim .taken (whole .src) (whole .bytes) panes admitted (untuned-claim .old panes (train-claim .one .formed) (train-claim .one .edition-is))
+
+on-whole : (ws : List Float) (ns : List ℕ) → band (whole .src) ws ns ≡ map (λ t. powers panes ws ns) (tested panes ws ns)
+unfolding band
+on-whole ws ns = ap (λ o. bind o (λ x. map (λ t. powers x ws ns) (tested x ws ns))) whole-untuned
+
+dark-line : holds nan (panes .surfaces) ≡ false
+unfolding holds within Ieee.le ofBits
+dark-line = refl
+
+sixteen-th : band (whole .src) (nan ∷ []) (1 ∷ []) ≡ refusal 16 0
+unfolding each-line
+sixteen-th = on-whole (nan ∷ []) (1 ∷ []) ∙ rw dark-line
+
+of-band : Refuses (λ (x : Sheet × (List Float × List ℕ)). band (x .0 .src) (x .1 .0) (x .1 .1)) (4 ∷ 5 ∷ 6 ∷ 12 ∷ 15 ∷ 16 ∷ [])
+of-band = record {
+  only = λ x. band-of (x .0) (x .1 .0) (x .1 .1);
+  each = (
+    ((none, ([], [])), (0, band-claim .turned-back (none .src) 4 0 four [] [])),
+    (
+      ((blank, ([], [])), (0, band-claim .turned-back (blank .src) 5 0 five [] [])),
+      (
+        ((unlit, ([], [])), (1, band-claim .turned-back (unlit .src) 6 1 six [] [])),
+        (((coloured, ([], [])), twelve), (((whole, ([], [])), (64, on-whole [] [])), (((whole, (nan ∷ [], 1 ∷ [])), (0, sixteen-th)), tt))),
+      ),
+    ),
+  );
+}
+
 -- ---- quarter waves: lit's wavelength of 1 is too short
 of-quarter-waves : Refuses (λ (x : Numbers). quarter-waves (x .n-incident) (x .n-substrate) (x .wavelength)) (14 ∷ [])
 unfolding quarter-waves Waves.admitted within Ieee.le ofBits
@@ -499,6 +595,7 @@ refusal-claim = record {
   of-retune = of-retune;
   of-run = of-run;
   of-edition-1 = of-edition-1;
+  of-band = of-band;
   of-answers = of-answers;
   of-nth-surface = of-nth-surface;
   of-nth-layer = of-nth-layer;

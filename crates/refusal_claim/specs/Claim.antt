@@ -28,6 +28,7 @@ use Rattle.sheet_edition_1.specs.Edition.{to-edition-1}
 use Rattle.sheet_surfaces.specs.Surfaces.{nth-surface, nth-layer, surface-answers}
 use Rattle.train_steps.specs.declared.State.{State}
 use Rattle.train_steps.specs.Train.{start, step, retune, run}
+use Rattle.band.specs.Band.{band}
 
 abbrev pub one-of : ℕ → List ℕ → Bool
 one-of n [] = false
@@ -66,6 +67,7 @@ pub record RefusalClaim : Type 0 where
   pub of-retune : Refuses (λ (x : Sheet × (State × Float)). retune (x .0 .src) (x .1 .0) (x .1 .1)) (4 ∷ 5 ∷ 6 ∷ 11 ∷ [])
   pub of-run : Refuses (λ (x : Sheet × List Float). run (x .0 .src) (x .1) .result) (4 ∷ 5 ∷ 6 ∷ 8 ∷ [])
   pub of-edition-1 : Refuses (λ (x : Sheet × List ℕ). to-edition-1 (x .0 .src) (x .1) .result) (4 ∷ 5 ∷ 6 ∷ 12 ∷ 8 ∷ [])
+  pub of-band : Refuses (λ (x : Sheet × (List Float × List ℕ)). band (x .0 .src) (x .1 .0) (x .1 .1)) (4 ∷ 5 ∷ 6 ∷ 12 ∷ 15 ∷ 16 ∷ [])
   pub of-answers : Refuses (λ (x : Sheet × ℕ). surface-answers (x .0 .src) (x .1)) (4 ∷ 5 ∷ 6 ∷ 7 ∷ [])
   pub of-nth-surface : Refuses (λ (x : Sheet × ℕ). nth-surface (x .0 .src) (x .1)) (4 ∷ 5 ∷ 6 ∷ 7 ∷ [])
   pub of-nth-layer : Refuses (λ (x : Sheet × (ℕ × ℕ)). nth-layer (x .0 .src) (x .1 .0) (x .1 .1)) (4 ∷ 5 ∷ 6 ∷ 7 ∷ [])
