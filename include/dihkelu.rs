@@ -36,6 +36,16 @@ extern "C" {
         output: *mut u8,
         output_count: usize,
     ) -> u64;
+    fn dihkelu_band(
+        sheet: *const u8,
+        sheet_count: usize,
+        wavelengths_nm: *const f64,
+        wavelengths_count: usize,
+        weights: *const u32,
+        weights_count: usize,
+        list: *mut f64,
+        list_count: usize,
+    ) -> u64;
     fn dihkelu_answers(
         sheet: *const u8,
         sheet_count: usize,
@@ -199,6 +209,31 @@ pub fn run(sheet: &[u8], list: &mut [f64]) -> Result<u32, Refusal> {
 pub fn edition_1(sheet: &[u8], output: &mut [u8]) -> Result<u32, Refusal> {
     let (at, count) = (output.as_mut_ptr(), output.len());
     outcome(unsafe { dihkelu_edition_1(sheet.as_ptr(), sheet.len(), at, count) })
+}
+
+/// The most lines of a band.
+pub const LINES: usize = 64;
+
+/// A whole band, each line a wavelength and a weight: writes the weighed means of s and of p, gives the count of lines.
+pub fn band(
+    sheet: &[u8],
+    wavelengths_nm: &[f64],
+    weights: &[u32],
+    list: &mut [f64],
+) -> Result<u32, Refusal> {
+    let (at, count) = (list.as_mut_ptr(), list.len());
+    outcome(unsafe {
+        dihkelu_band(
+            sheet.as_ptr(),
+            sheet.len(),
+            wavelengths_nm.as_ptr(),
+            wavelengths_nm.len(),
+            weights.as_ptr(),
+            weights.len(),
+            at,
+            count,
+        )
+    })
 }
 
 /// The answers of a surface, counted from 0: gives how many numbers it wrote.

@@ -7,7 +7,7 @@
 
 #include "dihkelu.h"
 
-static uint64_t seed, calls, refusals[15], answers_given;
+static uint64_t seed, calls, refusals[17], answers_given;
 
 static uint64_t draw(void) {
     uint64_t z = (seed += 0x9E3779B97F4A7C15u);
@@ -59,7 +59,7 @@ static void leave(const char *call, List l, uint64_t returned, unsigned may, siz
     calls++;
     uint32_t number = dihkelu_refusal(returned);
     if (number != 0) {
-        if (number > 14 || (may >> number & 1) == 0) wrong(call, "a refusal that it has not", returned);
+        if (number > 16 || (may >> number & 1) == 0) wrong(call, "a refusal that it has not", returned);
         if (memcmp(l.now, l.before, 8 * l.count) != 0) wrong(call, "a list changed by a refusal", returned);
         if (number == 8 && l.count >= written) wrong(call, "8 for a list that is long enough", returned);
         refusals[number]++;
@@ -106,6 +106,36 @@ static void leave_state(const char *call, State *now, State *before, uint64_t re
 }
 
 enum { SHEET = BIT(4) | BIT(5) | BIT(6) };
+
+/* ---- bands of one sheet: any counts, any weights, any wavelengths; one line alone is the run at its wavelength */
+static void band_calls(const uint8_t *sheet, size_t size, uint64_t gate) {
+    uint32_t refused = dihkelu_refusal(gate);
+    for (int i = 0; i < 3; i++) {
+        size_t lines = below(4) ? 1 + below(4) : below(70), count = below(6) ? lines : below(70);
+        double *wavelengths = block(8 * lines);
+        uint32_t *weights = block(4 * count);
+        for (size_t j = 0; j < lines; j++) wavelengths[j] = below(8) ? 400.0 + (double)below(400) : any();
+        for (size_t j = 0; j < count; j++) weights[j] = below(16) ? 1 + (uint32_t)below(1000) : (uint32_t)draw();
+        int fit = lines == count && lines > 0 && lines <= DIHKELU_LINES;
+        List l = lend(below(4)), full = lend(2);
+        uint64_t r = dihkelu_band(sheet, size, wavelengths, lines, weights, count, (double *)l.now, l.count);
+        uint64_t f = dihkelu_band(sheet, size, wavelengths, lines, weights, count, (double *)full.now, 2);
+        uint32_t number = dihkelu_refusal(f), place = dihkelu_place(f);
+        if (refused && f != gate) wrong("band", "another refusal than the gate's", f);
+        if (!refused && number != 12 && !fit && f != (15ull << 32 | 64)) wrong("band", "no 15 with 64", f);
+        if (number == 15 && fit && (place >= count || weights[place] - 1 < 1000)) wrong("band", "15 for a weight that passes", f);
+        if (number == 16 && (!fit || place >= lines)) wrong("band", "16 for no line", f);
+        if (number == 0 && f != lines) wrong("band", "another count of lines", f);
+        if (r != (number == 0 && l.count < 2 ? 8ull << 32 : f)) wrong("band", "another number for another list", r);
+        double *mean = (double *)full.now;
+        if (number == 0 && !(mean[0] >= 0 && mean[0] <= 1 && mean[1] >= 0 && mean[1] <= 1)) wrong("band", "a mean outside 0 to 1", f);
+        unsigned may = refused ? BIT(refused) : BIT(12) | BIT(15) | BIT(16);
+        leave("band", l, r, may | (refused ? 0 : BIT(8)), 2);
+        leave("band", full, f, may, 2);
+        free(wavelengths);
+        free(weights);
+    }
+}
 
 /* ---- every call on one sheet, copied to a block of its own */
 static void sheet_calls(const uint8_t *bytes, size_t size) {
@@ -198,6 +228,7 @@ static void sheet_calls(const uint8_t *bytes, size_t size) {
         free(new_run);
     }
     free(new);
+    band_calls(sheet, size, gate);
     /* a whole run is one step after another */
     if (surfaces) {
         double *run = block(8 * need), at[3];
@@ -375,6 +406,13 @@ static void null_calls(void) {
     expect("edition_1", dihkelu_edition_1(NULL, 0, NULL, 0), four);
     size_t size = build(sheet, 0, -1);
     expect("edition_1", dihkelu_edition_1(sheet, size, NULL, 0), eight);
+    expect("band", dihkelu_band(NULL, 0, NULL, 0, NULL, 0, NULL, 0), four);
+    uint32_t weight = 1;
+    expect("band", dihkelu_band(sheet, size, NULL, 0, NULL, 0, NULL, 0), 15ull << 32 | 64);
+    expect("band", dihkelu_band(sheet, size, &w, 1, NULL, 0, NULL, 0), 15ull << 32 | 64);
+    expect("band", dihkelu_band(sheet, size, NULL, 0, &weight, 1, NULL, 0), 15ull << 32 | 64);
+    expect("band", dihkelu_band(sheet, size, &w, 1, &weight, 1, NULL, 0), eight);
+    expect("band", dihkelu_band(sheet, size, &w, 1, &weight, 1, list, 2), 1);
     expect("start", dihkelu_start(sheet, size, &done, &s, &p, &w), 0);
     expect("run", dihkelu_run(sheet, size, NULL, 0), 0);
     w = 0.0;

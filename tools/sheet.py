@@ -1,5 +1,5 @@
 #!/usr/bin/env python3
-"""Sheets for people: write one from a text, show one as text, its layers in quarter waves, one for programs of edition 1, the losses surface by surface. See docs/SHEETS.md."""
+"""Sheets for people: write one from a text, show one as text, its layers in quarter waves, one for programs of edition 1, the losses surface by surface, a whole band. See docs/SHEETS.md."""
 
 import argparse
 import ctypes
@@ -34,6 +34,8 @@ RETUNE_FORM = "retune to NUMBER nm"
 STACK_FORM = "stack TEXT with H NUMBER L NUMBER [M NUMBER] at NUMBER nm"
 MOST_STACK_NUMBERS = 192
 MOST_EDITION_1 = 30500
+BAND_FORM = "NUMBER nm weight NUMBER"
+MOST_LINES = 64
 
 
 class Wrong(Exception):
@@ -167,6 +169,8 @@ def library():
     found.dihkelu_quarter_waves.restype = ctypes.c_uint64
     found.dihkelu_edition_1.argtypes = [ctypes.c_char_p, size, ctypes.c_char_p, size]
     found.dihkelu_edition_1.restype = ctypes.c_uint64
+    found.dihkelu_band.argtypes = [ctypes.c_char_p, size, at, size, ctypes.POINTER(ctypes.c_uint32), size, at, size]
+    found.dihkelu_band.restype = ctypes.c_uint64
     return found
 
 
@@ -546,6 +550,109 @@ def edition_1(sheet, data):
     return output.raw[:low]
 
 
+# ---- a band
+
+def band_lines(data):
+    """Lines of a band, each a wavelength, a weight and the text's line."""
+    found = []
+    for line, content in lines_of(data):
+        tokens = content.split("#")[0].split()
+        if not tokens:
+            continue
+        try:
+            wavelength, weight = match(tokens, BAND_FORM)
+        except Wrong as wrong:
+            raise Wrong(f"the band's line {line}: {wrong}") from None
+        if not (0 <= weight < 2**32 and weight.is_integer()):
+            raise Wrong(f"the band's line {line}: {written(weight)} is no whole weight")
+        found.append((wavelength, int(weight), line))
+    return found
+
+
+def weighed(sheet, data, lines):
+    """The means of s and of p over these lines, by the proved library."""
+    wavelengths = (ctypes.c_double * len(lines))(*(line[0] for line in lines))
+    weights = (ctypes.c_uint32 * len(lines))(*(line[1] for line in lines))
+    means = (ctypes.c_double * 2)()
+    returned = library().dihkelu_band(data, len(data), wavelengths, len(lines), weights, len(lines), means, 2)
+    refusal, place = returned >> 32, returned & 0xFFFFFFFF
+    if refusal:
+        raise Wrong(f"refused {refusal} {place}: {band_refused(refusal, place, lines, sheet, data)}")
+    return list(means)
+
+
+def band_refused(refusal, place, lines, sheet, data):
+    if refusal == 12:
+        return f"the sheet has a retune, at word {place}; a band has its own wavelengths"
+    if refusal == 15 and place == MOST_LINES:
+        return f"the band has {counted(len(lines), 'line')}; a band has 1 to {MOST_LINES}"
+    if refusal == 15:
+        return f"the band's line {lines[place][2]}: the weight is {lines[place][1]}, not from 1 to 1000"
+    if refusal == 16:
+        wavelength = lines[place][0]
+        why = "a layer of the sheet is outside the gate there" if 100 <= wavelength <= 10000 else "not from 100 to 10000"
+        return f"the band's line {lines[place][2]}: the wavelength is {written(wavelength)} nm; {why}"
+    return explain(refusal, place, sheet, data)
+
+
+def band(sheet, data, lines, plot):
+    """Each line's s and p, and the band's."""
+    mean = weighed(sheet, data, lines)
+    alone = [weighed(sheet, data, [(wavelength, 1, line)]) for wavelength, _, line in lines]
+    rows = [["line", "nm", "weight", "s", "p", "sum"]]
+    for count, ((wavelength, weight, _), (s, p)) in enumerate(zip(lines, alone)):
+        rows.append([str(count), written(wavelength), str(weight), f"{s:.6f}", f"{p:.6f}", f"{s + p:.6f}"])
+    widths = [max(len(row[i]) for row in rows) for i in range(len(rows[0]))]
+    text = "".join("  ".join(cell.rjust(width) for cell, width in zip(row, widths)) + "\n" for row in rows)
+    if plot:
+        save(plot, drawing(lines, alone, mean))
+    total = sum(weight for _, weight, _ in lines)
+    return text + f"band of {counted(len(lines), 'line')}, weights {total} in all: s {mean[0]:.6g}, p {mean[1]:.6g}, sum {mean[0] + mean[1]:.6g}\n"
+
+
+def drawing(lines, alone, mean):
+    """An SVG: s and p of each line over its wavelength, the weights as bars, the band's means as dashed lines."""
+    low, high = min(line[0] for line in lines), max(line[0] for line in lines)
+    middle, span = (low + high) / 2, max(high - low, 1.0) * 1.1
+    left, top, width, height = 60, 20, 640, 320
+
+    def across(wavelength):
+        return left + width * (0.5 + (wavelength - middle) / span)
+
+    def up(power):
+        return top + height * (1 - power)
+
+    parts = [f'<svg xmlns="http://www.w3.org/2000/svg" width="{left + width + 90}" height="{top + height + 50}" font-family="sans-serif" font-size="12">',
+             '<rect width="100%" height="100%" fill="white"/>']
+    for tick in range(6):
+        y = up(tick / 5)
+        parts.append(f'<path d="M{left} {y:.1f}H{left + width}" stroke="#ddd"/><text x="{left - 8}" y="{y + 4:.1f}" text-anchor="end">{tick / 5:.1f}</text>')
+    for tick in range(5):
+        wavelength = middle + span * (tick / 4 - 0.5)
+        parts.append(f'<text x="{across(wavelength):.1f}" y="{top + height + 18}" text-anchor="middle">{wavelength:.4g}</text>')
+    parts.append(f'<text x="{left + width / 2}" y="{top + height + 38}" text-anchor="middle">wavelength, nm</text>')
+    heaviest = max(weight for _, weight, _ in lines)
+    for wavelength, weight, _ in lines:
+        tall = height * 0.25 * weight / heaviest
+        parts.append(f'<rect x="{across(wavelength) - 2:.1f}" y="{top + height - tall:.1f}" width="4" height="{tall:.1f}" fill="#ccc"/>')
+    for power, (name, colour) in enumerate([("s", "#06c"), ("p", "#c30")]):
+        points = sorted((wavelength, one[power]) for (wavelength, _, _), one in zip(lines, alone))
+        path = " ".join(f"{across(x):.1f},{up(y):.1f}" for x, y in points)
+        parts.append(f'<polyline points="{path}" fill="none" stroke="{colour}"/>')
+        parts.extend(f'<circle cx="{across(x):.1f}" cy="{up(y):.1f}" r="3" fill="{colour}"/>' for x, y in points)
+        y = up(mean[power])
+        parts.append(f'<path d="M{left} {y:.1f}H{left + width}" stroke="{colour}" stroke-dasharray="6 4"/>')
+        parts.append(f'<text x="{left + width + 6}" y="{y + 4 + 14 * power:.1f}" fill="{colour}">{name} {mean[power]:.4f}</text>')
+    return ("\n".join(parts) + "\n</svg>\n").encode()
+
+
+def save(name, data):
+    try:
+        Path(name).write_bytes(data)
+    except OSError as error:
+        raise Wrong(f"{name} cannot be written: {error.strerror}") from None
+
+
 # ---- losses
 
 def percent(part, whole):
@@ -673,9 +780,9 @@ def emit(data):
         raise Wrong(f"the output cannot be written: {error.strerror}") from None
 
 
-def execute(command, name, program):
+def execute(given):
     """What the command prints, and the sheet it is about."""
-    data = load(name)
+    command, data = given.command, load(given.file)
     if command == "show":
         sheet = from_bytes(data)
         return to_text(sheet).encode(), sheet
@@ -685,6 +792,9 @@ def execute(command, name, program):
     if command == "quarter-waves":
         sheet = from_text(data) if is_text(data) else from_bytes(data)
         return quarter_waves(sheet).encode(), sheet
+    if command == "band":
+        sheet = from_text(data) if is_text(data) else from_bytes(data)
+        return band(sheet, sheet.bytes() if is_text(data) else data, band_lines(load(given.lines)), given.plot).encode(), sheet
     if is_text(data):
         sheet = from_text(data)
         data = sheet.bytes()
@@ -695,7 +805,7 @@ def execute(command, name, program):
             sheet = None  # the program says why
     if command == "edition1":
         return edition_1(sheet, data), sheet
-    return losses(sheet, data, program).encode(), sheet
+    return losses(sheet, data, given.program).encode(), sheet
 
 
 def words_of(text):
@@ -712,18 +822,21 @@ def arguments():
     parser = argparse.ArgumentParser(description=__doc__)
     parser.add_argument("--version", action="version", version=f"%(prog)s {VERSION}")
     commands = parser.add_subparsers(dest="command", required=True, metavar="COMMAND")
-    for command, about in [("write", "writes a text's sheet to standard output"), ("show", "prints a sheet as a text"), ("quarter-waves", "prints the layers of a sheet or text in quarter waves"), ("edition1", "writes the edition 1 sheet of a sheet or text to standard output"), ("losses", "prints what each surface of a sheet or text loses")]:
+    for command, about in [("write", "writes a text's sheet to standard output"), ("show", "prints a sheet as a text"), ("quarter-waves", "prints the layers of a sheet or text in quarter waves"), ("edition1", "writes the edition 1 sheet of a sheet or text to standard output"), ("losses", "prints what each surface of a sheet or text loses"), ("band", "prints the s and p of a sheet or text at each line of a band, and their weighed means")]:
         one = commands.add_parser(command, help=about, description=about)
         one.add_argument("file", metavar="FILE", help="a file, or - for standard input")
         if command == "losses":
             one.add_argument("--program", type=words_of, metavar="COMMAND", help="what to run in the place of tools/run train")
+        if command == "band":
+            one.add_argument("lines", metavar="LINES", help=f"a file of lines, each {BAND_FORM}")
+            one.add_argument("--plot", metavar="FILE.svg", help="draws the band there too")
     return parser
 
 
 def main(words):
     given = arguments().parse_args(words)
     try:
-        printed, sheet = execute(given.command, given.file, getattr(given, "program", None))
+        printed, sheet = execute(given)
         for hint in hints(sheet):
             print(f"{given.file}: hint: {hint}", file=sys.stderr)
         emit(printed)

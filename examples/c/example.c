@@ -79,6 +79,13 @@ int main(void) {
     answered("run", dihkelu_run(sheet, sizeof sheet, run, 2 * 64));
     printf("run %016" PRIX64 " %016" PRIX64 "\n", bits(run[0]), bits(run[1]));
 
+    static const double lines[3] = {500.0, 550.0, 600.0};
+    static const uint32_t weights[3] = {1, 2, 1};
+    double band[2];
+    uint32_t count = answered("band", dihkelu_band(sheet, sizeof sheet, lines, 3, weights, 3, band, 2));
+    printf("band of %" PRIu32 " lines %016" PRIX64 " %016" PRIX64 "\n", count, bits(band[0]), bits(band[1]));
+    print_refusal("band", dihkelu_band(sheet, sizeof sheet, lines, 3, weights, 2, band, 2));
+
     double response[DIHKELU_RESPONSE];
     answered("evaluate", dihkelu_evaluate(2, 550.0, 1.0, 1.5, 0.0, 550.0, NULL, 0, response, DIHKELU_RESPONSE));
     printf("MgF2 R_s %g T_s %g\n", response[8], response[10]);

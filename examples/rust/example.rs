@@ -49,6 +49,14 @@ fn main() -> Result<(), Refusal> {
     run(&sheet, &mut powers)?;
     println!("run {:016X} {:016X}", powers[0].to_bits(), powers[1].to_bits());
 
+    let mut means = [0.0; 2];
+    let lines = [500.0, 550.0, 600.0];
+    let count = band(&sheet, &lines, &[1, 2, 1], &mut means)?;
+    println!("band of {count} lines {:016X} {:016X}", means[0].to_bits(), means[1].to_bits());
+    if let Err(refusal) = band(&sheet, &lines, &[1, 2], &mut means) {
+        println!("band: refused {} {}", refusal.number, refusal.place);
+    }
+
     let mut response = [0.0; RESPONSE];
     evaluate(2, 550.0, [1.0, 1.5, 0.0, 550.0], &[], &mut response)?;
     println!("MgF2 R_s {} T_s {}", response[8], response[10]);

@@ -1,5 +1,6 @@
 // Arguments of the recorded functions: what each may be, and random choices.
 
+use crate::band;
 use crate::functions::{born_wolf, edition_1, exports, names, quarter_waves, shorthand, train};
 use crate::ranges;
 use crate::section2::{PI, T};
@@ -66,6 +67,8 @@ pub enum Arg {
     Answers,
     /// A count of actions, each of them, then a sheet.
     Actions,
+    /// Counts of wavelengths and of weights, each of these, then a sheet.
+    Band,
     /// The length of a list that holds two numbers.
     Pair,
     /// The length of a list that holds a response or a surface's answers.
@@ -212,6 +215,7 @@ impl Arg {
             Arg::Answers => train::push_answers(rng, words),
             Arg::Retune => train::push_retune(rng, words),
             Arg::Actions => train::push_actions(rng, words),
+            Arg::Band => band::push_band(rng, words),
             Arg::Pair => words.push(rng.pick(&[0, 1, 2, 2, 2, 3])),
             Arg::Room => words.push(rng.pick(&exports::ROOMS)),
             Arg::StackRoom if rng.one_in(2) => words.push(200),

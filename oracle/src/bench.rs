@@ -73,6 +73,24 @@ macro_rules! side {
                 s + p
             }
 
+            /// Gate once, and the weighed mean over runs at each line.
+            fn band(bytes: &[u8], wavelengths: &[f64], weights: &[u32]) -> f64 {
+                let Ok(sheet) = gate(bytes) else { return 0.0 };
+                let (mut all_s, mut all_p, mut whole) = (0.0, 0.0, 0);
+                for (wavelength, weight) in wavelengths.iter().zip(weights) {
+                    let (mut s, mut p) = (sheet.s, sheet.p);
+                    for surface in &sheet.surfaces {
+                        let [rs, rp, ts, tp] = answer(surface, *wavelength);
+                        s *= if surface.reflected { rs } else { ts };
+                        p *= if surface.reflected { rp } else { tp };
+                    }
+                    all_s += f64::from(*weight) * s;
+                    all_p += f64::from(*weight) * p;
+                    whole += weight;
+                }
+                (all_s + all_p) / f64::from(whole)
+            }
+
             /// A step onto the last surface: the gate anew, then that surface.
             fn last_step(bytes: &[u8]) -> f64 {
                 let Ok(sheet) = gate(bytes) else { return 0.0 };
@@ -121,6 +139,8 @@ macro_rules! side {
                 for text in super::stack_texts() {
                     works.push(Box::new(move || super::read_stack(text)));
                 }
+                let (sheet, wavelengths, weights) = super::longest_band();
+                works.push(Box::new(move || band(&sheet, &wavelengths, &weights)));
                 works.into_iter().map(Some).collect()
             }
         }
@@ -131,7 +151,7 @@ side!(authors, f64::cos);
 side!(reference, crate::section2::cos);
 
 /// The workloads, with the number of calls in each.
-pub const WORKS: [(&str, usize); 20] = [
+pub const WORKS: [(&str, usize); 21] = [
     ("bare surface, the two powers alone", 64),
     ("MgF2", 64),
     ("15-layer mirror", 64),
@@ -152,6 +172,7 @@ pub const WORKS: [(&str, usize); 20] = [
     ("step, 1 bare surface", 1),
     ("stack shorthand, (HL)^7 H", 1),
     ("stack shorthand, 255 bytes of 64 layers", 1),
+    ("band, a line of 64, of 64 surfaces of 16 layers", 64),
 ];
 
 /// Sheets of so many surfaces with so many layers each; without layers they are bare. The last is of edition 2.
@@ -180,6 +201,12 @@ pub fn step_sheets() -> Vec<Vec<u8>> {
     [(1, 16), (64, 16), (1, 0)]
         .map(|(surfaces, layers)| even(surfaces, layers).bytes())
         .to_vec()
+}
+
+/// 64 lines and the longest sheet of LAYERs.
+pub fn longest_band() -> (Vec<u8>, Vec<f64>, Vec<u32>) {
+    let lines = (0..64).map(|i| 400.0 + 5.0 * f64::from(i)).collect();
+    (even(64, 16).bytes(), lines, (1..=64).collect())
 }
 
 /// The indices of H, L and M.

@@ -1,6 +1,7 @@
 // The fixed cases of the recorded functions: special values in every argument, and usual ones together.
 
 use crate::arguments::{Arg, Style};
+use crate::band;
 use crate::functions::{born_wolf, edition_1, exports, names, quarter_waves, shorthand, train};
 use crate::section2::PI;
 use crate::values::{neighbour, specials, Rng, CORE};
@@ -52,6 +53,7 @@ impl Arg {
             Arg::Answers => train::answers_cases(),
             Arg::Retune => train::retune_cases(),
             Arg::Actions => train::actions_cases(),
+            Arg::Band => band::cases(),
             Arg::Pair => single(&[0, 1, 2, 3]),
             Arg::Room => single(&exports::ROOMS),
             Arg::StackRoom => single(&exports::STACK_ROOMS),

@@ -2,6 +2,7 @@
 // against `sheet` and `train`, with what a refusal leaves in what was lent.
 
 use crate::arguments::{random, Arg};
+use crate::band;
 use crate::dihkelu;
 use crate::functions::born_wolf::to_mueller_born_wolf;
 use crate::functions::edition_1::{edition_1, need, written};
@@ -74,6 +75,10 @@ pub fn linked_edition_1(sheet: &[u8], output: &mut [u8]) -> u64 {
 
 pub fn linked_answers(sheet: &[u8], surface: u32, list: &mut [f64]) -> u64 {
     returned(dihkelu::answers(sheet, surface, list))
+}
+
+pub fn linked_band(sheet: &[u8], wavelengths: &[f64], weights: &[u32], list: &mut [f64]) -> u64 {
+    returned(dihkelu::band(sheet, wavelengths, weights, list))
 }
 
 /// `at` is n_incident, n_substrate, angle, wavelength.
@@ -443,6 +448,35 @@ pub fn compare_edition_1(seed: u64, count: u64, spoiled: Option<u64>) -> (u64, u
         progress.step();
     }
     (calls, different, became)
+}
+
+/// Holds `dihkelu_band` against the slip's words on `count` bands. Returns how many lines they have, how many bands are
+/// answered and how many differ, or have a mean outside 0 to 1.
+pub fn compare_bands(seed: u64, count: u64, spoiled: Option<u64>) -> [u64; 3] {
+    let mut rng = Rng::new(seed);
+    let mut progress = Progress::new("bands", count);
+    let [mut lines, mut answered, mut different] = [0; 3];
+    for made in 0..count {
+        let (bytes, wavelengths, weights) = band::random(&mut rng);
+        let room = rng.pick(&[0, 1, 2, 2, 2, 2, 3]);
+        let mut list = filled(room);
+        let returned = linked_band(&bytes, &wavelengths, &weights, &mut list);
+        let means = band::band(&bytes, &wavelengths, &weights);
+        let within = means.map_or(true, |m| m.iter().all(|x| (0.0..=1.0).contains(x)));
+        answered += u64::from(means.is_ok());
+        lines += wavelengths.len() as u64;
+        let answer = means.map(|m| (wavelengths.len() as u64, m.to_vec()));
+        let (number, written) = expected(answer, room);
+        let number = number ^ u64::from(spoiled == Some(made));
+        if !left(returned, number, &list, &written) || !within {
+            if different == 0 {
+                println!("band: sheet {bytes:02X?}, {wavelengths:?}, {weights:?}, returned {returned:X}, not {number:X}, left {list:?}");
+            }
+            different += 1;
+        }
+        progress.step();
+    }
+    [lines, answered, different]
 }
 
 /// Holds `dihkelu_quarter_waves` against whole numbers on these films. Returns how many there are and how many differ.

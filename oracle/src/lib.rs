@@ -3,6 +3,7 @@
 #![allow(clippy::manual_is_multiple_of)]
 
 pub mod arguments;
+pub mod band;
 pub mod bench;
 pub mod cases;
 #[cfg(feature = "proved")]

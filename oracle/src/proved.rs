@@ -106,6 +106,12 @@ fn evaluations() -> Vec<Option<Work>> {
         }))
     };
     works.extend(crate::bench::stack_texts().into_iter().map(stack));
+    let (sheet, wavelengths, weights) = crate::bench::longest_band();
+    works.push(Some(Box::new(move || {
+        let mut list = [0.0; 2];
+        crate::exports::linked_band(&sheet, &wavelengths, &weights, &mut list);
+        list[0] + list[1]
+    })));
     works
 }
 
@@ -224,6 +230,9 @@ pub fn compare(seed: u64, count: u64, spoiled: Option<u64>) -> Option<bool> {
         let (calls, different, became) = crate::exports::compare_edition_1(seed, sheets, spoiled);
         all_agree &= agree("edition 1", sheets, different, " sheets");
         println!("  in {calls} calls; {became} sheets of edition 2 became edition 1");
+        let [lines, answered, different] = crate::exports::compare_bands(seed, sheets, spoiled);
+        all_agree &= agree("band", sheets, different, " bands");
+        println!("  in {lines} lines, {answered} bands answered");
     }
     Some(all_agree)
 }

@@ -1,4 +1,4 @@
-// The functions 180 to 198, the exports, and 155, which is one of them too. Each gives what a call returns and all of the list, of the state or of the output that it
+// The functions 180 to 198 and 205, the exports, and 155, which is one of them too. Each gives what a call returns and all of the list, of the state or of the output that it
 // was lent, in so many words; none where it is not one of these or its list is too long to lend.
 
 // What a call returned, and the first n numbers of the list; the words behind them do not count.
@@ -226,6 +226,49 @@ fn quarter_waves_call(a: &[u8], out: &mut [u64; 256]) -> usize {
     2
 }
 
+// So many wavelengths, the first of which is the fourth word of the record.
+fn wavelengths_at(a: &[u8]) -> [f64; 66] {
+    let mut wavelengths = [0.0f64; 66];
+    let mut i = 0;
+    while i < 66 {
+        wavelengths[i] = test_records::float_at(a, i + 3);
+        i += 1;
+    }
+    wavelengths
+}
+
+// So many weights, the first of which is at a word of the record.
+fn weights_at(a: &[u8], from: u32) -> [u32; 66] {
+    let mut weights = [0u32; 66];
+    let mut i = 0;
+    while i < 66 {
+        weights[i] = test_records::small_at(a, from as usize + i);
+        i += 1;
+    }
+    weights
+}
+
+fn band_call(n: usize, lines: u32, a: &[u8], out: &mut [u64; 256]) -> usize {
+    let mut list = [-7.25f64; 200];
+    let count = test_records::small_at(a, 2);
+    if n > 200 {
+        return 0;
+    }
+    if lines > 66 {
+        return 0;
+    }
+    if count > 66 {
+        return 0;
+    }
+    let wavelengths = wavelengths_at(a);
+    let weights = weights_at(a, lines + 3);
+    let src = test_records::bytes_at(a, (lines + count + 3) as usize);
+    let m = lines as usize;
+    let k = count as usize;
+    let number = dihkelu::dihkelu_band(src, &wavelengths[..m], &weights[..k], &mut list[..n]);
+    returned(out, number, &list, n)
+}
+
 fn float_out(out: &mut [u64; 256], x: f64) -> usize {
     out[0] = test_records::bits(x);
     1
@@ -259,6 +302,7 @@ pub fn call(f: usize, a: &[u8], out: &mut [u64; 256]) -> usize {
         ),
         197 => retune_call(a, out),
         198 => edition_1_call(n, test_records::bytes_at(a, 1), out),
+        205 => band_call(n, done, a, out),
         _ => 0,
     }
 }

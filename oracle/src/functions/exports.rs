@@ -3,6 +3,7 @@
 
 use crate::arguments::Arg::{self, *};
 use crate::arguments::Style;
+use crate::band::band;
 use crate::functions::born_wolf::to_mueller_born_wolf;
 use crate::functions::thin_film::surface_coating;
 use crate::functions::train::state_of;
@@ -313,6 +314,13 @@ pub fn table() -> Vec<Function> {
             let state = state_of(a);
             let next = retune(&a.bytes(), state, wavelength);
             leave_state(r, next.map(|next| (next.done, next)), state);
+        }),
+        export(205, "dihkelu_band", &[Pair, Band], 2, |a, r| {
+            let (room, lines, weights) = (a.int(), a.int(), a.int());
+            let wavelengths: Vec<f64> = (0..lines).map(|_| a.float()).collect();
+            let weights: Vec<u32> = (0..weights).map(|_| a.int() as u32).collect();
+            let means = band(&a.bytes(), &wavelengths, &weights);
+            leave(r, room, means.map(|means| (lines, means.to_vec())));
         }),
     ]
 }
