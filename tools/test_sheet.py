@@ -196,6 +196,52 @@ class Metals(unittest.TestCase):
             self.assertIn(b"4 layers", printed)
 
 
+class Band(unittest.TestCase):
+    """A whole band, computed by the proved library."""
+
+    def setUp(self):
+        if not (ROOT / "target" / "staticlib" / "libdihkelu.so").exists():
+            self.skipTest("the library is not built; run: tools/library")
+
+    def band(self, sheet, lines, *more):
+        with tempfile.NamedTemporaryFile("w", suffix=".lines") as file:
+            file.write(lines)
+            file.flush()
+            return tool("band", "-", file.name, *more, given=sheet)
+
+    def test_the_example(self):
+        table = (0, (EXAMPLES / "window.band").read_bytes(), "")
+        for name in ["window.txt", "window.sheet"]:
+            self.assertEqual(tool("band", str(EXAMPLES / name), str(EXAMPLES / "daylight.lines")), table)
+
+    def test_the_known_answer(self):
+        status, out, _ = self.band(KNOWN_TEXT, "500 nm weight 7 # one\n\n600 nm weight 1000\n")
+        self.assertEqual((status, out.split(b"\n")[-2]), (0, b"band of 2 lines, weights 1007 in all: s 0.375, p 0.375, sum 0.75"))
+
+    def test_plot(self):
+        with tempfile.TemporaryDirectory() as directory:
+            name = Path(directory) / "band.svg"
+            self.assertEqual(self.band(KNOWN_TEXT, "500 nm weight 7\n", "--plot", str(name))[0], 0)
+            self.assertTrue(name.read_text().startswith("<svg ") and name.read_text().endswith("</svg>\n"))
+            status, _, said = self.band(KNOWN_TEXT, "500 nm weight 7\n", "--plot", str(Path(directory) / "none" / "x.svg"))
+            self.assertEqual((status, said.endswith("cannot be written: No such file or directory\n")), (1, True))
+
+    def test_refusals_in_words(self):
+        glass = BEAM + CUSTOM + GLASS
+        for sheet, lines, said in [
+            (KNOWN_TEXT, "", "refused 15 64: the band has 0 lines; a band has 1 to 64"),
+            (KNOWN_TEXT, 65 * "500 nm weight 1\n", "refused 15 64: the band has 65 lines; a band has 1 to 64"),
+            (KNOWN_TEXT, "99 nm weight 1\n500 nm weight 0\n", "refused 15 1: the band's line 2: the weight is 0, not from 1 to 1000"),
+            (KNOWN_TEXT, "500 nm weight 1\n99 nm weight 1\n", "refused 16 1: the band's line 2: the wavelength is 99 nm; not from 100 to 10000"),
+            (glass.replace("0.0042", "0.2"), "500 nm weight 1\n\n100 nm weight 1\n", "refused 16 1: the band's line 3: the wavelength is 100 nm; a layer of the sheet is outside the gate there"),
+            (BEAM + "retune to 600 nm\n" + CUSTOM, "500 nm weight 1\n", "refused 12 8: the sheet has a retune, at word 8; a band has its own wavelengths"),
+            ("beam 99 nm s 1 p 1\n", "500 nm weight 1\n", "refused 6 1: the beam (line 1) is outside the gate: the wavelength is 99, not from 100 to 10000"),
+            (KNOWN_TEXT, "500 nm\n", "the band's line 1: the line ends where weight should stand: NUMBER nm weight NUMBER"),
+            (KNOWN_TEXT, "500 nm weight 1.5\n", "the band's line 1: 1.5 is no whole weight"),
+        ]:
+            self.assertEqual(self.band(sheet, lines), (1, b"", f"-: {said}\n"))
+
+
 class QuarterWaves(unittest.TestCase):
     """Layers in quarter waves, counted by the proved library."""
 
