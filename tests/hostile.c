@@ -107,7 +107,7 @@ static void leave_state(const char *call, State *now, State *before, uint64_t re
 
 enum { SHEET = BIT(4) | BIT(5) | BIT(6) };
 
-/* ---- bands of one sheet: any counts, any weights, any wavelengths; one line alone is the run at its wavelength */
+/* ---- bands of one sheet: any counts, any weights, any wavelengths; no mean is outside 0 to 1 */
 static void band_calls(const uint8_t *sheet, size_t size, uint64_t gate) {
     uint32_t refused = dihkelu_refusal(gate);
     for (int i = 0; i < 3; i++) {
@@ -498,7 +498,7 @@ int main(int count, char **words) {
 
     printf("hostile: seed %s, %" PRIu64 " calls, %" PRIu64 " answered; refused", count > 1 ? words[1] : "1", calls, answers_given);
     const char *before = " ";
-    for (int i = 1; i < 15; i++) {
+    for (int i = 1; i < 17; i++) {
         if (refusals[i] == 0) continue;
         printf("%s%d: %" PRIu64, before, i, refusals[i]);
         before = ", ";

@@ -5,7 +5,7 @@
 mod dihkelu;
 
 use dihkelu::{
-    answers, edition_1, environment_ok, evaluate, gate, mueller_born_wolf, quarter_waves, retune, run, stack, start, step, to_mueller,
+    answers, band, edition_1, environment_ok, evaluate, gate, mueller_born_wolf, quarter_waves, retune, run, stack, start, step, to_mueller,
     version, Refusal, Train, COATED, EDITION_1, MUELLER, RESPONSE, STACK, VERSION,
 };
 

@@ -1,5 +1,6 @@
 // 01's example and edges, each limit of the gate, and the train over random sheets.
 
+use crate::band::{at_wavelength, band, random as random_band};
 use crate::examples::examples;
 use crate::functions::train::actions;
 use crate::sheet::{gate, Layer, Refusal};
@@ -431,6 +432,47 @@ fn elevens() {
     }
     assert_eq!(number(step(&[], state(9, f64::NAN))), 4);
     assert_eq!(number(retune(&[], state(9, f64::NAN), 0.0)), 4);
+}
+
+/// By hand: 3/8 at every line of 01's example, the refusals in their order, and a BEAM of -0.
+#[test]
+fn bands_by_hand() {
+    let plain = example().bytes();
+    let means = band(&plain, &[500.0, 700.0], &[1, 1000]);
+    assert_eq!(means, Ok([0.375, 0.375]));
+    let refused = |bytes: &[u8], wavelengths: &[f64], weights: &[u32]| {
+        let refusal = band(bytes, wavelengths, weights).expect_err("refused");
+        (refusal.number, refusal.place)
+    };
+    assert_eq!(refused(&[], &[], &[]), (4, 0));
+    assert_eq!(refused(&retuned().bytes(), &[], &[]).0, 12);
+    assert_eq!(refused(&plain, &[], &[]), (15, 64));
+    assert_eq!(refused(&plain, &[f64::NAN], &[0, 0]), (15, 64));
+    assert_eq!(refused(&plain, &[500.0; 65], &[1; 65]), (15, 64));
+    assert_eq!(refused(&plain, &[f64::NAN, 500.0], &[1, 1001]), (15, 1));
+    assert_eq!(refused(&plain, &[500.0, 99.0], &[1, 1]), (16, 1));
+    let mut none = example();
+    none.surfaces.clear();
+    none.beam = [500.0, -0.0, 1.0];
+    let means = band(&none.bytes(), &[500.0], &[3]).expect("answered");
+    assert_eq!(means.map(f64::to_bits), [0.0, 1.0].map(f64::to_bits));
+}
+
+/// What is judged by the gate of the sheet with a line's wavelength is what slip 5 tests of it.
+#[test]
+fn a_line_passes_where_the_gate_says_so() {
+    let mut rng = Rng::new(41);
+    let mut met = [0; 17];
+    for _ in 0..600 {
+        let (bytes, wavelengths, weights) = random_band(&mut rng);
+        met[band(&bytes, &wavelengths, &weights).map_or_else(|r| r.number, |_| 0) as usize] += 1;
+        let Ok(sheet) = gate(&bytes) else { continue };
+        for wavelength in wavelengths {
+            let admitted = gate(&at_wavelength(&bytes, wavelength)).is_ok();
+            assert_eq!(admitted, sheet.holds(0, wavelength));
+        }
+    }
+    assert!([0, 4, 5, 6, 12, 15, 16].iter().all(|n| met[*n] > 0));
 }
 
 /// The list as a whole is one call after another.
