@@ -3,13 +3,13 @@ use mathlib.Core.Path.{_≡_, refl, sym, ap, _∙_, subst}
 use mathlib.Core.Bool.{Bool, true, false, _&&_, cond}
 use mathlib.Core.Logic.{_⊎_, inl, inr}
 use mathlib.Core.List.{List, [], _∷_}
-use Prim.Native.Nat.{ℕ, zero, suc, _+_, _^_, _≤_, _<_}
+use Prim.Native.Nat.{ℕ, zero, suc, _+_, _≤_, _<_}
 use native.Mathlib.Nat.{zero-add}
 use native.Mathlib.Omega.{arith}
 use lib.Dec.{T, eqb, leb, eqb→eq, eqb-refl, leb→le, le→leb}
 use lib.ListN.{length, getD}
 use lib.Ieee.{Float, nan, binary64, fits, toBits}
-use lib.Ieee.Bits.{ofBits-toBits, toBits-lt, is-true}
+use lib.Ieee.Bits.{ofBits-toBits, toBits-lt}
 use Rattle.ieee.proofs.Signs.{of-true}
 use Rattle.ieee.proofs.Range.Falls as Falls
 use Rattle.ieee.proofs.Range.Falls.{zero-to-one}
@@ -28,9 +28,8 @@ use Rattle.gate.proofs.Claim.{gate-claim}
 use Rattle.sheet_untuned.specs.Untuned.{without-tuning}
 use Rattle.sheet_untuned.specs.Claim.{Untuned, FirstTuning}
 use Rattle.sheet_untuned.proofs.Claim.{untuned-claim}
-use Rattle.train_steps.specs.declared.State.{State}
 use Rattle.train_steps.specs.Train.{fresh}
-use Rattle.train_claim.specs.Claim.{acts, steps, worked-out}
+use Rattle.train_claim.specs.Claim.{acts, steps}
 use Rattle.train_claim.proofs.Falls.{Unit-powers}
 use Rattle.train_claim.proofs.Claim.{powers-after, train-claim}
 use Rattle.band.specs.declared.BandPowers.{BandPowers}

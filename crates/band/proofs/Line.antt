@@ -1,10 +1,9 @@
 -- A train that is run from its start at a line's wavelength is that of the sheet with this wavelength. Assumes nothing.
 use mathlib.Core.Path.{_≡_, refl, sym, ap, _∙_}
 use mathlib.Core.List.{List, [], _∷_}
-use Prim.Native.Nat.{ℕ}
 use lib.Dec.{T}
 use lib.ListN.{length, take}
-use lib.Ieee.{Float, binary64, fits, toBits, ofBits}
+use lib.Ieee.{Float, binary64, fits, toBits}
 use lib.Ieee.Bits.{ofBits-toBits}
 use Rattle.sheet.specs.Sheet.{SheetSurface, Sheet}
 use Rattle.sheet_values.specs.Values.{value, met-with}

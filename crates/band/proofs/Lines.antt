@@ -9,7 +9,7 @@ use native.Mathlib.Omega.{arith}
 use lib.Dec.{T}
 use lib.ListN.{length, getD, drop, drop-of-length-le}
 use lib.Seq.{drop-cons}
-use Rattle.refusal.specs.Outcome.{Outcome, answer, refusal}
+use Rattle.refusal.specs.Outcome.{answer, refusal}
 use Rattle.sheet.specs.Blocks.{All}
 use Rattle.band.specs.Band.{each-line}
 use Rattle.band.specs.Internal.{first-false}

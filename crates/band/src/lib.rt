@@ -6,7 +6,6 @@ ghost use lib.Dec.{T};
 ghost use lib.ListN.{length};
 ghost use Rattle.refusal.specs.Outcome.{answer};
 ghost use Rattle.sheet.specs.Sheet.{Sheet};
-ghost use Rattle.sheet.specs.Blocks.{All};
 ghost use Rattle.gate.specs.Gate.{gated};
 ghost use Rattle.gate.specs.Wavelength.{holds};
 ghost use Rattle.gate.specs.Internal.{holds-at};

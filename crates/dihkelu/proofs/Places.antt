@@ -17,7 +17,6 @@ use Rattle.sheet.specs.Claim.{Bytes, longest, length-fits}
 use Rattle.sheet.proofs.Claim.{grammar-claim}
 use Rattle.sheet.proofs.Measure.{words-of-length, length-limits}
 use Rattle.gate.specs.Gate.{gated}
-use Rattle.gate.specs.Claim.{FirstOutside}
 use Rattle.gate.proofs.Claim.{Case, short, broken, outside, inside, cases}
 use Rattle.c_layers.proofs.Plain.{Plain}
 use Rattle.c_call.specs.Call.{Apart}

@@ -3,20 +3,18 @@ use mathlib.Core.Path.{_≡_, refl, sym, ap, _∙_}
 use mathlib.Core.Logic.{_⊎_, inl, inr}
 use mathlib.Core.Bool.{Bool, true, false, cond}
 use mathlib.Core.List.{List, [], _∷_}
-use Prim.Native.Nat.{ℕ, zero, suc, _+_, _^_, _≤_, _<_}
+use Prim.Native.Nat.{ℕ, zero, suc, _+_, _^_, _<_}
 use native.Mathlib.Omega.{arith}
 use lib.Dec.{eqb}
 use lib.ListN.{length, getD}
 use borrow.Author.Tests.{eq-eqb, ne-eqb, eqb-true}
-use Rattle.refusal.specs.Outcome.{Outcome, answer, refusal, bind}
+use Rattle.refusal.specs.Outcome.{answer, refusal}
 use Rattle.sheet.specs.Words.{kind}
 use Rattle.sheet.specs.Blocks.{Block, All, starts}
-use Rattle.sheet.specs.Sheet.{SheetLayer, layer, cauchy, Tuning, keeps, tunes, SheetSurface, Sheet, GoodTuning, GoodSurface, WellFormed, kind-word, block, layer-block, surface-block, tuned-blocks, layers-blocks, surfaces-blocks, end-block, blocks, places}
+use Rattle.sheet.specs.Sheet.{SheetLayer, layer, cauchy, Tuning, keeps, tunes, SheetSurface, Sheet, GoodTuning, GoodSurface, WellFormed, kind-word, block, surface-block, tuned-blocks, layers-blocks, surfaces-blocks, blocks}
 use Rattle.sheet.specs.Read.{no-block}
-use Rattle.sheet.specs.Claim.{Bytes}
 use Rattle.sheet.proofs.KindWords.{kind-of}
 use Rattle.sheet.proofs.Forward.{small-edition}
-use Rattle.gate.specs.Gate.{gated}
 use Rattle.gate.proofs.Claim.{gate-claim}
 use Rattle.sheet_untuned.specs.Untuned.{no-tuning, without-tuning}
 use Rattle.sheet_untuned.specs.Claim.{Untuned, FirstTuning, UntunedClaim}

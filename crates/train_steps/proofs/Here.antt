@@ -27,7 +27,7 @@ use Rattle.sheet_surfaces.proofs.Answers.{all-nth, answered}
 use Rattle.train_steps.specs.declared.Chosen as Declared
 use Rattle.train_steps.specs.declared.State.{State}
 use Rattle.train_steps.specs.Train.{chosen-of, chosen-powers, after-one}
-use Rattle.train_steps.specs.Internal.{chosen-alone, chosen-at, moved-at}
+use Rattle.train_steps.specs.Internal.{chosen-alone, chosen-at, moved-from, moved-at}
 
 alone : (w : Float) (y : SheetSurface) → Answered w (surface-value y) (films w (y .layers)) → chosen-alone w (surface-value y) (films w (y .layers)) ≡ chosen-powers w y
 unfolding chosen-alone chosen-powers
@@ -58,7 +58,7 @@ module _ (src : List ℕ) (x : Sheet) (stands : Standing src x) (within : Within
         (λ k. chosen-alone w (t k) (l k)) ∙ alone w y (answered w (good .0) y (good .1) (all-nth _ (x .surfaces) i (stands .formed .surfaces) lt .few))
 
     pub moved-here : (at : ℕ) → at ≡ begin src i → (st : State) → Met (met-with (st .«wavelength_nm») (y .tuning)) y → moved-at src at st ≡ after-one st y
-    unfolding moved-at after-one
+    unfolding moved-from moved-at after-one
     moved-here at q st good =
         let w = met-with (st .«wavelength_nm») (y .tuning) in
         ap (λ (v : Float). let c = chosen-at src (onto src at) (layer-run 16 src (onto src at)) v in record { done = st .done + 1; s = st .s ⊗ c .s; p = st .p ⊗ c .p; «wavelength_nm» = v }) (met-here at q (st .«wavelength_nm»))

@@ -1,18 +1,16 @@
 -- A run at a wavelength that holds takes the surfaces of the sheet one after another. Assumes nothing.
 use mathlib.Core.Path.{_≡_, refl, sym, ap, _∙_}
-use mathlib.Core.List.{List, [], _∷_}
+use mathlib.Core.List.{List}
 use Prim.Native.Nat.{ℕ, zero, suc, _+_, _<_}
-use native.Mathlib.Numerals.{add-one}
 use native.Mathlib.Omega.{arith}
 use lib.Dec.{T}
 use lib.ListN.{length, drop, drop-of-length-le}
 use lib.Seq.{drop-cons}
 use lib.Ieee.{Float}
-use Rattle.sheet.specs.Sheet.{SheetSurface, no-surface, nth, Sheet}
+use Rattle.sheet.specs.Sheet.{no-surface, nth, Sheet}
 use Rattle.sheet.specs.Internal.{next-place, place-on, layer-run, onto, begin}
 use Rattle.sheet.proofs.Stands.{Standing}
 use Rattle.sheet_values.specs.declared.Beam.{Beam}
-use Rattle.sheet_values.specs.Values.{met-with}
 use Rattle.sheet_values.specs.Internal.{beam-at}
 use Rattle.gate.specs.Wavelength.{holds}
 use Rattle.gate.specs.Claim.{WithinLimits}

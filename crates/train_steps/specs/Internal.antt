@@ -24,12 +24,16 @@ unfoldable pub chosen-at : List ℕ → ℕ → ℕ → Float → Chosen
 chosen-at src at n wavelength =
     chosen-alone wavelength (surface-value (surface-at src at [])) (films wavelength (layers-at src (next-place src at) n))
 
+-- after the SURFACE at a place with n layers, met with a wavelength
+unfoldable pub moved-from : List ℕ → ℕ → ℕ → Float → State → State
+moved-from src at n wavelength st =
+    let c = chosen-at src at n wavelength in
+    record { done = st .done + 1; s = st .s ⊗ c .s; p = st .p ⊗ c .p; «wavelength_nm» = wavelength }
+
 -- after the surface that begins at a place
 unfoldable pub moved-at : List ℕ → ℕ → State → State
 moved-at src at st =
-    let w = met-with (st .«wavelength_nm») (tuning-at src at) in
-    let c = chosen-at src (onto src at) (layer-run 16 src (onto src at)) w in
-    record { done = st .done + 1; s = st .s ⊗ c .s; p = st .p ⊗ c .p; «wavelength_nm» = w }
+    moved-from src (onto src at) (layer-run 16 src (onto src at)) (met-with (st .«wavelength_nm») (tuning-at src at)) st
 
 -- after n surfaces, the first of which begins at a place
 unfoldable pub moved-on : ℕ → List ℕ → ℕ → State → State

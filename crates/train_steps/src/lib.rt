@@ -8,7 +8,7 @@ ghost use Rattle.refusal.specs.Outcome.{answer};
 ghost use Rattle.sheet.specs.Sheet.{Sheet};
 ghost use Rattle.gate.specs.Gate as Gate;
 ghost use Rattle.train_steps.specs.Train.{chosen, fresh, start, outcome, step, retune, after-each, run, sum};
-ghost use Rattle.train_steps.specs.Internal.{chosen-at, moved-at, run-at};
+ghost use Rattle.train_steps.specs.Internal.{chosen-at, moved-from, moved-at, run-at};
 use gate::Gated;
 use refusal::Refusal;
 use sheet_answers::PowersReply;
@@ -93,6 +93,20 @@ pub fn start(src: &[u8]) -> TrainReply
     }
 }
 
+// The state after the surface at a place with the n layers after it, met with a wavelength.
+fn moved_from(src: &[u8], at: usize, n: usize, wavelength_nm: f64, state: State) -> State
+    requires { ⌜ state .done < 0xFFFF_FFFF ⌝ }
+    ensures { λ r. ⌜ r ≡ moved-from (now (src .entry)) at n «wavelength_nm» state ⌝ }
+{
+    let c = chosen_at(src, at, n, wavelength_nm);
+    State {
+        done: state.done + 1,
+        s: state.s * c.s,
+        p: state.p * c.p,
+        wavelength_nm,
+    }
+}
+
 // The state after the surface that begins at a place, which is met with its own kind 7's wavelength or the one held.
 fn moved_at(src: &[u8], begin: usize, state: State) -> State
     requires { ⌜ state .done < 0xFFFF_FFFF ⌝ }
@@ -100,13 +114,7 @@ fn moved_at(src: &[u8], begin: usize, state: State) -> State
 {
     let wavelength_nm = sheet_values::met_with(src, begin, state.wavelength_nm);
     let at = sheet::onto(src, begin);
-    let c = chosen_at(src, at, sheet::layer_run(src, at), wavelength_nm);
-    State {
-        done: state.done + 1,
-        s: state.s * c.s,
-        p: state.p * c.p,
-        wavelength_nm,
-    }
+    moved_from(src, at, sheet::layer_run(src, at), wavelength_nm, state)
 }
 
 // One surface on from any state; a refusal leaves the state as it was.
@@ -198,8 +206,11 @@ pub fn run_at(src: &[u8], count: u32, wavelength_nm: f64) -> State
     let mut begin = sheet::begin_of(src, 0);
     let mut i = 0;
     while i < count {
-        state = moved_at(src, begin, state);
-        begin = sheet::after_layers(src, sheet::onto(src, begin));
+        let met_nm = sheet_values::met_with(src, begin, state.wavelength_nm);
+        let at = sheet::onto(src, begin);
+        let n = sheet::layer_run(src, at);
+        state = moved_from(src, at, n, met_nm, state);
+        begin = sheet::place_on(src, at, n + 1);
         i += 1;
     }
     state

@@ -1,5 +1,5 @@
 -- `band::lines_fit` meets its contract. Assumes nothing.
-use borrow.Author.Tests.{eq-eqb, ne-eqb, le-leb, lt-leb}
+use borrow.Author.Tests.{le-leb, lt-leb}
 use Rattle.band.proofs.lines_fit.Statement.{statement}
 use Rattle.band.proofs.lines_fit.Tie as tie
 

@@ -1,5 +1,5 @@
 -- `band::weighed` meets its contract. Assumes nothing.
-use mathlib.Core.Path.{_≡_, refl, sym, ap, _∙_}
+use mathlib.Core.Path.{_≡_, refl, sym, _∙_}
 use mathlib.Core.List.{List}
 use Prim.Native.Nat.{ℕ, _+_, _-_, _≤_, _<_}
 use native.Mathlib.Omega.{arith}
@@ -14,7 +14,6 @@ use Rattle.sheet.specs.Sheet.{Sheet}
 use Rattle.gate.specs.Gate.{gated}
 use Rattle.gate.specs.Wavelength.{holds}
 use Rattle.train_steps.specs.declared.State.{State}
-use Rattle.band.specs.declared.BandPowers.{BandPowers}
 use Rattle.band.specs.Band.{at-line, lines-fit, whole, added-up, whole-sum, powers}
 use Rattle.band.specs.Internal.{Line, AllPass}
 use Rattle.band.proofs.Sums.{one-weight, no-weight, one-line, no-line, passes-at, equal, few}
