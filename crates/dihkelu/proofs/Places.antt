@@ -1,5 +1,6 @@
--- The place of a refusal of the gate is at most the count of words, so that it leaves the number apart. Assumes nothing.
-use mathlib.Core.Path.{_≡_, refl, sym, ap}
+-- The place of a refusal of the gate, and of a 12, is at most the count of words, so that it leaves the number apart. Assumes nothing.
+use mathlib.Core.Path.{_≡_, refl, sym, ap, subst}
+use mathlib.Core.Logic.{_⊎_, inl, inr}
 use mathlib.Core.Bool.{Bool, true, false, _&&_, cond}
 use mathlib.Core.List.{List, [], _∷_}
 use Prim.Native.Nat.{ℕ, zero, suc, _+_, _*_, _%_, _^_, _≤_, _<_}
@@ -17,7 +18,10 @@ use Rattle.sheet.specs.Claim.{Bytes, longest, length-fits}
 use Rattle.sheet.proofs.Claim.{grammar-claim}
 use Rattle.sheet.proofs.Measure.{words-of-length, length-limits}
 use Rattle.gate.specs.Gate.{gated}
-use Rattle.gate.proofs.Claim.{Case, short, broken, outside, inside, cases}
+use Rattle.gate.proofs.Claim.{Case, short, broken, outside, inside, cases, gate-claim}
+use Rattle.sheet_untuned.specs.Untuned.{without-tuning}
+use Rattle.sheet_untuned.specs.Claim.{Untuned, FirstTuning}
+use Rattle.sheet_untuned.proofs.Claim.{untuned-claim}
 use Rattle.c_layers.proofs.Plain.{Plain}
 use Rattle.c_call.specs.Call.{Apart}
 use Rattle.c_call.proofs.Returned.{Sound, sound-apart}
@@ -101,3 +105,18 @@ module _ (src : List ℕ) (bytes : Bytes src) where
 
   pub gate-apart : Apart (gated src)
   gate-apart = sound-apart (gated src) gate-sound
+
+  -- 12 is at a word of the sheet
+  pub untuned-sound : Sound (without-tuning src)
+  untuned-sound = go (gated src) refl gate-sound
+    where
+      go : (o : Outcome Sheet) → gated src ≡ o → Sound o → Sound (without-tuning src)
+      go (refusal number place) g s = subst Sound (sym (untuned-claim .turned-back src number place g)) s
+      go (answer x) g s = by (untuned-claim .either x formed)
+        where
+          formed : WellFormed x
+          formed = gate-claim .admits src bytes x .0 g .0 .0
+
+          by : Untuned x ⊎ ((place : ℕ) × FirstTuning x place) → Sound (without-tuning src)
+          by (inl u) = subst Sound (sym (untuned-claim .taken src bytes x g u)) tt
+          by (inr (place, f)) = subst Sound (sym (untuned-claim .twelve src x g place f)) (omega arith, omega (arith, place-below x formed place (f .block) (f .inside) (f .stands)))

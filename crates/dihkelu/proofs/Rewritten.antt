@@ -1,25 +1,25 @@
--- The length of an edition 1 sheet and the place of a first kind 7 are below 2^32. Assumes nothing.
-use mathlib.Core.Path.{_≡_, refl}
+-- The length of an edition 1 sheet is below 2^32. Assumes nothing.
+use mathlib.Core.Path.{_≡_, refl, sym, ap, _∙_}
 use mathlib.Core.Bool.{Bool, true, false, cond}
-use mathlib.Core.List.{List, [], _∷_}
-use Prim.Native.Nat.{ℕ, suc, _+_, _^_, _≤_, _<_}
+use mathlib.Core.List.{List}
+use Prim.Native.Nat.{ℕ, _^_, _<_}
 use native.Mathlib.Omega.{arith}
-use lib.Dec.{eqb, leb, lit<}
-use lib.ListN.{length, length-append}
-use Rattle.refusal.specs.Outcome.{Outcome, answer, refusal, bind}
-use Rattle.sheet.specs.Words.{kind}
-use Rattle.sheet.specs.Blocks.{Block, flat, starts}
-use Rattle.sheet.specs.Sheet.{Sheet, WellFormed, blocks, words, encode, places}
+use lib.Dec.{leb, lit<}
+use lib.ListN.{length}
+use Rattle.refusal.specs.Outcome.{Outcome, answer, refusal, map}
+use Rattle.sheet.specs.Sheet.{Sheet, WellFormed, words, encode}
+use Rattle.sheet.specs.Read.{surfaces-of}
 use Rattle.sheet.specs.Claim.{Bytes}
 use Rattle.sheet.proofs.WordBytes.{length-bytes}
 use Rattle.sheet.proofs.Measure.{length-limits}
-use Rattle.gate.specs.Gate.{gated}
 use Rattle.gate.proofs.Claim.{gate-claim}
-use Rattle.sheet_edition_1.specs.Edition.{translated, no-tuning, edition-1, Written, written, to-edition-1}
+use Rattle.sheet_untuned.specs.Untuned.{without-tuning}
+use Rattle.sheet_untuned.proofs.Admitted.{taken}
+use Rattle.sheet_edition_1.specs.Edition.{translated, edition-1, Written, written, to-edition-1}
 use Rattle.sheet_edition_1.proofs.Shorter.{shorter}
 use Rattle.c_call.specs.Call.{Apart}
 use Rattle.c_call.proofs.Returned.{Sound}
-use Rattle.dihkelu.proofs.Places.{gate-sound}
+use Rattle.dihkelu.proofs.Places.{untuned-sound}
 
 -- what is answered is so, and a refusal's number is not 0 and its place leaves it apart
 abbrev pub Fine : {A : Type 0} → (A → Type 0) → Outcome A → Type 0
@@ -33,16 +33,6 @@ pub fine-apart : {A : Type 0} (P : A → Type 0) (o : Outcome A) → Fine P o �
 fine-apart P (answer a) h = tt
 fine-apart P (refusal number place) h = h .1
 
--- 12 is at a word of the sheet
-no-tuning-fine : {A : Type 0} (P : A → Type 0) (a : A) → P a → (at : ℕ) (bs : List Block) → at + length (flat bs) ≤ 9865 → Fine P (no-tuning a (starts at bs) bs)
-unfolding no-tuning starts flat
-no-tuning-fine P a q at [] h = q
-no-tuning-fine P a q at (b ∷ bs) h = by (eqb (kind (b .word)) 7) (no-tuning-fine P a q (at + suc (length (b .raw))) bs (omega (arith, length-append (b .raw) (flat bs))))
-  where
-    by : (t : Bool) → Fine P (no-tuning a (starts (at + suc (length (b .raw))) bs) bs) → Fine P (cond t (refusal 12 at) (no-tuning a (starts (at + suc (length (b .raw))) bs) bs))
-    by true s = (lit< tt, omega arith)
-    by false s = s
-
 abbrev Short : Sheet → Type 0
 Short y = length (encode y) < 2 ^ 32
 
@@ -53,11 +43,19 @@ module _ (src : List ℕ) (bytes : Bytes src) where
 
   edition-1-fine : Fine Short (edition-1 src)
   unfolding edition-1
-  edition-1-fine = go (gated src) (gate-sound src bytes) (λ x e. gate-claim .admits src bytes x .0 e .0 .0)
+  edition-1-fine = go (without-tuning src) refl (untuned-sound src bytes)
     where
-      go : (o : Outcome Sheet) → Sound o → ((x : Sheet) → o ≡ answer x → WellFormed x) → Fine Short (bind o (λ (x : Sheet). no-tuning (translated x) (places x) (blocks x)))
-      go (answer x) s f = no-tuning-fine Short (translated x) (short x (f x refl)) 0 (blocks x) (omega (arith, length-limits x (f x refl) .1 .0))
-      go (refusal number place) s f = s
+      same : (x y : Sheet) → answer x ≡ answer y → x ≡ y
+      same x y e = cc
+
+      formed : (x : Sheet) → without-tuning src ≡ answer x → WellFormed x
+      formed x e =
+          let t = taken src (surfaces-of x) (ap (map surfaces-of) (sym e)) in
+          gate-claim .admits src bytes x .0 (t .gated-is ∙ ap answer (same (t .sheet) x (sym (t .is) ∙ e))) .0 .0
+
+      go : (o : Outcome Sheet) → without-tuning src ≡ o → Sound o → Fine Short (map translated o)
+      go (answer x) e s = short x (formed x e)
+      go (refusal number place) e s = s
 
   pub fine : (output : List ℕ) → Fine Small (to-edition-1 src output .result)
   unfolding to-edition-1

@@ -4,8 +4,8 @@ use mathlib.Core.List.{List}
 use Prim.Native.Nat.{ℕ}
 use lib.ListN.{length}
 use borrow.Author.Tests.{le-leb, lt-leb}
-use Rattle.refusal.specs.Outcome.{Outcome, answer, refusal, bind}
-use Rattle.sheet.specs.Sheet.{Sheet, WellFormed, blocks, encode, places}
+use Rattle.refusal.specs.Outcome.{Outcome, answer, refusal, map}
+use Rattle.sheet.specs.Sheet.{Sheet, WellFormed, encode}
 use Rattle.sheet.specs.Claim.{Bytes}
 use Rattle.sheet.proofs.Claim.{grammar-claim}
 use Rattle.gate.specs.Gate.{gated}
@@ -13,15 +13,16 @@ use Rattle.gate.specs.Claim.{WithinLimits}
 use Rattle.gate.proofs.Claim.{gate-claim}
 use Rattle.train_steps.specs.Train.{fresh}
 use Rattle.sheet_edition_1.proofs.Shorter.{shorter}
-use Rattle.sheet_edition_1.specs.Edition.{translated, no-tuning, edition-1, laid, written, to-edition-1}
-use Rattle.edition_1_claim.specs.Claim.{Untuned, FirstTuning, RunsAlike, IsWritten, Untouched, Edition1Claim}
+use Rattle.sheet_edition_1.specs.Edition.{translated, edition-1, Written, laid, written, to-edition-1}
+use Rattle.sheet_untuned.specs.Claim.{Untuned, FirstTuning}
+use Rattle.sheet_untuned.proofs.Claim.{untuned-claim}
+use Rattle.edition_1_claim.specs.Claim.{RunsAlike, IsWritten, Untouched, Edition1Claim}
 use Rattle.edition_1_claim.proofs.Plain.{same-sheet, new-formed, new-within, new-untuned}
-use Rattle.edition_1_claim.proofs.Sevens.{untuned, tuned, old, either}
 use Rattle.edition_1_claim.proofs.Runs.{runs, starts, steps-alike, lists, told-alike, answers-alike}
 
--- what comes of some bytes, by what the gate says of them
-abbrev by-gate : Outcome Sheet → Outcome Sheet
-by-gate o = bind o (λ (x : Sheet). no-tuning (translated x) (places x) (blocks x))
+-- what comes of some bytes, by what is said of them before
+abbrev by-sheet : List ℕ → Outcome Sheet → Written
+by-sheet output o = written (map translated o) output
 
 module _ (src : List ℕ) (bs : Bytes src) (x : Sheet) (g : gated src ≡ answer x) where
   formed : WellFormed x
@@ -35,7 +36,7 @@ module _ (src : List ℕ) (bs : Bytes src) (x : Sheet) (g : gated src ≡ answer
 
   twelve : (place : ℕ) → FirstTuning x place → Untouched src 12 place
   unfolding to-edition-1 edition-1
-  twelve place f output = ap (λ (o : Outcome Sheet). written (by-gate o) output) g ∙ ap (λ (o : Outcome Sheet). written o output) (tuned (translated x) x place f)
+  twelve place f output = ap (by-sheet output) (untuned-claim .twelve src x g place f)
 
   module _ (k : Untuned x) where
     abbrev new : List ℕ
@@ -52,14 +53,14 @@ module _ (src : List ℕ) (bs : Bytes src) (x : Sheet) (g : gated src ≡ answer
 
     is-edition-1 : edition-1 src ≡ answer (translated x)
     unfolding edition-1
-    is-edition-1 = ap by-gate g ∙ untuned x formed (translated x) k
+    is-edition-1 = ap (map translated) (untuned-claim .taken src bs x g k)
 
     twice : translated (translated x) ≡ translated x
     twice = same-sheet (translated x) formed′ (unfold translated in refl)
 
     again : edition-1 new ≡ answer (translated x)
     unfolding edition-1
-    again = ap by-gate admitted ∙ untuned (translated x) formed′ (translated (translated x)) (new-untuned x formed k) ∙ ap answer twice
+    again = ap (map translated) (untuned-claim .taken new (grammar-claim .fits (translated x) formed′ .1) (translated x) admitted (new-untuned x formed k)) ∙ ap answer twice
 
     alike : RunsAlike src x new
     unfolding to-edition-1
@@ -92,7 +93,7 @@ module _ (src : List ℕ) (bs : Bytes src) (x : Sheet) (g : gated src ≡ answer
 
 turned-back : (src : List ℕ) (number place : ℕ) → gated src ≡ refusal number place → Untouched src number place
 unfolding to-edition-1 edition-1
-turned-back src number place e output = ap (λ (o : Outcome Sheet). written (by-gate o) output) e
+turned-back src number place e output = ap (by-sheet output) (untuned-claim .turned-back src number place e)
 
 pub edition-1-claim : Edition1Claim
-edition-1-claim = record { alike = alike; written = is-written; twelve = twelve; either = either; old = old; turned-back = turned-back }
+edition-1-claim = record { alike = alike; written = is-written; twelve = twelve; turned-back = turned-back }

@@ -1,5 +1,4 @@
--- A layer, a surface and a sheet that became plain; kinds 7; a train's way; and the claim.
+-- A layer, a surface and a sheet that became plain; a train's way; and the claim.
 mod Plain
-mod Sevens
 mod Runs
 pub mod Claim

@@ -21,7 +21,7 @@ use Rattle.gate.specs.Wavelength.{layers-admitted, surface-admitted, unless-tun
 use Rattle.gate.specs.Claim.{WithinLimits}
 use Rattle.gate.proofs.Wavelengths.{both, and, AllMet, met-within, all-met}
 use Rattle.sheet_edition_1.specs.Edition.{plain, plain-surface, translated}
-use Rattle.edition_1_claim.specs.Claim.{Untuned}
+use Rattle.sheet_untuned.specs.Claim.{Untuned}
 
 -- ---- a layer
 index-fits : (w : Float) (g : Cauchy) → T (fits binary64 (cauchy-index w g))

@@ -21,7 +21,7 @@ use Rattle.train_steps.specs.declared.State.{State}
 use Rattle.train_steps.specs.Train.{chosen-powers, fresh, start, after-one, stepped, step, state-after, after-each, ran, run}
 use Rattle.train_claim.specs.Claim.{a-step, act, acts, told, steps}
 use Rattle.sheet_edition_1.specs.Edition.{plain-surface, translated}
-use Rattle.edition_1_claim.specs.Claim.{Untuned}
+use Rattle.sheet_untuned.specs.Claim.{Untuned}
 use Rattle.edition_1_claim.proofs.Plain.{Keeps, plain-films, holds-on, nth-keeps, met-untuned, nth-plain}
 
 -- ---- one surface

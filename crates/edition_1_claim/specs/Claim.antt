@@ -1,35 +1,20 @@
--- 02 slip 6, whole. Types only; `proofs/Claim.antt` inhabits `Edition1Claim`.
+-- 02 slip 6, whole. Types only; `proofs/Claim.antt` inhabits `Edition1Claim`. A sheet has a kind 7 or none (`UntunedClaim`).
 use mathlib.Core.Path.{_≡_}
-use mathlib.Core.Logic.{_⊎_}
 use mathlib.Core.List.{List, _++_}
 use Prim.Native.Nat.{ℕ, _≤_, _<_}
-use lib.ListN.{length, getD, drop}
+use lib.ListN.{length, drop}
 use lib.Ieee.{Float}
 use Rattle.refusal.specs.Outcome.{answer, refusal}
-use Rattle.sheet.specs.Words.{kind}
-use Rattle.sheet.specs.Blocks.{All}
-use Rattle.sheet.specs.Sheet.{keeps, SheetSurface, Sheet, WellFormed, blocks, encode, places}
-use Rattle.sheet.specs.Read.{no-block}
+use Rattle.sheet.specs.Sheet.{Sheet, WellFormed, encode}
 use Rattle.sheet.specs.Claim.{Bytes}
 use Rattle.sheet_values.specs.Values.{value}
 use Rattle.sheet_surfaces.specs.Surfaces.{surface-answers}
 use Rattle.gate.specs.Gate.{gated}
+use Rattle.sheet_untuned.specs.Claim.{Untuned, FirstTuning}
 use Rattle.train_steps.specs.declared.State.{State}
 use Rattle.train_steps.specs.Train.{fresh, start, step, run}
 use Rattle.train_claim.specs.Claim.{acts, told, steps}
 use Rattle.sheet_edition_1.specs.Edition.{translated, to-edition-1}
-
--- ---- kind 7
-abbrev pub Untuned : Sheet → Type 0
-Untuned x = All (λ (y : SheetSurface). y .tuning ≡ keeps) (x .surfaces)
-
--- the first kind 7 is some block of the sheet, and stands at its kind word's place
-pub record FirstTuning (x : Sheet) (place : ℕ) : Type 0 where
-  pub block : ℕ
-  pub inside : block < length (blocks x)
-  pub seven : kind (getD (blocks x) block no-block .word) ≡ 7
-  pub first : (i : ℕ) → i < block → kind (getD (blocks x) i no-block .word) ≡ 7 → ⊥
-  pub stands : place ≡ getD (places x) block 0
 
 -- ---- an admitted sheet x without kind 7, and the bytes of the new one
 pub record RunsAlike (src : List ℕ) (x : Sheet) (new : List ℕ) : Type 0 where
@@ -67,8 +52,5 @@ pub record Edition1Claim : Type 0 where
   pub written : (src : List ℕ) → Bytes src → (x : Sheet) → gated src ≡ answer x → Untuned x → IsWritten src (encode (translated x))
   -- '12 with the word of the first kind 7', whatever the output
   pub twelve : (src : List ℕ) → Bytes src → (x : Sheet) → gated src ≡ answer x → (place : ℕ) → FirstTuning x place → Untouched src 12 place
-  -- a sheet has a kind 7 or none; one of edition 1 has none
-  pub either : (x : Sheet) → Untuned x ⊎ ((place : ℕ) × FirstTuning x place)
-  pub old : (x : Sheet) → WellFormed x → x .edition ≡ 1 → Untuned x
   -- 'after 4, 5 and 6'
   pub turned-back : (src : List ℕ) (number place : ℕ) → gated src ≡ refusal number place → Untouched src number place

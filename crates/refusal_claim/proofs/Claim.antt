@@ -56,10 +56,9 @@ use Rattle.sheet_surfaces.proofs.Answers.{nth-answered}
 use Rattle.train_steps.specs.declared.State.{State}
 use Rattle.train_steps.specs.Train.{fresh, start, after-one, stepped, step, with-wavelength, retuned, retune, Ran, ran, run}
 use Rattle.train_claim.proofs.Claim.{train-claim}
-use Rattle.sheet_edition_1.specs.Edition.{translated, no-tuning, edition-1, Written, written, to-edition-1}
-use Rattle.edition_1_claim.specs.Claim.{FirstTuning}
+use Rattle.sheet_edition_1.specs.Edition.{translated, edition-1, Written, written, to-edition-1}
 use Rattle.edition_1_claim.proofs.Claim.{edition-1-claim}
-use Rattle.sheet_untuned.specs.Untuned.{without-tuning}
+use Rattle.sheet_untuned.specs.Untuned.{no-tuning, without-tuning}
 use Rattle.sheet_untuned.specs.Claim.{Untuned, FirstTuning}
 use Rattle.sheet_untuned.proofs.Claim.{untuned-claim}
 use Rattle.band.specs.declared.BandPowers.{BandPowers}
@@ -260,28 +259,33 @@ of-run = record {
     by : (x : Sheet) (list : List Float) → Only (4 ∷ 5 ∷ 6 ∷ 8 ∷ []) (run (x .src) list .result)
     by x list = ran-only list (gated (x .src)) (more (8 ∷ []) (gated (x .src)) (gated-only (x .src)))
 
--- ---- an edition 1 sheet from a sheet
-abbrev tuned-panes : Data.Sheet
-tuned-panes = train-claim .two .sheet
+-- ---- a sheet with a kind 7
+abbrev colours : Data.Sheet
+colours = train-claim .two .sheet
 
-tuned-whole : Sheet
-tuned-whole = record { src = encode tuned-panes; bytes = grammar-claim .fits tuned-panes (train-claim .two .formed) .1 }
+coloured : Sheet
+coloured = record { src = encode colours; bytes = grammar-claim .fits colours (train-claim .two .formed) .1 }
 
-tuned-admitted : gated (tuned-whole .src) ≡ answer tuned-panes
-unfolding tuned-whole
-tuned-admitted = gate-claim .admits (encode tuned-panes) (tuned-whole .bytes) tuned-panes .1 ((train-claim .two .formed, train-claim .two .within), refl)
+coloured-admitted : gated (coloured .src) ≡ answer colours
+unfolding coloured
+coloured-admitted = gate-claim .admits (encode colours) (grammar-claim .fits colours (train-claim .two .formed) .1) colours .1 ((train-claim .two .formed, train-claim .two .within), refl)
 
 keep-all : (ys : List Data.SheetSurface) (i : ℕ) → All (λ (y : Data.SheetSurface). y .tuning ≡ Data.keeps) ys → getD (map-list (λ (y : Data.SheetSurface). y .tuning) ys) i Data.keeps ≡ Data.keeps
 keep-all [] i k = refl
 keep-all (y ∷ ys) zero k = k .0
 keep-all (y ∷ ys) (suc i) k = keep-all ys i (k .1)
 
-has-tuning : (place : ℕ) × FirstTuning tuned-panes place
-has-tuning = ⊎-elim (λ k. absurd (never (sym (ap (λ (ts : List Data.Tuning). getD ts 11 Data.keeps) (train-claim .two .tunings)) ∙ keep-all (tuned-panes .surfaces) 11 k))) (λ f. f) (edition-1-claim .either tuned-panes)
+has-tuning : (place : ℕ) × FirstTuning colours place
+has-tuning = ⊎-elim (λ k. absurd (never (sym (ap (λ (ts : List Data.Tuning). getD ts 11 Data.keeps) (train-claim .two .tunings)) ∙ keep-all (colours .surfaces) 11 k))) (λ f. f) (untuned-claim .either colours (train-claim .two .formed))
   where
     never : Data.tunes 0x4090_0000_0000_0000 ≡ Data.keeps → ⊥
     never e = let z : _≡_ {A = ℕ} 0 1 = cc in omega arith
 
+-- ---- a sheet without one: a sheet of edition 1
+untuned-panes : Untuned panes
+untuned-panes = untuned-claim .old panes (train-claim .one .formed) (train-claim .one .edition-is)
+
+-- ---- an edition 1 sheet from a sheet
 long-enough : (y : Data.Sheet) → 0 < length (encode y)
 unfolding encode Data.bytes flat blocks
 long-enough y = omega arith
@@ -296,7 +300,7 @@ tuning-only y [] (b ∷ bs) = tt
 tuning-only y (p ∷ ps) (b ∷ bs) = either twelve (eqb (kind (b .word)) 7) (refusal 12 p) (no-tuning y ps bs) tt (tuning-only y ps bs)
 
 of-edition-1 : Refuses (λ (x : Sheet × List ℕ). to-edition-1 (x .0 .src) (x .1) .result) (4 ∷ 5 ∷ 6 ∷ 12 ∷ 8 ∷ [])
-unfolding to-edition-1 edition-1
+unfolding to-edition-1 edition-1 without-tuning
 of-edition-1 = record {
   only = λ x. by (x .0) (x .1);
   each = (
@@ -306,8 +310,8 @@ of-edition-1 = record {
       (
         ((unlit, []), (1, ap (λ (r : Written). r .result) (edition-1-claim .turned-back (unlit .src) 6 1 six []))),
         (
-          ((tuned-whole, []), (has-tuning .0, ap (λ (r : Written). r .result) (edition-1-claim .twelve (tuned-whole .src) (tuned-whole .bytes) tuned-panes tuned-admitted (has-tuning .0) (has-tuning .1) []))),
-          (((whole, []), (0, ap (λ (r : Written). r .result) (edition-1-claim .written (whole .src) (whole .bytes) panes admitted (edition-1-claim .old panes (train-claim .one .formed) (train-claim .one .edition-is)) .eight [] (long-enough (translated panes))))), tt),
+          ((coloured, []), (has-tuning .0, ap (λ (r : Written). r .result) (edition-1-claim .twelve (coloured .src) (coloured .bytes) colours coloured-admitted (has-tuning .0) (has-tuning .1) []))),
+          (((whole, []), (0, ap (λ (r : Written). r .result) (edition-1-claim .written (whole .src) (whole .bytes) panes admitted untuned-panes .eight [] (long-enough (translated panes))))), tt),
         ),
       ),
     ),
@@ -323,7 +327,7 @@ of-edition-1 = record {
     written-only output (refusal number place) t = t
 
     by : (x : Sheet) (output : List ℕ) → Only twelve (to-edition-1 (x .src) output .result)
-    by x output = written-only output (edition-1 (x .src)) (bound twelve _ (gated (x .src)) (more (12 ∷ 8 ∷ []) (gated (x .src)) (gated-only (x .src))) (λ y e. tuning-only (translated y) (Data.places y) (blocks y)))
+    by x output = written-only output (edition-1 (x .src)) (mapped twelve translated (without-tuning (x .src)) (bound twelve _ (gated (x .src)) (more (12 ∷ 8 ∷ []) (gated (x .src)) (gated-only (x .src))) (λ y e. tuning-only y (Data.places y) (blocks y))))
 
 -- ---- coatings
 abbrev lit : Numbers
@@ -494,43 +498,6 @@ of-nth-layer = record {
 abbrev of-bands : List ℕ
 of-bands = 4 ∷ 5 ∷ 6 ∷ 12 ∷ 15 ∷ 16 ∷ []
 
-abbrev colours : Data.Sheet
-colours = train-claim .two .sheet
-
-coloured : Sheet
-coloured = record { src = encode colours; bytes = grammar-claim .fits colours (train-claim .two .formed) .1 }
-
-coloured-admitted : gated (coloured .src) ≡ answer colours
-unfolding coloured
-coloured-admitted = gate-claim .admits (encode colours) (grammar-claim .fits colours (train-claim .two .formed) .1) colours .1 ((train-claim .two .formed, train-claim .two .within), refl)
-
--- one of its surfaces stands after a kind 7
-kept : (ys : List Data.SheetSurface) → All (λ (y : Data.SheetSurface). y .tuning ≡ Data.keeps) ys → map-list (λ (y : Data.SheetSurface). y .tuning) ys ≡ replicate (length ys) Data.keeps
-kept [] h = refl
-kept (y ∷ ys) h = λ i. h .0 i ∷ kept ys (h .1) i
-
-tuned-not : Untuned colours → ⊥
-tuned-not u = apart (sym (ap (λ (ts : List Data.Tuning). getD ts 11 Data.keeps) (train-claim .two .tunings)) ∙ ap (λ (ts : List Data.Tuning). getD ts 11 Data.keeps) (kept (colours .surfaces) u) ∙ all-kept (length (colours .surfaces)) 11)
-  where
-    all-kept : (n i : ℕ) → getD (replicate n Data.keeps) i Data.keeps ≡ Data.keeps
-    all-kept zero i = refl
-    all-kept (suc n) zero = refl
-    all-kept (suc n) (suc i) = all-kept n i
-
-    is-kept : Data.Tuning → ℕ
-    is-kept Data.keeps = 0
-    is-kept (Data.tunes w) = 1
-
-    apart : Data.tunes 0x4090_0000_0000_0000 ≡ Data.keeps → ⊥
-    apart e = let z : _≡_ {A = ℕ} 1 0 = ap is-kept e in omega arith
-
-twelve : (place : ℕ) × (band (coloured .src) [] [] ≡ refusal 12 place)
-twelve = by (untuned-claim .either colours (train-claim .two .formed))
-  where
-    by : Untuned colours ⊎ ((place : ℕ) × FirstTuning colours place) → (place : ℕ) × (band (coloured .src) [] [] ≡ refusal 12 place)
-    by (inl u) = absurd (tuned-not u)
-    by (inr (place, f)) = (place, band-claim .twelve (coloured .src) colours coloured-admitted place f [] [])
-
 band-only : (x : Data.Sheet) (ws : List Float) (ns : List ℕ) (o : Outcome BandPowers) → Band.Told x ws ns o → Only of-bands o
 band-only x ws ns _ (Band.lists f) = tt
 band-only x ws ns _ (Band.weight l i f) = tt
@@ -548,9 +515,8 @@ band-of x ws ns = go (gated (x .src)) refl (gated-only (x .src))
         by (inl u) = band-only y ws ns (band (x .src) ws ns) (band-claim .told (x .src) (x .bytes) y g u ws ns)
         by (inr (place, f)) = subst (Only of-bands) (sym (band-claim .twelve (x .src) y g place f ws ns)) tt
 
--- a sheet of edition 1 has no kind 7
 whole-untuned : without-tuning (whole .src) ≡ answer panes
-whole-untuned = untuned-claim .taken (whole .src) (whole .bytes) panes admitted (untuned-claim .old panes (train-claim .one .formed) (train-claim .one .edition-is))
+whole-untuned = untuned-claim .taken (whole .src) (whole .bytes) panes admitted untuned-panes
 
 on-whole : (ws : List Float) (ns : List ℕ) → band (whole .src) ws ns ≡ map (λ t. powers panes ws ns) (tested panes ws ns)
 unfolding band
@@ -573,7 +539,7 @@ of-band = record {
       ((blank, ([], [])), (0, band-claim .turned-back (blank .src) 5 0 five [] [])),
       (
         ((unlit, ([], [])), (1, band-claim .turned-back (unlit .src) 6 1 six [] [])),
-        (((coloured, ([], [])), twelve), (((whole, ([], [])), (64, on-whole [] [])), (((whole, (nan ∷ [], 1 ∷ [])), (0, sixteen-th)), tt))),
+        (((coloured, ([], [])), (has-tuning .0, band-claim .twelve (coloured .src) colours coloured-admitted (has-tuning .0) (has-tuning .1) [] [])), (((whole, ([], [])), (64, on-whole [] [])), (((whole, (nan ∷ [], 1 ∷ [])), (0, sixteen-th)), tt))),
       ),
     ),
   );

@@ -2,15 +2,14 @@
 use mathlib.Core.Bool.{cond}
 use mathlib.Core.List.{List, [], _∷_, _++_, map}
 use Prim.Native.Nat.{ℕ}
-use lib.Dec.{eqb, leb}
+use lib.Dec.{leb}
 use lib.ListN.{length, drop}
 use lib.Ieee.{Float, binary64, toBits}
-use Rattle.refusal.specs.Outcome.{Outcome, answer, refusal, refused, bind}
-use Rattle.sheet.specs.Words.{kind}
-use Rattle.sheet.specs.Blocks.{Block}
-use Rattle.sheet.specs.Sheet.{SheetLayer, layer, cauchy, SheetSurface, Sheet, blocks, encode, places}
+use Rattle.refusal.specs.Outcome as Outcome
+use Rattle.refusal.specs.Outcome.{Outcome, answer, refusal, refused}
+use Rattle.sheet.specs.Sheet.{SheetLayer, layer, cauchy, SheetSurface, Sheet, encode}
 use Rattle.sheet_values.specs.Values.{value, cauchy-value, cauchy-index}
-use Rattle.gate.specs.Gate.{gated}
+use Rattle.sheet_untuned.specs.Untuned.{without-tuning}
 use Rattle.sheet_edition_1.specs.declared.Rewritten.{Rewritten}
 use Rattle.sheet_edition_1.specs.declared.Rewritten.the-variants as R
 
@@ -44,13 +43,8 @@ translated x =
     }
 
 -- ---- '12 with the word of the first kind 7, after 4, 5 and 6'
-unfoldable pub no-tuning : {A : Type 0} → A → List ℕ → List Block → Outcome A
-no-tuning a places [] = answer a
-no-tuning a [] (b ∷ bs) = answer a
-no-tuning a (place ∷ places) (b ∷ bs) = cond (eqb (kind (b .word)) 7) (refusal 12 place) (no-tuning a places bs)
-
 unfoldable pub edition-1 : List ℕ → Outcome Sheet
-edition-1 src = bind (gated src) (λ (x : Sheet). no-tuning (translated x) (places x) (blocks x))
+edition-1 src = Outcome.map translated (without-tuning src)
 
 -- ---- 'then 8 if the output is too short. Each leaves the output untouched'
 -- 'the new sheet's length in bytes is returned, and bytes past it keep what they held'

@@ -2,16 +2,16 @@
 use mathlib.Core.Path.{_≡_}
 use mathlib.Core.Bool.{cond}
 use mathlib.Core.List.{List, [], _∷_}
-use Prim.Native.Nat.{ℕ, _-_, _≤_, _<_}
+use Prim.Native.Nat.{ℕ, _-_, _≤_}
 use lib.Dec.{eqb}
 use lib.ListN.{length, take, drop}
 use lib.Ieee.{Float}
-use Rattle.refusal.specs.Outcome.{answer, refusal}
-use Rattle.sheet.specs.Words.{word, words-of, count, kind}
-use Rattle.sheet.specs.Sheet.{Sheet, kind-word, layer-block, blocks, encode, places}
+use Rattle.refusal.specs.Outcome.{answer}
+use Rattle.sheet.specs.Words.{word, words-of, kind}
+use Rattle.sheet.specs.Sheet.{Sheet, kind-word, layer-block, encode}
 use Rattle.sheet.specs.Internal.{next-place, layer-at}
 use Rattle.gate.specs.Gate.{gated}
-use Rattle.sheet_edition_1.specs.Edition.{plain, translated, no-tuning}
+use Rattle.sheet_edition_1.specs.Edition.{plain, translated}
 
 -- how many words the block at a place becomes: nine words of a kind 6 become the seven of a LAYER
 abbrev pub new-size : List ℕ → ℕ → ℕ
@@ -26,11 +26,6 @@ unfoldable pub new-words : Float → List ℕ → ℕ → List ℕ
 new-words wavelength src at =
     cond (eqb (kind (word src at)) 1) (kind-word 1 1 ∷ [])
     (cond (eqb (kind (word src at)) 6) (layer-words wavelength src at) (take (next-place src at - at) (drop at (words-of src))))
-
--- what the place of the first kind 7 tells, which is at least the word count where there is none
-pub record Looked (src : List ℕ) (x : Sheet) (place : ℕ) : Type 0 where
-  pub found : place < count src → no-tuning (translated x) (places x) (blocks x) ≡ refusal 12 place
-  pub none : count src ≤ place → no-tuning (translated x) (places x) (blocks x) ≡ answer (translated x)
 
 -- an admitted sheet, and room for the new one
 pub record Room (src output : List ℕ) : Type 0 where

@@ -12,7 +12,7 @@ ghost use Rattle.sheet.specs.Internal.{next-place};
 ghost use Rattle.sheet.specs.Sheet.{Sheet, bytes, encode};
 ghost use Rattle.gate.specs.Gate.{gated};
 ghost use Rattle.sheet_edition_1.specs.Edition.{translated, outcome, to-edition-1};
-ghost use Rattle.sheet_edition_1.specs.Internal.{new-size, layer-words, new-words, Looked, Room};
+ghost use Rattle.sheet_edition_1.specs.Internal.{new-size, layer-words, new-words, Room};
 use gate::Gated;
 use refusal::Refusal;
 
@@ -122,21 +122,6 @@ fn put_block(src: &[u8], at: usize, wavelength_nm: f64, to: usize, output: &mut 
 
 // ---- sheets
 
-// The place of the first kind 7; past the last word where there is none.
-fn first_tuning(src: &[u8]) -> usize
-    ensures { λ r. ⌜ ((x : Sheet) → gated (now (src .entry)) ≡ answer x → Looked (now (src .entry)) x r) ⌝ }
-{
-    let total = src.len() / 4;
-    let mut at: usize = 0;
-    while at < total {
-        if sheet::kind_at(src, at) == 7 {
-            return at;
-        }
-        at = sheet::next_place(src, at);
-    }
-    at
-}
-
 // How many bytes the new sheet has.
 fn new_length(src: &[u8]) -> usize
     ensures { λ r. ⌜ ((x : Sheet) → gated (now (src .entry)) ≡ answer x → r ≡ length (encode (translated x))) ⌝ }
@@ -180,12 +165,8 @@ pub enum Rewritten {
 pub fn to_edition_1(src: &[u8], output: &mut [u8]) -> Rewritten
     ensures { λ r. ⌜ record { result = outcome r; output = now (output .exit) } ≡ to-edition-1 (now (src .entry)) (now (output .entry)) ⌝ }
 {
-    match gate::gate(src) {
+    match sheet_untuned::without_tuning(src) {
         Gated::Admitted(_) => {
-            let place = first_tuning(src);
-            if place < src.len() / 4 {
-                return Rewritten::Refused(Refusal { number: 12, place });
-            }
             let length = new_length(src);
             if output.len() < length {
                 return Rewritten::Refused(Refusal {
