@@ -1,0 +1,60 @@
+-- What a finite number of the real way says: nothing stood in its way. Assumes nothing.
+use mathlib.Core.Path.{_≡_, refl, sym, ap, _∙_, subst}
+use mathlib.Core.Bool.{Bool, true, false, cond}
+use lib.Dec.{T}
+use lib.Ieee.{Float, binary64, div, lt, eq, ofBits}
+use lib.Ieee.Scale.{finite}
+use Rattle.ieee.specs.Operators.{_⊗_, _⊘_}
+use Rattle.ieee.specs.Functions.{zero-f, tiny}
+use Rattle.ieee.proofs.Signs.{of-true}
+use Rattle.ieee.proofs.Range.FromZero.{equals-zero}
+use Rattle.thin_film_complex.specs.declared.Complex.{Complex}
+use Rattle.polarization_value.proofs.Keeps.{Zero, Keeps, kept}
+use Rattle.thin_film_real.proofs.Keeps.{Fine, Divides, mul-back, div-back}
+use Rattle.thin_film_real.proofs.Parts.{Re}
+use Rattle.surface_real.specs.Real.{no-number, over, real-part, if-finite}
+
+pub no-fine : {A : Type 0} → Fine no-number → A
+unfolding ofBits div
+no-fine f = absurd (f .fine)
+
+-- a choice whose other side is a NaN
+pub chosen : (b : Bool) (x : Float) → Fine (cond b x no-number) → (b ≡ true) × (cond b x no-number ≡ x)
+chosen true x f = (refl, refl)
+chosen false x f = no-fine f
+
+unchosen : (b : Bool) (x : Float) → Fine (cond b no-number x) → (b ≡ false) × (cond b no-number x ≡ x)
+unchosen true x f = no-fine f
+unchosen false x f = (refl, refl)
+
+-- ---- a quotient
+pub record Quotient (x y : Float) : Type 0 where
+  pub is : over x y ≡ (x ⊗ y) ⊘ (y ⊗ y)
+  pub large : lt (y ⊗ y) tiny ≡ false
+  pub above : Fine x
+  pub below : Fine y
+  pub divides : Divides (y ⊗ y)
+
+pub over-back : (x y : Float) → Fine (over x y) → Quotient x y
+unfolding over
+over-back x y f =
+    let h = unchosen (lt (y ⊗ y) tiny) ((x ⊗ y) ⊘ (y ⊗ y)) f in
+    let d = div-back (x ⊗ y) (y ⊗ y) (subst Fine (h .1) f) in
+    let m = mul-back x y (d .0) in
+    record { is = h .1; large = h .0; above = m .0; below = m .1; divides = d .1 }
+
+-- ---- a real part
+pub real-part-back : (z : Complex) → Fine (real-part z) → Re (real-part z) z
+unfolding real-part
+real-part-back z f =
+    let h = chosen (eq (z .im) zero-f) (z .re) f in
+    record { re = subst (λ (x : Float). Keeps x (z .re)) (sym (h .1)) kept; im = equals-zero (z .im) (of-true _ (h .0)) }
+
+-- ---- a number beside a finite one
+pub if-finite-back : (y x : Float) → Fine (if-finite y x) → Fine y × (if-finite y x ≡ x)
+unfolding if-finite
+if-finite-back y x f = let h = chosen (finite y) x f in (record { fine = of-true _ (h .0) }, h .1)
+
+pub real-part-is : (z : Complex) → Fine (real-part z) → real-part z ≡ z .re
+unfolding real-part
+real-part-is z f = chosen (eq (z .im) zero-f) (z .re) f .1

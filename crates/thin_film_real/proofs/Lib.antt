@@ -1,0 +1,4 @@
+-- Laws of values that are equal or both zeros, and of complex numbers whose one part is such a zero.
+pub mod Keeps
+pub mod Parts
+pub mod Phase
