@@ -20,6 +20,8 @@ use thin_film_solver::CoatingResponse;
 use thin_film_solver::Incidence;
 use thin_film_solver::ThinFilmLayer;
 
+mod quick;
+
 // A surface's powers alone, or a refusal.
 pub enum PowersReply {
     Powers(Powers),
@@ -104,12 +106,14 @@ pub fn powers_at(
 {
     match gate_limits::interface_of(surface.coating) {
         Interface::Bare => PowersReply::Powers(surface::bare_powers(surface)),
-        Interface::Coated(coating) => {
-            match evaluate_at(src, at, n, surface, coating, wavelength_nm) {
-                Evaluation::Response(r) => PowersReply::Powers(surface::coated_powers(r)),
-                Evaluation::Refused(r) => PowersReply::Refused(r),
-            }
-        }
+        Interface::Coated(coating) => quick::coated_powers(
+            src,
+            at,
+            n,
+            surface,
+            coating,
+            wavelength_nm,
+        ),
     }
 }
 

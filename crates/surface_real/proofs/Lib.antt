@@ -1,6 +1,7 @@
--- Laws of the real way: what finite numbers say, a film's matrices, products of them, powers; and all of it.
+-- Laws of the real way: what finite numbers say, a film's matrices, products of them, powers; all of it; and a loop over layers.
 pub mod Back
 pub mod Lossless
 pub mod Products
 pub mod Powers
 pub mod Whole
+pub mod Turns

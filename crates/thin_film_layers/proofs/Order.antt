@@ -55,7 +55,7 @@ getD-reverse (x ∷ xs) i d h = ap (λ (l : List ThinFilmLayer). getD l i d) (re
     one-in : i < length xs → suc (length xs - 1 - i) ≡ suc (length xs) - 1 - i
     one-in l = omega arith
 
-nth : (reversed : Bool) (ls : List ThinFilmLayer) (i : ℕ) (d : ThinFilmLayer) → i < length ls → getD ls (nth-index reversed (length ls) i) d ≡ getD (ordered reversed ls) i d
+pub nth : (reversed : Bool) (ls : List ThinFilmLayer) (i : ℕ) (d : ThinFilmLayer) → i < length ls → getD ls (nth-index reversed (length ls) i) d ≡ getD (ordered reversed ls) i d
 unfolding ordered
 nth false ls i d h = refl
 nth true ls i d h = sym (getD-reverse ls i d h)

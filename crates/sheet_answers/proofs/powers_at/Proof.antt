@@ -3,16 +3,15 @@ use mathlib.Core.Path.{_≡_, sym, ap, _∙_}
 use mathlib.Core.List.{List}
 use lib.Ieee.{Float}
 use borrow.Author.Needs.{needs}
-use Rattle.refusal.specs.Outcome.{answer, map}
+use Rattle.refusal.specs.Outcome.{Outcome, answer, map}
 use Rattle.thin_film_solver.specs.declared.ThinFilmLayer.{ThinFilmLayer}
 use Rattle.thin_film.specs.declared.SurfaceCoating.{SurfaceCoating}
-use Rattle.thin_film_layers.specs.declared.Evaluation.{Evaluation}
-use Rattle.thin_film_layers.specs.Evaluation.{outcome}
 use Rattle.thin_film.specs.Evaluate.{evaluate-surface}
 use Rattle.gate_limits.specs.declared.Surface.{Surface}
 use Rattle.gate_limits.specs.declared.Interface.{Interface}
 use Rattle.gate_limits.specs.declared.Interface.the-variants.{Bare, Coated}
 use Rattle.gate_limits.specs.Coating.{interface}
+use Rattle.surface.specs.declared.Powers.{Powers}
 use Rattle.surface.specs.Answers.{bare-powers, coated-powers, powers-of, powers}
 use Rattle.sheet_answers.proofs.powers_at.Statement.{statement}
 use Rattle.sheet_answers.proofs.powers_at.Tie as tie
@@ -26,24 +25,15 @@ module _ (wavelength : Float) (layers : List ThinFilmLayer) (s : Surface) (i : I
   unfolding powers-of
   bare e = told Bare e
 
-  coated : (coating : SurfaceCoating) → i ≡ Coated coating → (a k : Evaluation) → outcome a ≡ evaluate-surface coating layers (s .«n_incident») (s .«n_substrate») (s .«angle_rad») wavelength → a ≡ k
-      → map coated-powers (outcome k) ≡ powers wavelength s layers
+  coated : (coating : SurfaceCoating) → i ≡ Coated coating → (o : Outcome Powers) → o ≡ map coated-powers (evaluate-surface coating layers (s .«n_incident») (s .«n_substrate») (s .«angle_rad») wavelength) → o ≡ powers wavelength s layers
   unfolding powers-of
-  coated coating e a k a-is h = ap (map coated-powers) (ap outcome (sym h) ∙ a-is) ∙ told (Coated coating) e
+  coated coating e o h = h ∙ told (Coated coating) e
 
 returns : tie.Need-returns
 returns c = ap answer (c .bare-powers .ensures) ∙ bare _ _ _ _ (c .before .before .before .interface-of .ensures) (c .before .enum-told .given .1)
 
 returns-2 : tie.Need-returns-2
-returns-2 c =
-    ap answer (c .coated-powers .ensures)
-    ∙ coated _ _ _ _ (c .before .before .before .before .before .before .before .before .interface-of .ensures)
-    _ (c .before .before .before .before .before .before .coating .given .1) _ _ (c .before .before .before .before .evaluate-at .ensures) (c .before .before .r .given .1)
-
-returns-3 : tie.Need-returns-3
-returns-3 c =
-    coated _ _ _ _ (c .before .before .before .before .before .before .before .interface-of .ensures)
-    _ (c .before .before .before .before .before .coating .given .1) _ _ (c .before .before .before .evaluate-at .ensures) (c .before .r2 .given .1)
+returns-2 c = coated _ _ _ _ (c .before .before .before .before .interface-of .ensures) _ (c .before .before .coating .given .1) _ (c .coated-powers .ensures)
 
 pub powers-at-spec : {M : Type 1} → statement M
 powers-at-spec =
@@ -54,9 +44,5 @@ powers-at-spec =
     (λ c κs. search needs)
     (λ c. search needs)
     (λ c κs. search needs)
-    (λ c. search needs)
-    (λ c κs. search needs)
-    (λ c. search needs)
     returns
-    returns-2
-    returns-3)
+    returns-2)
