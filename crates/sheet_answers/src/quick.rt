@@ -18,7 +18,8 @@ use thin_film_layers::Evaluation;
 use thin_film_layers::Prepared;
 use thin_film_solver::Incidence;
 
-// The products of the n films after the block at a place, in their order or reversed, at a wavelength.
+// The products of the n films after the block at a place, in their order or reversed, at a wavelength. Films that take
+// turns, as in H L H L, are worked out once.
 fn stack_at(
     src: &[u8],
     at: usize,
@@ -30,11 +31,17 @@ fn stack_at(
     ensures { λ r. ⌜ r ≡ stacked (light .snell) (light .«wavelength_nm») no-films (ordered reversed (films «wavelength_nm» (layers-at (now (src .entry)) (next-place (now (src .entry)) at) n))) ⌝ }
 {
     let mut stack = surface_real::no_films();
+    let mut older = surface_real::none_met();
+    let mut newer = surface_real::none_met();
     let mut i = 0;
     while i < n {
         let j = thin_film_layers::nth_index(reversed, n, i);
-        let film = surface_real::film_of(light, crate::layer_after(src, at, j, wavelength_nm));
+        let layer = crate::layer_after(src, at, j, wavelength_nm);
+        let met = surface_real::meet(light, layer, older);
+        let film = met.film;
         stack = surface_real::join(stack, film);
+        older = newer;
+        newer = met;
         i += 1;
     }
     stack

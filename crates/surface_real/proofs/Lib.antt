@@ -5,3 +5,4 @@ pub mod Products
 pub mod Powers
 pub mod Whole
 pub mod Turns
+pub mod Again

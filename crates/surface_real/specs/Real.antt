@@ -1,6 +1,6 @@
 -- Internal: the powers of films that do not absorb, over real numbers, as the code has them. A reader need not believe it: Claim.antt
 -- ties it to the definitions of section 4. What it does not cover is a NaN.
-use mathlib.Core.Bool.{cond}
+use mathlib.Core.Bool.{Bool, _&&_, cond}
 use mathlib.Core.List.{List, [], _∷_}
 use lib.Ieee.{Float, binary64, neg, lt, le, eq}
 use lib.Ieee.Scale.{finite}
@@ -20,6 +20,7 @@ use Rattle.surface_real.specs.declared.Product.{Product}
 use Rattle.surface_real.specs.declared.Stack.{Stack}
 use Rattle.surface_real.specs.declared.Shares.{Shares}
 use Rattle.surface_real.specs.declared.Known.{Known}
+use Rattle.surface_real.specs.declared.Met.{Met}
 
 -- a NaN
 abbrev pub no-number : Float
@@ -118,3 +119,24 @@ finish i k =
     known-of
     (power (k .s) (i .«n_incident» ⊗ i .«cos_theta0») (real-part (real (i .«n_substrate») ⊠ cos)))
     (power (k .p) (i .«n_incident» ⊘ max (i .«cos_theta0») least-cos) (real-part (real (i .«n_substrate») ⧄ cos)))
+
+-- ---- films that come again
+unfoldable pub same-number : Float → Float → Bool
+same-number x y = lt zero-f x && eq x y
+
+unfoldable pub both-zero : Float → Float → Bool
+both-zero x y = eq x zero-f && eq y zero-f
+
+unfoldable pub same-film : ThinFilmLayer → ThinFilmLayer → Bool
+same-film a b =
+    same-number (a .n) (b .n) && (same-number (a .«thickness_nm») (b .«thickness_nm») && both-zero (a .k) (b .k))
+
+unfoldable pub meet : Float → Float → ThinFilmLayer → Met → Met
+meet snell wavelength layer earlier =
+    record { layer = layer; film = cond (same-film layer (earlier .layer)) (earlier .film) (film-of snell wavelength layer) }
+
+abbrev pub none-met : Met
+none-met = record {
+  layer = record { n = no-number; k = zero-f; «thickness_nm» = zero-f };
+  film = record { cos = zero-f; «y_s» = zero-f; «z_s» = zero-f; «y_p» = zero-f; «z_p» = zero-f };
+}
