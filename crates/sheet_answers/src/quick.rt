@@ -7,7 +7,7 @@ ghost use Rattle.thin_film_solver.specs.Internal.{solved};
 ghost use Rattle.thin_film_layers.specs.Evaluation.{ordered, outcome};
 ghost use Rattle.thin_film.specs.Evaluate.{evaluate-surface};
 ghost use Rattle.surface.specs.Answers.{coated-powers};
-ghost use Rattle.surface_real.specs.Real.{no-films, stacked};
+ghost use Rattle.surface_real.specs.Internal.{no-films, stacked};
 ghost use Rattle.sheet_answers.specs.Outcome.{outcome-of};
 use crate::PowersReply;
 use gate_limits::Surface;

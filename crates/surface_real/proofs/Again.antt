@@ -15,7 +15,7 @@ use Rattle.ieee.proofs.Range.Values.{unique}
 use Rattle.thin_film_solver.specs.declared.ThinFilmLayer.{ThinFilmLayer}
 use Rattle.surface_real.specs.declared.Film.{Film}
 use Rattle.surface_real.specs.declared.Met.{Met}
-use Rattle.surface_real.specs.Real.{no-number, cos-theta, film-of, same-number, both-zero, same-film, meet, none-met}
+use Rattle.surface_real.specs.Internal.{no-number, cos-theta, film-of, same-number, both-zero, same-film, meet, none-met}
 
 -- ---- two numbers that compare equal, above zero, are one
 above : (m d : ℕ) → 0 * 1 * d < m * 1 → 0 < m

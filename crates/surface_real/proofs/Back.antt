@@ -12,7 +12,7 @@ use Rattle.thin_film_complex.specs.declared.Complex.{Complex}
 use Rattle.polarization_value.proofs.Keeps.{Zero, Keeps, kept}
 use Rattle.thin_film_real.proofs.Keeps.{Fine, Divides, mul-back, div-back}
 use Rattle.thin_film_real.proofs.Parts.{Re}
-use Rattle.surface_real.specs.Real.{no-number, over, real-part, if-finite}
+use Rattle.surface_real.specs.Internal.{no-number, over, real-part, if-finite}
 
 pub no-fine : {A : Type 0} → Fine no-number → A
 unfolding ofBits div

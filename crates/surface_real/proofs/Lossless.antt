@@ -19,7 +19,7 @@ use Rattle.thin_film_real.proofs.Keeps.{Fine, mul-back, sub-back, zero-times, k
 use Rattle.thin_film_real.proofs.Parts.{Re, Im, Of, real-re, re-is, im-is, re-re, im-re, re-over, im-over}
 use Rattle.thin_film_real.proofs.Phase.{cos-real, i-sin-imaginary}
 use Rattle.surface_real.specs.declared.Film as D
-use Rattle.surface_real.specs.Real.{over, real-part, if-finite, cos-theta, film-of}
+use Rattle.surface_real.specs.Internal.{over, real-part, if-finite, cos-theta, film-of}
 use Rattle.surface_real.proofs.Back.{chosen, Quotient, over-back, real-part-back, if-finite-back}
 
 module _ (snell : Float) (layer : ThinFilmLayer) (f : Fine (cos-theta snell layer)) where

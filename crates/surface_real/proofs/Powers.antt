@@ -16,7 +16,7 @@ use Rattle.thin_film_real.proofs.Keeps.{Fine, Divides, mul-back, add-back, sub-
 use Rattle.thin_film_real.proofs.Parts.{Re, Im, Both, Of, im-re, re-re}
 use Rattle.surface_real.specs.declared.Product.{Product}
 use Rattle.surface_real.specs.declared.Shares.{Shares}
-use Rattle.surface_real.specs.Real.{no-number, power-of, power}
+use Rattle.surface_real.specs.Internal.{no-number, power-of, power}
 use Rattle.surface_real.proofs.Back.{no-fine}
 use Rattle.surface_real.proofs.Products.{Finite, For}
 

@@ -17,7 +17,7 @@ use Rattle.thin_film_real.proofs.Parts.{Re, Im, Of, product}
 use Rattle.surface_real.specs.declared.Film.{Film}
 use Rattle.surface_real.specs.declared.Product.{Product}
 use Rattle.surface_real.specs.declared.Stack.{Stack}
-use Rattle.surface_real.specs.Real.{film-of, times, join, no-films, stacked}
+use Rattle.surface_real.specs.Internal.{film-of, times, join, no-films, stacked}
 use Rattle.surface_real.proofs.Lossless.{of-s, of-p}
 
 -- ---- finite products

@@ -13,7 +13,7 @@ use Rattle.thin_film_layers.specs.Internal.{nth-index}
 use Rattle.thin_film_layers.proofs.Order.{as-long, nth}
 use Rattle.surface_real.specs.declared.Film.{Film}
 use Rattle.surface_real.specs.declared.Stack.{Stack}
-use Rattle.surface_real.specs.Real.{film-of, join, no-films, stacked}
+use Rattle.surface_real.specs.Internal.{film-of, join, no-films, stacked}
 
 -- what is left of the layers from the i-th on leads to the product of all of them
 abbrev pub Left : Float → Float → Stack → ℕ → List ThinFilmLayer → Type 0

@@ -25,8 +25,8 @@ use Rattle.thin_film_real.proofs.Parts.{Re}
 use Rattle.surface_real.specs.declared.Stack.{Stack}
 use Rattle.surface_real.specs.declared.Shares.{Shares}
 use Rattle.surface_real.specs.declared.Known.{Known}
-use Rattle.surface_real.specs.Real.{no-number, real-part, cos-theta-sub, no-films, stacked, power, known-of, finish}
-use Rattle.surface_real.specs.Claim.{real-powers, RealPowers}
+use Rattle.surface_real.specs.Internal.{no-number, real-part, cos-theta-sub, no-films, stacked, power, known-of, finish}
+use Rattle.surface_real.specs.Internal.{real-powers, RealPowers}
 use Rattle.surface_real.proofs.Back.{chosen, real-part-back, real-part-is}
 use Rattle.surface_real.proofs.Products.{Finite, For, Fine-stack, Both-for, begun, through}
 use Rattle.surface_real.proofs.Powers as P

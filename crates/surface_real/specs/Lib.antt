@@ -1,3 +1,2 @@
--- The powers of a coated surface over real numbers; Real need not be believed: Claim ties it to `coated-powers`.
-pub mod Real
-pub mod Claim
+-- The powers of a coated surface over real numbers: Internal need not be believed.
+pub mod Internal

@@ -2,7 +2,7 @@
 // [[cos, i y], [i z, cos]] then, and so is each product. What the quick way does not cover makes a NaN, and a NaN or an
 // infinity stays to the end: the powers are known where the last numbers are finite, and are those of thin_film_solver.
 ghost use mathlib.Core.Path.{_≡_};
-ghost use Rattle.surface_real.specs.Real.{over, real-part, if-finite, cos-theta, film-of, times, join, no-films, cos-theta-sub, power, finish, same-number, both-zero, same-film, meet, none-met};
+ghost use Rattle.surface_real.specs.Internal.{over, real-part, if-finite, cos-theta, film-of, times, join, no-films, cos-theta-sub, power, finish, same-number, both-zero, same-film, meet, none-met};
 use surface::Powers;
 use thin_film_complex::Complex;
 use thin_film_solver::Incidence;

@@ -1,5 +1,5 @@
 -- `surface_real::both_zero` meets its contract. Assumes nothing.
-use Rattle.surface_real.specs.Real.{both-zero}
+use Rattle.surface_real.specs.Internal.{both-zero}
 use Rattle.surface_real.proofs.both_zero.Statement.{statement}
 use Rattle.surface_real.proofs.both_zero.Tie as tie
 

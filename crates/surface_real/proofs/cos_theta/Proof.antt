@@ -7,7 +7,7 @@ use Rattle.ieee.specs.Functions.{zero-f, one}
 use Rattle.thin_film_complex.specs.declared.Complex.{Complex}
 use Rattle.thin_film_complex.specs.Complex.{real, sqrt}
 use Rattle.thin_film_solver.specs.declared.ThinFilmLayer.{ThinFilmLayer}
-use Rattle.surface_real.specs.Real.{no-number, over, real-part, if-finite, cos-theta}
+use Rattle.surface_real.specs.Internal.{no-number, over, real-part, if-finite, cos-theta}
 use borrow.Author.Needs.{needs}
 use Rattle.surface_real.proofs.cos_theta.Statement.{statement}
 use Rattle.surface_real.proofs.cos_theta.Tie as tie

@@ -5,7 +5,7 @@ use lib.Ieee.{Float, binary64, le}
 use Rattle.ieee.specs.Operators.{_⊖_, _⊗_}
 use Rattle.ieee.specs.Functions.{zero-f, one, abs, max}
 use Rattle.math_root.specs.Root.{squareRoot}
-use Rattle.surface_real.specs.Real.{no-number, cos-theta-sub}
+use Rattle.surface_real.specs.Internal.{no-number, cos-theta-sub}
 use borrow.Author.Needs.{needs}
 use Rattle.surface_real.proofs.cos_theta_sub.Statement.{statement}
 use Rattle.surface_real.proofs.cos_theta_sub.Tie as tie

@@ -11,7 +11,7 @@ use Rattle.thin_film_matrix.specs.Film.{cos-delta, i-sin-delta}
 use Rattle.thin_film_solver.specs.declared.ThinFilmLayer.{ThinFilmLayer}
 use Rattle.thin_film_solver.specs.Layer.{factor}
 use Rattle.surface_real.specs.declared.Film.{Film}
-use Rattle.surface_real.specs.Real.{over, if-finite, cos-theta, film-of}
+use Rattle.surface_real.specs.Internal.{over, if-finite, cos-theta, film-of}
 use borrow.Author.Needs.{needs}
 use Rattle.surface_real.proofs.film_of.Statement.{statement}
 use Rattle.surface_real.proofs.film_of.Tie as tie

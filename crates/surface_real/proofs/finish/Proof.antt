@@ -13,7 +13,7 @@ use Rattle.surface.specs.declared.Powers.{Powers}
 use Rattle.surface_real.specs.declared.Stack.{Stack}
 use Rattle.surface_real.specs.declared.Shares.{Shares}
 use Rattle.surface_real.specs.declared.Known.{Known}
-use Rattle.surface_real.specs.Real.{real-part, cos-theta-sub, power, known-of, finish}
+use Rattle.surface_real.specs.Internal.{real-part, cos-theta-sub, power, known-of, finish}
 use borrow.Author.Needs.{needs}
 use Rattle.surface_real.proofs.finish.Statement.{statement}
 use Rattle.surface_real.proofs.finish.Tie as tie

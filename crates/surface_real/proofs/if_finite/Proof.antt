@@ -3,7 +3,7 @@ use mathlib.Core.Path.{_≡_}
 use mathlib.Core.Bool.{Bool, true, false}
 use lib.Ieee.{Float}
 use lib.Ieee.Scale.{finite}
-use Rattle.surface_real.specs.Real.{no-number, if-finite}
+use Rattle.surface_real.specs.Internal.{no-number, if-finite}
 use borrow.Author.Needs.{needs}
 use Rattle.surface_real.proofs.if_finite.Statement.{statement}
 use Rattle.surface_real.proofs.if_finite.Tie as tie

@@ -1,5 +1,5 @@
 -- `surface_real::join` meets its contract. Assumes nothing.
-use Rattle.surface_real.specs.Real.{join}
+use Rattle.surface_real.specs.Internal.{join}
 use borrow.Author.Needs.{needs}
 use Rattle.surface_real.proofs.join.Statement.{statement}
 use Rattle.surface_real.proofs.join.Tie as tie

@@ -5,7 +5,7 @@ use lib.Ieee.{Float}
 use Rattle.thin_film_solver.specs.declared.ThinFilmLayer.{ThinFilmLayer}
 use Rattle.surface_real.specs.declared.Film.{Film}
 use Rattle.surface_real.specs.declared.Met.{Met}
-use Rattle.surface_real.specs.Real.{film-of, same-film, meet}
+use Rattle.surface_real.specs.Internal.{film-of, same-film, meet}
 use borrow.Author.Needs.{needs}
 use Rattle.surface_real.proofs.meet.Statement.{statement}
 use Rattle.surface_real.proofs.meet.Tie as tie

@@ -1,5 +1,5 @@
 -- `surface_real::over` meets its contract. Assumes nothing.
-use Rattle.surface_real.specs.Real.{over}
+use Rattle.surface_real.specs.Internal.{over}
 use Rattle.surface_real.proofs.over.Statement.{statement}
 use Rattle.surface_real.proofs.over.Tie as tie
 

@@ -5,7 +5,7 @@ use lib.Ieee.{Float, neg, lt}
 use Rattle.ieee.specs.Operators.{_⊕_, _⊖_, _⊗_, _⊘_}
 use Rattle.ieee.specs.Functions.{two, tiny}
 use Rattle.surface_real.specs.declared.Shares.{Shares}
-use Rattle.surface_real.specs.Real.{no-number, power-of, power}
+use Rattle.surface_real.specs.Internal.{no-number, power-of, power}
 use Rattle.surface_real.proofs.power.Statement.{statement}
 use Rattle.surface_real.proofs.power.Tie as tie
 

@@ -1,5 +1,5 @@
 -- `surface_real::real_part` meets its contract. Assumes nothing.
-use Rattle.surface_real.specs.Real.{real-part}
+use Rattle.surface_real.specs.Internal.{real-part}
 use Rattle.surface_real.proofs.real_part.Statement.{statement}
 use Rattle.surface_real.proofs.real_part.Tie as tie
 

@@ -2,7 +2,7 @@
 use mathlib.Core.Path.{_≡_, sym, _∙_}
 use mathlib.Core.Bool.{Bool, true, false}
 use Rattle.thin_film_solver.specs.declared.ThinFilmLayer.{ThinFilmLayer}
-use Rattle.surface_real.specs.Real.{same-number, both-zero, same-film}
+use Rattle.surface_real.specs.Internal.{same-number, both-zero, same-film}
 use borrow.Author.Needs.{needs}
 use Rattle.surface_real.proofs.same_film.Statement.{statement}
 use Rattle.surface_real.proofs.same_film.Tie as tie

@@ -1,5 +1,5 @@
 -- `surface_real::same_number` meets its contract. Assumes nothing.
-use Rattle.surface_real.specs.Real.{same-number}
+use Rattle.surface_real.specs.Internal.{same-number}
 use Rattle.surface_real.proofs.same_number.Statement.{statement}
 use Rattle.surface_real.proofs.same_number.Tie as tie
 

@@ -1,5 +1,5 @@
 -- `surface_real::times` meets its contract. Assumes nothing.
-use Rattle.surface_real.specs.Real.{times}
+use Rattle.surface_real.specs.Internal.{times}
 use Rattle.surface_real.proofs.times.Statement.{statement}
 use Rattle.surface_real.proofs.times.Tie as tie
 

@@ -11,8 +11,8 @@ use Rattle.surface.specs.declared.Powers.{Powers}
 use Rattle.surface.specs.Answers.{coated-powers}
 use Rattle.surface_real.specs.declared.Stack.{Stack}
 use Rattle.surface_real.specs.declared.Known.{Known}
-use Rattle.surface_real.specs.Real.{no-films, stacked, finish}
-use Rattle.surface_real.specs.Claim.{real-powers}
+use Rattle.surface_real.specs.Internal.{no-films, stacked, finish}
+use Rattle.surface_real.specs.Internal.{real-powers}
 use Rattle.surface_real.proofs.Whole.{whole}
 use Rattle.sheet_answers.proofs.quick.powers_with.Statement.{statement}
 use Rattle.sheet_answers.proofs.quick.powers_with.Tie as tie

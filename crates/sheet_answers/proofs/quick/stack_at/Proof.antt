@@ -13,7 +13,7 @@ use Rattle.sheet.specs.Internal.{next-place, place-on, layer-at, layers-at}
 use Rattle.sheet_values.specs.Values.{film, films}
 use Rattle.surface_real.specs.declared.Film.{Film}
 use Rattle.surface_real.specs.declared.Met.{Met}
-use Rattle.surface_real.specs.Real.{film-of, meet, none-met}
+use Rattle.surface_real.specs.Internal.{film-of, meet, none-met}
 use Rattle.surface_real.proofs.Turns.{Left, begun, turn, last}
 use Rattle.surface_real.proofs.Again.{Right, met-film, met-right, none-right}
 use Rattle.sheet_answers.proofs.After.{many, nth, held}

@@ -1,6 +1,7 @@
--- Internal: the powers of films that do not absorb, over real numbers, as the code has them. A reader need not believe it: Claim.antt
--- ties it to the definitions of section 4. What it does not cover is a NaN.
-use mathlib.Core.Bool.{Bool, _&&_, cond}
+-- Internal: the powers of films that do not absorb, over real numbers, as the code has them. What this way does not cover is a NaN.
+-- A reader need not believe it: `RealPowers` ties it to the definitions of section 4.
+use mathlib.Core.Path.{_≡_}
+use mathlib.Core.Bool.{Bool, true, _&&_, cond}
 use mathlib.Core.List.{List, [], _∷_}
 use lib.Ieee.{Float, binary64, neg, lt, le, eq}
 use lib.Ieee.Scale.{finite}
@@ -14,7 +15,9 @@ use Rattle.thin_film_solver.specs.declared.ThinFilmLayer.{ThinFilmLayer}
 use Rattle.thin_film_solver.specs.declared.Incidence.{Incidence}
 use Rattle.thin_film_solver.specs.Layer.{factor}
 use Rattle.thin_film_solver.specs.Solve.{least-cos}
+use Rattle.thin_film_solver.specs.Internal.{solved}
 use Rattle.surface.specs.declared.Powers.{Powers}
+use Rattle.surface.specs.Answers.{coated-powers}
 use Rattle.surface_real.specs.declared.Film.{Film}
 use Rattle.surface_real.specs.declared.Product.{Product}
 use Rattle.surface_real.specs.declared.Stack.{Stack}
@@ -119,6 +122,16 @@ finish i k =
     known-of
     (power (k .s) (i .«n_incident» ⊗ i .«cos_theta0») (real-part (real (i .«n_substrate») ⊠ cos)))
     (power (k .p) (i .«n_incident» ⊘ max (i .«cos_theta0») least-cos) (real-part (real (i .«n_substrate») ⧄ cos)))
+
+-- the powers of a list of layers, over real numbers
+abbrev pub real-powers : Incidence → List ThinFilmLayer → Known
+real-powers i layers = finish i (stacked (i .snell) (i .«wavelength_nm») no-films layers)
+
+-- where they are known, they are those of section 4, bit for bit; proofs/Whole.antt has the proof
+abbrev pub RealPowers : Type 0
+RealPowers =
+    (i : Incidence) (layers : List ThinFilmLayer) → real-powers i layers .known ≡ true
+    → real-powers i layers .powers ≡ coated-powers (solved i layers)
 
 -- ---- films that come again
 unfoldable pub same-number : Float → Float → Bool
