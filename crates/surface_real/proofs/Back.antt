@@ -1,18 +1,25 @@
 -- What a finite number of the real way says: nothing stood in its way. Assumes nothing.
 use mathlib.Core.Path.{_≡_, refl, sym, ap, _∙_, subst}
-use mathlib.Core.Bool.{Bool, true, false, cond}
+use mathlib.Core.Bool.{Bool, true, false, _&&_, cond}
 use lib.Dec.{T}
-use lib.Ieee.{Float, binary64, div, lt, eq, ofBits}
+use lib.Ieee.{Float, binary64, div, lt, le, eq, fits, ofBits}
+use lib.Ieee.Positive.{positive}
 use lib.Ieee.Scale.{finite}
-use Rattle.ieee.specs.Operators.{_⊗_, _⊘_}
+use Rattle.ieee.specs.Operators.{_⊕_, _⊗_, _⊘_}
 use Rattle.ieee.specs.Functions.{zero-f, tiny}
+use Rattle.ieee.specs.Range.{In}
 use Rattle.ieee.proofs.Signs.{of-true}
+use Rattle.ieee.proofs.Range.Constants.{zero-mag}
+use Rattle.ieee.proofs.Range.Laws.{in-lit, plus-finite}
+use Rattle.ieee.proofs.Range.Tests.{gate-in}
 use Rattle.ieee.proofs.Range.FromZero.{equals-zero}
 use Rattle.thin_film_complex.specs.declared.Complex.{Complex}
+use Rattle.thin_film_complex.specs.Complex.{real, half-root, sqrt}
+use Rattle.thin_film_complex.proofs.RealRoot.{root-is}
 use Rattle.polarization_value.proofs.Keeps.{Zero, Keeps, kept}
 use Rattle.thin_film_real.proofs.Keeps.{Fine, Divides, mul-back, div-back}
 use Rattle.thin_film_real.proofs.Parts.{Re}
-use Rattle.surface_real.specs.Internal.{no-number, over, real-part, if-finite}
+use Rattle.surface_real.specs.Internal.{no-number, over, real-part, if-finite, least-square, most-square, root}
 
 pub no-fine : {A : Type 0} → Fine no-number → A
 unfolding ofBits div
@@ -58,3 +65,31 @@ if-finite-back y x f = let h = chosen (finite y) x f in (record { fine = of-true
 pub real-part-is : (z : Complex) → Fine (real-part z) → real-part z ≡ z .re
 unfolding real-part
 real-part-is z f = chosen (eq (z .im) zero-f) (z .re) f .1
+
+-- ---- a root
+least-in : In 1 10 1 10 least-square
+unfolding ofBits
+least-in = in-lit least-square tt
+
+most-in : In 1024 0 1024 0 most-square
+unfolding ofBits
+most-in = in-lit most-square tt
+
+ends : T (positive least-square && positive most-square)
+unfolding ofBits
+ends = tt
+
+zero-same : eq zero-f zero-f ≡ true
+unfolding eq ofBits
+zero-same = refl
+
+pub root-back : (x : Float) → T (fits binary64 x) → Fine (root x) → Fine x × Re (root x) (sqrt (real x))
+unfolding root real
+root-back x held f =
+    let h = chosen (le least-square x) (cond (le x most-square) (half-root (x ⊕ x)) no-number) f in
+    let g = chosen (le x most-square) (half-root (x ⊕ x)) (subst Fine (h .1) f) in
+    let n : In 1 10 1024 0 x = gate-in least-square most-square x least-in most-in ends (of-true _ (h .0)) (of-true _ (g .0)) in (
+      record { fine = plus-finite x (n .sign) },
+      subst (Re (root x)) (root-is (record { re = x; im = zero-f }) held zero-same (h .0) (g .0))
+          (record { re = subst (λ (y : Float). Keeps y (half-root (x ⊕ x))) (sym (h .1 ∙ g .1)) kept; im = zero-mag }),
+    )

@@ -1,7 +1,8 @@
 -- A film that does not absorb: its matrices are those of section 4, up to a zero's sign, where its numbers are finite. Assumes nothing.
 use mathlib.Core.Path.{_≡_, refl, sym, ap, ap₂, _∙_, subst}
 use mathlib.Core.Bool.{true, cond}
-use lib.Ieee.{Float, neg, eq}
+use lib.Ieee.{Float, binary64, neg, eq}
+use lib.Ieee.Fits.{sub-fits}
 use Rattle.ieee.specs.Operators.{_⊖_, _⊗_, _⊘_}
 use Rattle.ieee.specs.Functions.{zero-f, one}
 use Rattle.ieee.proofs.Signs.{of-true}
@@ -19,8 +20,8 @@ use Rattle.thin_film_real.proofs.Keeps.{Fine, mul-back, sub-back, zero-times, k
 use Rattle.thin_film_real.proofs.Parts.{Re, Im, Of, real-re, re-is, im-is, re-re, im-re, re-over, im-over}
 use Rattle.thin_film_real.proofs.Phase.{cos-real, i-sin-imaginary}
 use Rattle.surface_real.specs.declared.Film as D
-use Rattle.surface_real.specs.Internal.{over, real-part, if-finite, cos-theta, film-of}
-use Rattle.surface_real.proofs.Back.{chosen, Quotient, over-back, real-part-back, if-finite-back}
+use Rattle.surface_real.specs.Internal.{over, if-finite, root, cos-theta, film-of}
+use Rattle.surface_real.proofs.Back.{chosen, Quotient, over-back, if-finite-back, root-back}
 
 module _ (snell : Float) (layer : ThinFilmLayer) (f : Fine (cos-theta snell layer)) where
   abbrev n : Float
@@ -32,22 +33,16 @@ module _ (snell : Float) (layer : ThinFilmLayer) (f : Fine (cos-theta snell laye
   abbrev square : Float
   square = one ⊖ q ⊗ q
 
-  abbrev root : Complex
-  root = sqrt (real square)
-
-  lossless : (eq (layer .k) zero-f ≡ true) × (cos-theta snell layer ≡ if-finite square (real-part root))
+  lossless : (eq (layer .k) zero-f ≡ true) × (cos-theta snell layer ≡ root square)
   unfolding cos-theta
-  lossless = chosen (eq (layer .k) zero-f) (if-finite square (real-part root)) f
+  lossless = chosen (eq (layer .k) zero-f) (root square) f
 
   pub index-real : Re n (index layer)
   unfolding index
   index-real = record { re = kept; im = neg-mag (equals-zero (layer .k) (of-true _ (lossless .0))) }
 
-  here : Fine square × (if-finite square (real-part root) ≡ real-part root)
-  here = if-finite-back square (real-part root) (subst Fine (lossless .1) f)
-
-  pub cos-is : cos-theta snell layer ≡ real-part root
-  cos-is = lossless .1 ∙ here .1
+  here : Fine square × Re (root square) (sqrt (real square))
+  here = root-back square (sub-fits binary64 one (q ⊗ q)) (subst Fine (lossless .1) f)
 
   square-fine : Fine (q ⊗ q)
   square-fine = sub-back one (q ⊗ q) (here .0) .1
@@ -69,12 +64,12 @@ module _ (snell : Float) (layer : ThinFilmLayer) (f : Fine (cos-theta snell laye
       (ap (λ (x : Float). x ⊖ s .im ⊗ s .im) (keeps-square (sin-real .re)) ∙ square-less-zero q square-fine g (sin-real .im))
       (zero-less-zero (re-re g g sin-real sin-real .im))
 
-  theta-is : Film.cos-theta snell (index layer) ≡ root
+  theta-is : Film.cos-theta snell (index layer) ≡ sqrt (real square)
   unfolding Film.cos-theta
   theta-is = ap sqrt square-is
 
   pub theta-real : Re (cos-theta snell layer) (Film.cos-theta snell (index layer))
-  theta-real = re-is (sym cos-is) (subst (Re (real-part root)) (sym theta-is) (real-part-back root (subst Fine cos-is f)))
+  theta-real = re-is (sym (lossless .1)) (subst (Re (root square)) (sym theta-is) (here .1))
 
 -- ---- the matrices
 module _ (snell wavelength : Float) (layer : ThinFilmLayer) where

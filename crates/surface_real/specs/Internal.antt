@@ -3,13 +3,13 @@
 use mathlib.Core.Path.{_≡_}
 use mathlib.Core.Bool.{Bool, true, _&&_, cond}
 use mathlib.Core.List.{List, [], _∷_}
-use lib.Ieee.{Float, binary64, neg, lt, le, eq}
+use lib.Ieee.{Float, binary64, neg, lt, le, eq, ofBits}
 use lib.Ieee.Scale.{finite}
 use Rattle.ieee.specs.Operators.{_⊕_, _⊖_, _⊗_, _⊘_}
 use Rattle.ieee.specs.Functions.{zero-f, one, two, tiny, abs, max, clamp}
 use Rattle.math_root.specs.Root.{squareRoot}
 use Rattle.thin_film_complex.specs.declared.Complex.{Complex}
-use Rattle.thin_film_complex.specs.Complex.{real, sqrt, _⊠_, _⧄_}
+use Rattle.thin_film_complex.specs.Complex.{real, half-root, _⊠_, _⧄_}
 use Rattle.thin_film_matrix.specs.Film.{cos-delta, i-sin-delta}
 use Rattle.thin_film_solver.specs.declared.ThinFilmLayer.{ThinFilmLayer}
 use Rattle.thin_film_solver.specs.declared.Incidence.{Incidence}
@@ -39,11 +39,20 @@ real-part z = cond (eq (z .im) zero-f) (z .re) no-number
 unfoldable pub if-finite : Float → Float → Float
 if-finite y x = cond (finite y) x no-number
 
+-- 2 ^ -10 and 2 ^ 10
+abbrev pub least-square : Float
+least-square = ofBits binary64 0x3F50_0000_0000_0000
+
+abbrev pub most-square : Float
+most-square = ofBits binary64 0x4090_0000_0000_0000
+
+unfoldable pub root : Float → Float
+root x = cond (le least-square x) (cond (le x most-square) (half-root (x ⊕ x)) no-number) no-number
+
 unfoldable pub cos-theta : Float → ThinFilmLayer → Float
 cos-theta snell layer =
     let sin = over snell (layer .n) in
-    let square = one ⊖ sin ⊗ sin in
-    cond (eq (layer .k) zero-f) (if-finite square (real-part (sqrt (real square)))) no-number
+    cond (eq (layer .k) zero-f) (root (one ⊖ sin ⊗ sin)) no-number
 
 unfoldable pub film-of : Float → Float → ThinFilmLayer → Film
 film-of snell wavelength layer =

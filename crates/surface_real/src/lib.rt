@@ -2,7 +2,7 @@
 // [[cos, i y], [i z, cos]] then, and so is each product. What the quick way does not cover makes a NaN, and a NaN or an
 // infinity stays to the end: the powers are known where the last numbers are finite, and are those of thin_film_solver.
 ghost use mathlib.Core.Path.{_≡_};
-ghost use Rattle.surface_real.specs.Internal.{over, real-part, if-finite, cos-theta, film-of, times, join, no-films, cos-theta-sub, power, finish, same-number, both-zero, same-film, meet, none-met};
+ghost use Rattle.surface_real.specs.Internal.{over, real-part, if-finite, root, cos-theta, film-of, times, join, no-films, cos-theta-sub, power, finish, same-number, both-zero, same-film, meet, none-met};
 use surface::Powers;
 use thin_film_complex::Complex;
 use thin_film_solver::Incidence;
@@ -44,15 +44,28 @@ fn if_finite(y: f64, x: f64) -> f64
     if ieee::is_finite(y) { x } else { 0.0 / 0.0 }
 }
 
+// The root of a number from 2^-10 to 2^10, as Complex::sqrt takes it.
+fn root(x: f64) -> f64
+    ensures { λ r. ⌜ r ≡ root x ⌝ }
+{
+    if x >= 0.0009765625 {
+        if x <= 1024.0 {
+            math_sqrt::sqrt(ieee::max((x + x) / 2.0, 0.0))
+        } else {
+            0.0 / 0.0
+        }
+    } else {
+        0.0 / 0.0
+    }
+}
+
 // cos(theta) in a film that does not absorb.
 fn cos_theta(snell: f64, layer: ThinFilmLayer) -> f64
     ensures { λ r. ⌜ r ≡ cos-theta snell layer ⌝ }
 {
     let sin = over(snell, layer.n);
-    let square = 1.0 - sin * sin;
-    let root = real_part(Complex::real(square).sqrt());
     if layer.k == 0.0 {
-        if_finite(square, root)
+        root(1.0 - sin * sin)
     } else {
         0.0 / 0.0
     }

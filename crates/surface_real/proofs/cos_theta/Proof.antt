@@ -4,28 +4,26 @@ use mathlib.Core.Bool.{true, false}
 use lib.Ieee.{Float, eq}
 use Rattle.ieee.specs.Operators.{_⊖_, _⊗_}
 use Rattle.ieee.specs.Functions.{zero-f, one}
-use Rattle.thin_film_complex.specs.declared.Complex.{Complex}
-use Rattle.thin_film_complex.specs.Complex.{real, sqrt}
 use Rattle.thin_film_solver.specs.declared.ThinFilmLayer.{ThinFilmLayer}
-use Rattle.surface_real.specs.Internal.{no-number, over, real-part, if-finite, cos-theta}
+use Rattle.surface_real.specs.Internal.{no-number, over, root, cos-theta}
 use borrow.Author.Needs.{needs}
 use Rattle.surface_real.proofs.cos_theta.Statement.{statement}
 use Rattle.surface_real.proofs.cos_theta.Tie as tie
 
 module _ (snell : Float) (layer : ThinFilmLayer) where
-  lossless : (s : Float) (v z : Complex) (u r : Float) → s ≡ over snell (layer .n) → v ≡ real (one ⊖ s ⊗ s) → z ≡ sqrt v → u ≡ real-part z → eq (layer .k) zero-f ≡ true → r ≡ if-finite (one ⊖ s ⊗ s) u → r ≡ cos-theta snell layer
+  lossless : (s r : Float) → s ≡ over snell (layer .n) → eq (layer .k) zero-f ≡ true → r ≡ root (one ⊖ s ⊗ s) → r ≡ cos-theta snell layer
   unfolding cos-theta
-  lossless s v z u r h1 h2 h3 h4 h5 h6 = simp (h6, h5, h4, h3, h2, h1)
+  lossless s r h1 h2 h3 = simp (h3, h2, h1)
 
   lossy : eq (layer .k) zero-f ≡ false → no-number ≡ cos-theta snell layer
   unfolding cos-theta
   lossy h = simp h
 
 returns : tie.Need-returns
-returns c = lossless _ _ _ _ _ _ _ (c .before .before .before .before .before .before .over .ensures) (c .before .before .before .before .before .real .ensures) (c .before .before .before .before .sqrt .ensures) (c .before .before .before .real-part .ensures) (c .before .if1 .taken) (c .if-finite .ensures)
+returns c = lossless _ _ _ _ (c .before .before .before .over .ensures) (c .before .if1 .taken) (c .root .ensures)
 
 returns-2 : tie.Need-returns-2
 returns-2 c = lossy _ _ (c .if1 .left)
 
 pub cos-theta-spec : {M : Type 1} → statement M
-cos-theta-spec = tie.close (tie.spec (λ c κs. search needs) (λ c κs. search needs) (λ c κs. search needs) (λ c κs. search needs) (λ c κs. search needs) returns returns-2)
+cos-theta-spec = tie.close (tie.spec (λ c κs. search needs) (λ c κs. search needs) returns returns-2)
