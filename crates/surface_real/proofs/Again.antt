@@ -1,19 +1,18 @@
 -- A film that comes again is the film of its layer. Assumes nothing.
-use mathlib.Core.Path.{_≡_, refl, sym, ap, _∙_, subst}
-use mathlib.Core.Bool.{Bool, true, false, _&&_, _||_, Bool·beq, cond, true≢false, false≢true}
+use mathlib.Core.Path.{_≡_, refl, sym, _∙_, subst}
+use mathlib.Core.Bool.{Bool, true, false, _&&_, _||_, Bool·beq, cond}
 use Prim.Native.Nat.{ℕ, _*_, _<_}
 use native.Mathlib.Nat.{mul-pos, lt-irrefl}
 use native.Mathlib.Omega.{arith}
-use lib.Dec.{T, eqb, ltb, eqb→eq, ltb→lt}
+use lib.Dec.{T, eqb, eqb→eq, ltb→lt}
 use lib.IntN.{pos}
 use lib.Ieee.{Float, nan, inf, fin, binary64, up, down, lt, eq, div, fits, ofBits}
 use lib.Ieee.Fits.{and-l, and-r, down-pos}
 use Rattle.ieee.specs.Functions.{zero-f}
-use Rattle.ieee.proofs.Signs.{zero-is, of-true}
+use Rattle.ieee.proofs.Signs.{zero-is}
 use Rattle.ieee.proofs.Patterns.{nan-is}
 use Rattle.ieee.proofs.Range.Values.{unique}
 use Rattle.thin_film_solver.specs.declared.ThinFilmLayer.{ThinFilmLayer}
-use Rattle.surface_real.specs.declared.Film.{Film}
 use Rattle.surface_real.specs.declared.Met.{Met}
 use Rattle.surface_real.specs.Internal.{no-number, cos-theta, film-of, same-number, both-zero, same-film, meet, none-met}
 

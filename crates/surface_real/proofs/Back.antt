@@ -1,5 +1,5 @@
 -- What a finite number of the real way says: nothing stood in its way. Assumes nothing.
-use mathlib.Core.Path.{_≡_, refl, sym, ap, _∙_, subst}
+use mathlib.Core.Path.{_≡_, refl, sym, _∙_, subst}
 use mathlib.Core.Bool.{Bool, true, false, _&&_, cond}
 use lib.Dec.{T}
 use lib.Ieee.{Float, binary64, div, lt, le, eq, fits, ofBits}
@@ -16,7 +16,7 @@ use Rattle.ieee.proofs.Range.FromZero.{equals-zero}
 use Rattle.thin_film_complex.specs.declared.Complex.{Complex}
 use Rattle.thin_film_complex.specs.Complex.{real, half-root, sqrt}
 use Rattle.thin_film_complex.proofs.RealRoot.{root-is}
-use Rattle.polarization_value.proofs.Keeps.{Zero, Keeps, kept}
+use Rattle.polarization_value.proofs.Keeps.{Keeps, kept}
 use Rattle.thin_film_real.proofs.Keeps.{Fine, Divides, mul-back, div-back}
 use Rattle.thin_film_real.proofs.Parts.{Re}
 use Rattle.surface_real.specs.Internal.{no-number, over, real-part, if-finite, least-square, most-square, root}

@@ -1,9 +1,9 @@
 -- A film that does not absorb: its matrices are those of section 4, up to a zero's sign, where its numbers are finite. Assumes nothing.
-use mathlib.Core.Path.{_≡_, refl, sym, ap, ap₂, _∙_, subst}
-use mathlib.Core.Bool.{true, cond}
-use lib.Ieee.{Float, binary64, neg, eq}
+use mathlib.Core.Path.{_≡_, sym, ap, ap₂, _∙_, subst}
+use mathlib.Core.Bool.{true}
+use lib.Ieee.{Float, binary64, eq}
 use lib.Ieee.Fits.{sub-fits}
-use Rattle.ieee.specs.Operators.{_⊖_, _⊗_, _⊘_}
+use Rattle.ieee.specs.Operators.{_⊖_, _⊗_}
 use Rattle.ieee.specs.Functions.{zero-f, one}
 use Rattle.ieee.proofs.Signs.{of-true}
 use Rattle.ieee.proofs.Range.Laws.{neg-mag}
@@ -12,10 +12,9 @@ use Rattle.thin_film_complex.specs.declared.Complex.{Complex}
 use Rattle.thin_film_complex.specs.Complex.{real, scale, sqrt, sub, mul, _⊟_, _⊠_, _⧄_}
 use Rattle.thin_film_matrix.specs.Film as Film
 use Rattle.thin_film_matrix.specs.Film.{sin-theta, cos-delta, i-sin-delta, characteristic}
-use Rattle.thin_film_matrix.specs.Matrix.{Matrix}
 use Rattle.thin_film_solver.specs.declared.ThinFilmLayer.{ThinFilmLayer}
 use Rattle.thin_film_solver.specs.Layer.{index, factor, delta, layer-s, layer-p}
-use Rattle.polarization_value.proofs.Keeps.{Zero, Keeps, kept}
+use Rattle.polarization_value.proofs.Keeps.{Zero, kept}
 use Rattle.thin_film_real.proofs.Keeps.{Fine, mul-back, sub-back, zero-times, keeps-square, keeps-same, square-less-zero, zero-less-zero}
 use Rattle.thin_film_real.proofs.Parts.{Re, Im, Of, real-re, re-is, im-is, re-re, im-re, re-over, im-over}
 use Rattle.thin_film_real.proofs.Phase.{cos-real, i-sin-imaginary}

@@ -1,9 +1,8 @@
 -- The powers of a product of real films are those of its matrix, bit for bit, where they are finite: they are sums of squares. Assumes nothing.
 use mathlib.Core.Path.{_≡_, refl, sym, ap, ap₂, _∙_, subst}
 use mathlib.Core.Bool.{Bool, true, false, cond}
-use lib.Dec.{T}
-use lib.Ieee.{Float, binary64, neg, lt, fits, ofBits}
-use lib.Ieee.Fits.{add-fits, sub-fits, mul-fits}
+use lib.Ieee.{Float, binary64, neg, lt, ofBits}
+use lib.Ieee.Fits.{mul-fits}
 use Rattle.ieee.specs.Operators.{_⊕_, _⊖_, _⊗_, _⊘_}
 use Rattle.ieee.specs.Functions.{zero-f, one, two, tiny, clamp}
 use Rattle.ieee.proofs.Range.Constants.{zero-mag}
@@ -12,8 +11,8 @@ use Rattle.thin_film_complex.specs.Complex.{real, scale, norm-sq, add, sub, mul
 use Rattle.thin_film_matrix.specs.Matrix.{Matrix}
 use Rattle.thin_film_solver.specs.Solve.{b-of, c-of, reflection, transmission, reflectance, transmittance}
 use Rattle.polarization_value.proofs.Keeps.{Zero, Keeps, kept, keeps-more}
-use Rattle.thin_film_real.proofs.Keeps.{Fine, Divides, mul-back, add-back, sub-back, neg-back, div-back, zero-times, keeps-fine, keeps-mul, keeps-add, keeps-sub, keeps-div, keeps-less, zero-plus, zero-less, keeps-square}
-use Rattle.thin_film_real.proofs.Parts.{Re, Im, Both, Of, im-re, re-re}
+use Rattle.thin_film_real.proofs.Keeps.{Fine, Divides, mul-back, add-back, div-back, zero-times, keeps-fine, keeps-mul, keeps-add, keeps-sub, keeps-div, keeps-less, zero-plus, zero-less, keeps-square}
+use Rattle.thin_film_real.proofs.Parts.{Re, Both, im-re, re-re}
 use Rattle.surface_real.specs.declared.Product.{Product}
 use Rattle.surface_real.specs.declared.Shares.{Shares}
 use Rattle.surface_real.specs.Internal.{no-number, power-of, power}

@@ -1,19 +1,18 @@
 -- Products of the matrices of films that do not absorb are those of section 4, up to a zero's sign, where their numbers are finite.
 -- Assumes nothing.
-use mathlib.Core.Path.{_≡_, refl}
 use mathlib.Core.List.{List, [], _∷_}
 use lib.Dec.{T}
 use lib.Ieee.{Float, binary64, fits, ofBits}
 use lib.Ieee.Fits.{add-fits, sub-fits}
-use Rattle.ieee.specs.Operators.{_⊕_, _⊖_, _⊗_}
+use Rattle.ieee.specs.Operators.{_⊗_}
 use Rattle.ieee.proofs.Range.Constants.{zero-mag}
 use Rattle.thin_film_complex.specs.Complex.{real}
 use Rattle.thin_film_matrix.specs.Matrix.{Matrix, mat-mul, identity}
 use Rattle.thin_film_solver.specs.declared.ThinFilmLayer.{ThinFilmLayer}
 use Rattle.thin_film_solver.specs.Solve.{product-s, product-p}
-use Rattle.polarization_value.proofs.Keeps.{Zero, Keeps, kept}
+use Rattle.polarization_value.proofs.Keeps.{kept}
 use Rattle.thin_film_real.proofs.Keeps.{Fine, mul-back, add-back, sub-back}
-use Rattle.thin_film_real.proofs.Parts.{Re, Im, Of, product}
+use Rattle.thin_film_real.proofs.Parts.{Of, product}
 use Rattle.surface_real.specs.declared.Film.{Film}
 use Rattle.surface_real.specs.declared.Product.{Product}
 use Rattle.surface_real.specs.declared.Stack.{Stack}

@@ -1,15 +1,15 @@
 -- Where the powers of the real way are known, they are those of section 4. Assumes nothing.
-use mathlib.Core.Path.{_≡_, refl, sym, ap, ap₂, _∙_, subst}
-use mathlib.Core.Bool.{true, cond}
+use mathlib.Core.Path.{_≡_, refl, sym, ap, _∙_, subst}
+use mathlib.Core.Bool.{true}
 use mathlib.Core.List.{List}
 use lib.Ieee.{Float, binary64, le}
 use Rattle.ieee.specs.Operators.{_⊕_, _⊖_, _⊗_, _⊘_}
-use Rattle.ieee.specs.Functions.{zero-f, one, abs, max, clamp}
+use Rattle.ieee.specs.Functions.{zero-f, one, abs, max}
 use Rattle.ieee.proofs.Signs.{of-true}
 use Rattle.math_root.specs.Root.{squareRoot}
 use Rattle.thin_film_complex.specs.declared.Complex.{Complex}
 use Rattle.thin_film_complex.specs.Complex.{real, mul, _⊠_, _⧄_}
-use Rattle.thin_film_matrix.specs.Matrix.{Matrix, identity}
+use Rattle.thin_film_matrix.specs.Matrix.{identity}
 use Rattle.thin_film_solver.specs.declared.ThinFilmLayer.{ThinFilmLayer}
 use Rattle.thin_film_solver.specs.declared.Incidence.{Incidence}
 use Rattle.thin_film_solver.specs.Absorptance.{with-absorptance}
@@ -19,16 +19,13 @@ use Rattle.thin_film_solver.specs.Internal as Internal
 use Rattle.thin_film_solver.specs.Internal.{onward, solved}
 use Rattle.surface.specs.declared.Powers.{Powers}
 use Rattle.surface.specs.Answers.{coated-powers}
-use Rattle.polarization_value.proofs.Keeps.{Zero}
 use Rattle.thin_film_real.proofs.Keeps.{Fine, mul-back, add-back, sub-back}
-use Rattle.thin_film_real.proofs.Parts.{Re}
 use Rattle.surface_real.specs.declared.Stack.{Stack}
 use Rattle.surface_real.specs.declared.Shares.{Shares}
-use Rattle.surface_real.specs.declared.Known.{Known}
-use Rattle.surface_real.specs.Internal.{no-number, real-part, cos-theta-sub, no-films, stacked, power, known-of, finish}
+use Rattle.surface_real.specs.Internal.{real-part, cos-theta-sub, no-films, stacked, power, known-of, finish}
 use Rattle.surface_real.specs.Internal.{real-powers, RealPowers}
 use Rattle.surface_real.proofs.Back.{chosen, real-part-back, real-part-is}
-use Rattle.surface_real.proofs.Products.{Finite, For, Fine-stack, Both-for, begun, through}
+use Rattle.surface_real.proofs.Products.{Fine-stack, Both-for, begun, through}
 use Rattle.surface_real.proofs.Powers as P
 
 four : {a b c d a′ b′ c′ d′ : Float} → a ≡ a′ → b ≡ b′ → c ≡ c′ → d ≡ d′

@@ -1,26 +1,24 @@
 -- Values that are equal, or both zeros of either sign: what is kept of them by products, sums and quotients; and what a finite result
 -- says of its terms. `Keeps x r`: r is x, or both are zeros. Assumes nothing.
-use mathlib.Core.Path.{_≡_, refl, sym, ap, ap₂, _∙_, subst}
+use mathlib.Core.Path.{_≡_, refl, sym, ap, _∙_, subst}
 use Prim.Native.Nat.{ℕ, zero, suc, _*_, _≤_, _<_}
 use native.Mathlib.Nat.{mul-le-mul-left, mul-pos, zero-mul, zero-lt-suc, lt-irrefl}
 use native.Mathlib.Omega.{arith}
-use mathlib.Core.Bool.{Bool, true, false, not, cond, true≢false}
+use mathlib.Core.Bool.{Bool, true, false, cond}
 use lib.Dec.{T, eqb, lit≤}
 use lib.IntN.{ℤ, pos}
-use lib.Pow.{pow-pos}
-use lib.Ieee.{Float, nan, inf, fin, binary64, unlike, up, down, round, neg, sum, add, sub, mul, div, fits, ofBits}
-use lib.Ieee.Fits.{up-pos, down-pos, add-fits, mul-fits, neg-fits}
+use lib.Ieee.{Float, nan, inf, fin, binary64, unlike, round, neg, add, mul, div, fits, ofBits}
+use lib.Ieee.Fits.{up-pos, mul-fits, neg-fits}
 use lib.Ieee.Scale.{finite}
 use lib.Ieee.Positive.{num, den, den-pos}
 use Rattle.ieee.specs.Operators.{_⊕_, _⊖_, _⊗_, _⊘_}
 use Rattle.ieee.specs.Functions.{zero-f}
 use Rattle.ieee.specs.Range.{sgn, plus, Mag}
-use Rattle.ieee.proofs.Signs.{zero-is}
 use Rattle.ieee.proofs.Range.Laws.{mul-is, div-is, sub-is, neg-mag}
 use Rattle.ieee.proofs.Range.Zero.{zero-num, zero-mul-mag, mul-zero-mag, add-zero-same}
 use Rattle.ieee.proofs.Range.Plus.{sq-plus}
 use Rattle.math_trig.proofs.Opposites.{round-zero}
-use Rattle.polarization_value.proofs.Keeps.{Zero, zero-sum, zero-difference, Keeps, kept, zeros, keeps-sum, keeps-more}
+use Rattle.polarization_value.proofs.Keeps.{Zero, zero-sum, Keeps, kept, zeros, keeps-sum, keeps-more}
 use Rattle.polarization_value.proofs.Commute.{sum-comm-f}
 
 like : (s : Bool) → unlike s s ≡ false

@@ -1,6 +1,6 @@
 -- Complex numbers and matrices beside real numbers, up to a zero's sign: what is kept of them by the solver's operations. Assumes nothing.
-use mathlib.Core.Path.{_≡_, refl, sym, ap, ap₂, _∙_, subst}
-use mathlib.Core.Bool.{false, cond}
+use mathlib.Core.Path.{_≡_, sym, _∙_, subst}
+use mathlib.Core.Bool.{false}
 use lib.Dec.{T}
 use lib.Ieee.{Float, binary64, neg, lt, fits}
 use lib.Ieee.Fits.{mul-fits, neg-fits}
@@ -9,11 +9,11 @@ use Rattle.ieee.specs.Functions.{tiny}
 use Rattle.ieee.proofs.Range.Laws.{sub-is}
 use Rattle.ieee.proofs.Range.Constants.{zero-mag}
 use Rattle.thin_film_complex.specs.declared.Complex.{Complex}
-use Rattle.thin_film_complex.specs.Complex.{real, norm-sq, add, sub, mul, quotient, div, _⊞_, _⊟_, _⊠_, _⧄_}
-use Rattle.thin_film_matrix.specs.Matrix.{Matrix, at, matrix, dot, mat-mul}
-use Rattle.polarization_value.proofs.Keeps.{Zero, zero-sum, zero-difference, Keeps, kept, zeros, keeps-more}
+use Rattle.thin_film_complex.specs.Complex.{real, norm-sq, add, mul, quotient, div, _⊞_, _⊠_, _⧄_}
+use Rattle.thin_film_matrix.specs.Matrix.{Matrix, at, dot, mat-mul}
+use Rattle.polarization_value.proofs.Keeps.{Zero, zero-sum, zero-difference, Keeps, kept, keeps-more}
 use Rattle.polarization_value.proofs.Commute.{sum-comm-f}
-use Rattle.thin_film_real.proofs.Keeps.{Fine, Divides, zero-times, times-zero, zero-over, keeps-fine, keeps-mul, keeps-add, keeps-neg, keeps-sub, keeps-div, keeps-less, zero-plus, zero-less, keeps-square, square-and-zero}
+use Rattle.thin_film_real.proofs.Keeps.{Fine, Divides, zero-times, times-zero, zero-over, keeps-fine, keeps-mul, keeps-add, keeps-div, keeps-less, zero-plus, zero-less, keeps-square, square-and-zero}
 
 -- ---- a complex number that is real: its real part is x, or both are zeros
 pub record Re (x : Float) (z : Complex) : Type 0 where

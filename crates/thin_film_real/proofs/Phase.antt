@@ -1,5 +1,5 @@
 -- The phase of a film whose phase thickness is real: cos(delta) is real, and i sin(delta) imaginary. Assumes nothing.
-use mathlib.Core.Path.{_≡_, refl, sym, ap, _∙_, subst}
+use mathlib.Core.Path.{_≡_, sym, ap, _∙_, subst}
 use mathlib.Core.Logic.{inl, inr}
 use lib.Ieee.{Float, neg, ofBits}
 use Rattle.ieee.specs.Operators.{_⊕_, _⊖_, _⊗_}
@@ -15,7 +15,7 @@ use Rattle.math_exp.proofs.ExpBounds.{exp-zero}
 use Rattle.thin_film_complex.specs.declared.Complex.{Complex}
 use Rattle.thin_film_complex.specs.Complex.{real, scale, exp, add, sub, mul}
 use Rattle.thin_film_matrix.specs.Film.{exp-pos, exp-neg, cos-delta, sin-delta, i-sin-delta}
-use Rattle.polarization_value.proofs.Keeps.{Zero, zero-sum, Keeps, kept}
+use Rattle.polarization_value.proofs.Keeps.{Zero, zero-sum, kept}
 use Rattle.polarization_value.proofs.Commute.{product-comm}
 use Rattle.thin_film_real.proofs.Keeps.{Fine, mul-back, add-back, sub-back, zero-times, times-zero}
 use Rattle.thin_film_real.proofs.Parts.{Re, Im}

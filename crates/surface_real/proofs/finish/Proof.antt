@@ -9,7 +9,6 @@ use Rattle.thin_film_complex.specs.declared.Complex.{Complex}
 use Rattle.thin_film_complex.specs.Complex.{real, mul, div}
 use Rattle.thin_film_solver.specs.declared.Incidence.{Incidence}
 use Rattle.thin_film_solver.specs.Solve.{least-cos}
-use Rattle.surface.specs.declared.Powers.{Powers}
 use Rattle.surface_real.specs.declared.Stack.{Stack}
 use Rattle.surface_real.specs.declared.Shares.{Shares}
 use Rattle.surface_real.specs.declared.Known.{Known}

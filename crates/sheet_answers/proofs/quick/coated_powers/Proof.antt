@@ -3,16 +3,15 @@ use mathlib.Core.Path.{_≡_, sym, ap, _∙_}
 use mathlib.Core.Bool.{Bool}
 use mathlib.Core.List.{List}
 use borrow.Author.Needs.{needs}
-use Rattle.refusal.specs.Outcome.{Outcome, answer, map}
+use Rattle.refusal.specs.Outcome.{answer, map}
 use Rattle.thin_film_solver.specs.declared.ThinFilmLayer.{ThinFilmLayer}
-use Rattle.thin_film_solver.specs.declared.CoatingResponse.{CoatingResponse}
 use Rattle.thin_film_solver.specs.declared.Incidence.{Incidence}
 use Rattle.thin_film_solver.specs.Internal.{solved}
 use Rattle.thin_film_layers.specs.declared.Prepared.{Prepared}
 use Rattle.thin_film_layers.specs.declared.Prepared.the-variants as P
 use Rattle.thin_film_layers.specs.Evaluation.{ordered}
 use Rattle.thin_film_layers.specs.Internal.{read-from}
-use Rattle.thin_film_layers.proofs.Order.{answered, solves}
+use Rattle.thin_film_layers.proofs.Order.{answered}
 use Rattle.surface.specs.declared.Powers.{Powers}
 use Rattle.surface.specs.Answers.{coated-powers}
 use Rattle.sheet_answers.proofs.After.{many}

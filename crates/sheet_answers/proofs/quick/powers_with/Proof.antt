@@ -4,10 +4,8 @@ use mathlib.Core.Bool.{true}
 use mathlib.Core.List.{List}
 use borrow.Author.Needs.{needs}
 use Rattle.thin_film_solver.specs.declared.ThinFilmLayer.{ThinFilmLayer}
-use Rattle.thin_film_solver.specs.declared.CoatingResponse.{CoatingResponse}
 use Rattle.thin_film_solver.specs.declared.Incidence.{Incidence}
 use Rattle.thin_film_solver.specs.Internal.{solved}
-use Rattle.surface.specs.declared.Powers.{Powers}
 use Rattle.surface.specs.Answers.{coated-powers}
 use Rattle.surface_real.specs.declared.Stack.{Stack}
 use Rattle.surface_real.specs.declared.Known.{Known}

@@ -1,7 +1,7 @@
 -- `sheet_answers::quick::stack_at` meets its contract. Assumes nothing.
 use mathlib.Core.Path.{_≡_, sym, ap, _∙_, subst}
 use mathlib.Core.List.{List}
-use Prim.Native.Nat.{ℕ, _+_, _-_, _≤_}
+use Prim.Native.Nat.{ℕ, _-_, _≤_}
 use native.Mathlib.Omega.{arith}
 use lib.ListN.{length}
 use lib.Ieee.{Float}
@@ -11,7 +11,6 @@ use Rattle.thin_film_layers.proofs.Order.{within}
 use Rattle.sheet.specs.Sheet.{SheetLayer}
 use Rattle.sheet.specs.Internal.{next-place, place-on, layer-at, layers-at}
 use Rattle.sheet_values.specs.Values.{film, films}
-use Rattle.surface_real.specs.declared.Film.{Film}
 use Rattle.surface_real.specs.declared.Met.{Met}
 use Rattle.surface_real.specs.Internal.{film-of, meet, none-met}
 use Rattle.surface_real.proofs.Turns.{Left, begun, turn, last}
