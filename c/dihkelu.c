@@ -1,0 +1,4175 @@
+// Made by tools/c_source from the checked program; a change is made in crates/ and this file written anew.
+// SPDX-License-Identifier: MIT OR Apache-2.0
+//
+// Light through a train of coated windows: the whole library in one file. dihkelu.h says what each call does. Functions
+// have their crate's name in front, and those that are called stand before those that call.
+//
+// The answers are those of the proved library, bit for bit, only where each operation on doubles is rounded once, to
+// nearest, as IEEE 754 has it. What can be known when this is compiled is tested here; the rest is the caller's
+// (dihkelu_environment_ok of the header).
+#include "dihkelu.h"
+
+#include <float.h>
+#include <math.h>
+#include <stdbool.h>
+
+#if defined(__FAST_MATH__) || (defined(__FINITE_MATH_ONLY__) && __FINITE_MATH_ONLY__)
+#error "compile this without -ffast-math, -Ofast and -ffinite-math-only: the answers would be others"
+#endif
+#if defined(__NO_SIGNED_ZEROS__) || defined(__ASSOCIATIVE_MATH__) || defined(__RECIPROCAL_MATH__)
+#error "compile this without the options that -ffast-math is made of: the answers would be others"
+#endif
+#if !defined(FLT_EVAL_METHOD) || FLT_EVAL_METHOD != 0
+#error "operations on doubles are rounded twice here, as 32-bit x86 does without SSE2: the answers would be others"
+#endif
+
+// No a * b + c is worked out with one rounding. (GCC does not know the standard's pragma, and has its own.)
+#if defined(__GNUC__) && !defined(__clang__)
+#pragma GCC optimize("fp-contract=off")
+#else
+#pragma STDC FP_CONTRACT OFF
+#endif
+
+_Static_assert(FLT_RADIX == 2 && DBL_MANT_DIG == 53, "double is no binary64");
+_Static_assert(DBL_MAX_EXP == 1024 && DBL_MIN_EXP == -1021, "double is no binary64");
+_Static_assert(sizeof(double) == 8 && sizeof(uint64_t) == 8, "a byte has another size");
+_Static_assert(sizeof(size_t) == 8 && sizeof(void *) == 8, "this is for machines of 64 bits");
+
+// The bits of a double, and the double of bits.
+static inline uint64_t to_bits(double x) {
+    uint64_t bits;
+    memcpy(&bits, &x, sizeof bits);
+    return bits;
+}
+
+static inline double from_bits(uint64_t bits) {
+    double x;
+    memcpy(&x, &bits, sizeof x);
+    return x;
+}
+
+// How many zeros stand before the first 1 of 64 digits; 64 where there is none.
+static inline uint32_t leading_zeros(uint64_t x) {
+    uint32_t zeros = 0;
+    while (zeros < 64 && x >> (63 - zeros) == 0) {
+        zeros++;
+    }
+    return zeros;
+}
+
+// ==== types
+
+// One film: letter 0, 1 or 2 is H, L or M. The multiplier is 0 where none is written.
+typedef struct {
+    uint8_t letter;
+    uint8_t multiplier;
+} thin_film_grammar_Film;
+
+typedef struct {
+    thin_film_grammar_Film at[64];
+} thin_film_grammar_Film_x64;
+
+typedef struct {
+    uint64_t at[4];
+} u64_x4;
+
+// The first count of the places hold films. A count of 65 says that there are more than 64. The last
+// item is unit films long before its power, and opened has the count at each open bracket.
+typedef struct {
+    thin_film_grammar_Film_x64 items;
+    uint64_t count;
+    uint64_t unit;
+    u64_x4 opened;
+} thin_film_reader_films_Films;
+
+// Stop: no text of the grammar goes on so. Ready: an item may follow. Atom: a power may follow too.
+// Number1, Number2: after the digits of a multiplier, Gap: and a space. Caret: after ^. Power1,
+// Power2: after the digits of a power.
+typedef enum {
+    thin_film_reader_machine_Phase_Stop,
+    thin_film_reader_machine_Phase_Ready,
+    thin_film_reader_machine_Phase_Atom,
+    thin_film_reader_machine_Phase_Number1,
+    thin_film_reader_machine_Phase_Number2,
+    thin_film_reader_machine_Phase_Gap,
+    thin_film_reader_machine_Phase_Caret,
+    thin_film_reader_machine_Phase_Power1,
+    thin_film_reader_machine_Phase_Power2,
+} thin_film_reader_machine_Phase;
+
+// How many brackets are open, whether anything stands behind the last of them, and the number of the
+// phases that have one.
+typedef struct {
+    thin_film_reader_machine_Phase phase;
+    uint8_t number;
+    bool any;
+    uint64_t depth;
+} thin_film_reader_machine_Machine;
+
+// The refusals of document 01's table 'Turned back': a number, and a place, which is 0 where the
+// table gives none.
+typedef struct {
+    uint32_t number;
+    uint64_t place;
+} refusal_Refusal;
+
+// The first count of the places hold the films of a text. Where the refusal's number is not 0 there
+// are none.
+typedef struct {
+    refusal_Refusal refusal;
+    thin_film_grammar_Film_x64 films;
+    uint64_t count;
+} thin_film_reader_Reading;
+
+typedef struct {
+    const uint8_t *at;
+    uint64_t count;
+} slice_u8;
+
+// The sine and the cosine of one angle.
+typedef struct {
+    double sin;
+    double cos;
+} math_trig_SinCos;
+
+// The sheet's bytes together with the word that is reached (01: a reader).
+typedef struct {
+    slice_u8 src;
+    uint64_t at;
+} sheet_Reader;
+
+// Where one stands between two blocks: before OPEN, before BEAM (the edition), among the blocks after it
+// (the edition, SURFACEs so far, layers that may come), after a kind 7 (the edition, SURFACEs so far), after END.
+typedef struct {
+    enum {
+        sheet_Standing_AtOpen,
+        sheet_Standing_AtBeam,
+        sheet_Standing_Among,
+        sheet_Standing_AtSurface,
+        sheet_Standing_Ended,
+    } tag;
+    union {
+        uint32_t AtBeam;
+        struct { uint32_t part0; uint32_t part1; uint32_t part2; } Among;
+        struct { uint32_t part0; uint32_t part1; } AtSurface;
+    } as;
+} sheet_Standing;
+
+// A sheet in grammar with its count of SURFACEs, or the place of the first word out of it.
+typedef struct {
+    enum {
+        sheet_Verdict_Whole,
+        sheet_Verdict_Fault,
+    } tag;
+    union {
+        uint32_t Whole;
+        uint64_t Fault;
+    } as;
+} sheet_Verdict;
+
+// Cubic(a, b, c, d) is a + b * h + c * h ^ 2 + d * h ^ 3.
+typedef struct {
+    double part0;
+    double part1;
+    double part2;
+    double part3;
+} math_sqrt_Cubic;
+
+// A root cut to a whole number, and what its square leaves of the number.
+typedef struct {
+    uint64_t root;
+    uint64_t rest;
+} math_sqrt_Cut;
+
+// Cubic(a, b, c, d) is a + b * h + c * h ^ 2 + d * h ^ 3.
+typedef struct {
+    double part0;
+    double part1;
+    double part2;
+    double part3;
+} math_atan_Cubic;
+
+// Power reflectances of the two polarizations.
+typedef struct {
+    double rs;
+    double rp;
+} fresnel_Reflectances;
+
+// No pair of indices within the ranges reflects less than low or more than high.
+typedef struct {
+    double low;
+    double high;
+} reflectance_range_ReflectanceRange;
+
+// The range, or a refusal.
+typedef struct {
+    enum {
+        reflectance_range_RangeReply_Range,
+        reflectance_range_RangeReply_Refused,
+    } tag;
+    union {
+        reflectance_range_ReflectanceRange Range;
+        refusal_Refusal Refused;
+    } as;
+} reflectance_range_RangeReply;
+
+typedef struct {
+    double re;
+    double im;
+} thin_film_complex_Complex;
+
+typedef struct {
+    thin_film_complex_Complex at[2];
+} thin_film_complex_Complex_x2;
+
+typedef struct {
+    thin_film_complex_Complex_x2 at[2];
+} thin_film_complex_Complex_x2_x2;
+
+// cos(delta) and i sin(delta) of a phase thickness.
+typedef struct {
+    thin_film_complex_Complex cos;
+    thin_film_complex_Complex i_sin;
+} thin_film_matrix_Phase;
+
+// The transverse electric field: ex is x or s, ey is y or p.
+typedef struct {
+    thin_film_complex_Complex ex;
+    thin_film_complex_Complex ey;
+} polarization_stokes_JonesVector;
+
+// Intensity, horizontal against vertical, +45 against -45 degrees, and circular preference.
+typedef struct {
+    double s0;
+    double s1;
+    double s2;
+    double s3;
+} polarization_stokes_StokesVector;
+
+// One isotropic layer: refractive index n, extinction coefficient k, thickness in nanometres.
+typedef struct {
+    double n;
+    double k;
+    double thickness_nm;
+} thin_film_solver_ThinFilmLayer;
+
+// What the two media, the angle and the wavelength fix before any layer is read. snell is
+// n_incident * sin_theta0.
+typedef struct {
+    double n_incident;
+    double n_substrate;
+    double cos_theta0;
+    double snell;
+    double wavelength_nm;
+} thin_film_solver_Incidence;
+
+// What both matrices of a layer are made of.
+typedef struct {
+    thin_film_matrix_Phase phase;
+    thin_film_complex_Complex eta_s;
+    thin_film_complex_Complex eta_p;
+} thin_film_solver_Terms;
+
+// The answers for one polarization.
+typedef struct {
+    thin_film_complex_Complex r;
+    thin_film_complex_Complex t;
+    double reflectance;
+    double transmittance;
+    double phase;
+} thin_film_solver_Polarized;
+
+// Amplitudes, powers and phases of a coating at one wavelength and angle, and what stays in the glass.
+typedef struct {
+    thin_film_complex_Complex rs;
+    thin_film_complex_Complex rp;
+    thin_film_complex_Complex ts;
+    thin_film_complex_Complex tp;
+    double reflectance_s;
+    double reflectance_p;
+    double transmittance_s;
+    double transmittance_p;
+    double phase_rs_rad;
+    double phase_rp_rad;
+    double absorptance_s;
+    double absorptance_p;
+} thin_film_solver_CoatingResponse;
+
+typedef struct {
+    thin_film_complex_Complex at[4];
+} thin_film_complex_Complex_x4;
+
+// The entry [i][j] stands at 2 i + j.
+typedef struct {
+    thin_film_complex_Complex_x4 m;
+} polarization_mueller_JonesMatrix;
+
+typedef struct {
+    double at[16];
+} f64_x16;
+
+// The entry [i][j] stands at 4 i + j.
+typedef struct {
+    f64_x16 m;
+} polarization_mueller_MuellerMatrix;
+
+// What a surface does to the reflected and to the transmitted light.
+typedef struct {
+    polarization_mueller_JonesMatrix reflection;
+    polarization_mueller_JonesMatrix transmission;
+} polarization_SurfaceJones;
+
+// The matrices of a bare surface; or a refusal's number, which is 0 where there is none, beside zero
+// matrices.
+typedef struct {
+    uint32_t refusal;
+    polarization_SurfaceJones matrices;
+} polarization_FresnelJones;
+
+typedef struct {
+    thin_film_solver_ThinFilmLayer at[64];
+} thin_film_solver_ThinFilmLayer_x64;
+
+typedef struct {
+    thin_film_solver_ThinFilmLayer at[4];
+} thin_film_solver_ThinFilmLayer_x4;
+
+// What evaluating a coating gives.
+typedef struct {
+    enum {
+        thin_film_layers_Evaluation_Response,
+        thin_film_layers_Evaluation_Refused,
+    } tag;
+    union {
+        thin_film_solver_CoatingResponse Response;
+        refusal_Refusal Refused;
+    } as;
+} thin_film_layers_Evaluation;
+
+// An evaluation before any layer is read: it is answered, or the layers beside the coating are all to
+// be read, in their order or reversed.
+typedef struct {
+    enum {
+        thin_film_layers_Prepared_Answered,
+        thin_film_layers_Prepared_Layers,
+    } tag;
+    union {
+        thin_film_layers_Evaluation Answered;
+        struct { bool reversed; thin_film_solver_Incidence light; } Layers;
+    } as;
+} thin_film_layers_Prepared;
+
+// A coating. The layers of Multilayer are the list beside it, from the incident medium to the
+// substrate.
+typedef enum {
+    thin_film_coating_Coating_IdealAr,
+    thin_film_coating_Coating_IdealMirror,
+    thin_film_coating_Coating_IdealBeamsplitter,
+    thin_film_coating_Coating_Multilayer,
+} thin_film_coating_Coating;
+
+// A coating as it is ordered. The layers of Custom(Multilayer) are the list beside it.
+typedef struct {
+    enum {
+        thin_film_SurfaceCoating_IdealAr,
+        thin_film_SurfaceCoating_MgF2,
+        thin_film_SurfaceCoating_BroadbandAr,
+        thin_film_SurfaceCoating_HighReflectanceMirror,
+        thin_film_SurfaceCoating_Custom,
+    } tag;
+    union {
+        double MgF2;
+        thin_film_coating_Coating Custom;
+    } as;
+} thin_film_SurfaceCoating;
+
+// Layers: the first count of the places hold them. More than 64 are none that can be evaluated.
+typedef struct {
+    thin_film_solver_ThinFilmLayer_x64 items;
+    uint64_t count;
+} thin_film_coating_Layers;
+
+// The layers of a text, from the incident medium to the substrate. Where the refusal's number is not 0
+// there are none.
+typedef struct {
+    refusal_Refusal refusal;
+    thin_film_coating_Layers layers;
+} thin_film_shorthand_Stacked;
+
+// What lies between the two media.
+typedef struct {
+    enum {
+        gate_limits_Interface_Bare,
+        gate_limits_Interface_Coated,
+    } tag;
+    union {
+        thin_film_SurfaceCoating Coated;
+    } as;
+} gate_limits_Interface;
+
+// A SURFACE's words: whether the reflected light is followed, the coating's code (payload / 2), both
+// indices and the angle of incidence.
+typedef struct {
+    bool reflected;
+    uint32_t coating;
+    double n_incident;
+    double n_substrate;
+    double angle_rad;
+} gate_limits_Surface;
+
+// Whether a SURFACE is within the limits, and its n_incident * abs(sin), which those of its LAYERs ask for.
+typedef struct {
+    bool passes;
+    double snell;
+} gate_limits_Judgement;
+
+// So many whole quarter waves, and the length that is over.
+typedef struct {
+    uint32_t count;
+    double remainder_nm;
+} quarter_waves_QuarterWaves;
+
+typedef struct {
+    enum {
+        quarter_waves_QuarterWavesReply_Counted,
+        quarter_waves_QuarterWavesReply_Refused,
+    } tag;
+    union {
+        quarter_waves_QuarterWaves Counted;
+        refusal_Refusal Refused;
+    } as;
+} quarter_waves_QuarterWavesReply;
+
+typedef struct {
+    const double *at;
+    uint64_t count;
+} slice_f64;
+
+// The parts of the s and p power that a surface reflects and transmits.
+typedef struct {
+    double reflectance_s;
+    double reflectance_p;
+    double transmittance_s;
+    double transmittance_p;
+} surface_Powers;
+
+// A surface's answers. A bare surface has no response: every number of it is zero.
+typedef struct {
+    bool coated;
+    surface_Powers powers;
+    thin_film_solver_CoatingResponse response;
+    polarization_mueller_JonesMatrix reflection;
+    polarization_mueller_JonesMatrix transmission;
+    polarization_mueller_MuellerMatrix reflection_mueller;
+    polarization_mueller_MuellerMatrix transmission_mueller;
+} surface_Answers;
+
+// The answers of a surface, or a refusal's number, which is 0 where there is none.
+typedef struct {
+    uint32_t refusal;
+    surface_Answers answers;
+} surface_AnswersReply;
+
+// A BEAM: its wavelength, its s and its p power.
+typedef struct {
+    double wavelength_nm;
+    double s;
+    double p;
+} sheet_values_Beam;
+
+// A glass that changes with colour, kind 6: the coefficients of Cauchy's formula, and the thickness.
+typedef struct {
+    double a;
+    double b;
+    double c;
+    double thickness_nm;
+} sheet_values_Cauchy;
+
+typedef struct {
+    double *at;
+    uint64_t count;
+} slice_mut_f64;
+
+typedef struct {
+    double at[2];
+} f64_x2;
+
+typedef struct {
+    double at[8];
+} f64_x8;
+
+typedef struct {
+    double at[5];
+} f64_x5;
+
+// A surface's powers alone, or a refusal.
+typedef struct {
+    enum {
+        sheet_answers_PowersReply_Powers,
+        sheet_answers_PowersReply_Refused,
+    } tag;
+    union {
+        surface_Powers Powers;
+        refusal_Refusal Refused;
+    } as;
+} sheet_answers_PowersReply;
+
+// A sheet that is admitted, with its count of surfaces; or a refusal.
+typedef struct {
+    enum {
+        gate_Gated_Admitted,
+        gate_Gated_Refused,
+    } tag;
+    union {
+        uint32_t Admitted;
+        refusal_Refusal Refused;
+    } as;
+} gate_Gated;
+
+// The answers of a surface, and a refusal, whose number is 0 where there is none.
+typedef struct {
+    refusal_Refusal refusal;
+    surface_Answers answers;
+} sheet_surfaces_SurfaceReply;
+
+// The powers of a surface that s and p are multiplied by.
+typedef struct {
+    double s;
+    double p;
+} train_steps_Chosen;
+
+// Document 01's State: surfaces done, s and p; and the wavelength that is held.
+typedef struct {
+    uint32_t done;
+    double s;
+    double p;
+    double wavelength_nm;
+} train_steps_State;
+
+// A train's state, or a refusal.
+typedef struct {
+    enum {
+        train_steps_TrainReply_State,
+        train_steps_TrainReply_Refused,
+    } tag;
+    union {
+        train_steps_State State;
+        refusal_Refusal Refused;
+    } as;
+} train_steps_TrainReply;
+
+// ==== std
+
+// std::num::wrapping_add_u64, of the language's own library.
+static uint64_t std_num_wrapping_add_u64(uint64_t a, uint64_t b) {
+    if (a <= 0xffffffffffffffffu - b) {
+        return a + b;
+    }
+    return a - (0xffffffffffffffffu - b) - 1;
+}
+
+// std::num::wrapping_sub_u64, of the language's own library.
+static uint64_t std_num_wrapping_sub_u64(uint64_t a, uint64_t b) {
+    if (b <= a) {
+        return a - b;
+    }
+    return a + (0xffffffffffffffffu - b) + 1;
+}
+
+// ==== ieee
+//
+// The small functions on f64 that document 01's section 2 gives a meaning to, each for every f64.
+
+// The absolute value: the sign bit cleared.
+static double ieee_abs(double x) {
+    if (x != x) {
+        return x;
+    }
+    return from_bits(to_bits(x) % 0x8000000000000000u);
+}
+
+// a if a > b, else b: a NaN on the left is dropped, one on the right is kept.
+static double ieee_max(double a, double b) {
+    if (b < a) {
+        return a;
+    }
+    return b;
+}
+
+// lo if x < lo, hi if x > hi, else x: a NaN stays.
+static double ieee_clamp(double x, double lo, double hi) {
+    if (x < lo) {
+        return lo;
+    }
+    if (hi < x) {
+        return hi;
+    }
+    return x;
+}
+
+// Neither NaN nor an infinity.
+static bool ieee_is_finite(double x) {
+    double infinity = 1.0 / 0.0;
+    return x < infinity && -infinity < x;
+}
+
+// Finite and above zero.
+static bool ieee_finite_positive(double x) {
+    return ieee_is_finite(x) && !(x <= 0.0);
+}
+
+static double ieee_powi2(double x) {
+    return x * x;
+}
+
+// The number with these bits, the high word first. A NaN's pattern gives the one NaN, whatever its payload.
+static double ieee_from_words(uint32_t high, uint32_t low) {
+    uint64_t bits = (uint64_t)high * 0x100000000u + (uint64_t)low;
+    if (0x7ff0000000000000u < bits % 0x8000000000000000u) {
+        return 0.0 / 0.0;
+    }
+    return from_bits(bits);
+}
+
+// ==== thin_film_reader
+//
+// The films that a text of the stack shorthand stands for: a machine that takes one byte after the
+// other, and the films so far beside it.
+
+static thin_film_reader_films_Films thin_film_reader_films_no_films(void) {
+    thin_film_grammar_Film_x64 items = {{{0}}};
+    u64_x4 opened = {{0}};
+    return (thin_film_reader_films_Films){.items = items, .count = 0, .unit = 0, .opened = opened};
+}
+
+// More than 64 films.
+static thin_film_reader_films_Films thin_film_reader_films_over(thin_film_reader_films_Films f) {
+    thin_film_grammar_Film_x64 items = f.items;
+    u64_x4 opened = f.opened;
+    return (thin_film_reader_films_Films){.items = items, .count = 65, .unit = f.unit, .opened = opened};
+}
+
+// One film more.
+static thin_film_reader_films_Films thin_film_reader_films_push(thin_film_reader_films_Films f,
+        thin_film_grammar_Film film) {
+    uint64_t count = f.count;
+    if (64 <= count) {
+        return thin_film_reader_films_over(f);
+    }
+    thin_film_grammar_Film_x64 items = f.items;
+    u64_x4 opened = f.opened;
+    items.at[count] = film;
+    return (thin_film_reader_films_Films){.items = items, .count = count + 1, .unit = f.unit, .opened = opened};
+}
+
+// More films, each as the one that is an item's length before it.
+static thin_film_reader_films_Films thin_film_reader_films_repeat(thin_film_reader_films_Films f, uint64_t more) {
+    thin_film_reader_films_Films films = f;
+    uint64_t left = more;
+    while (0 < left) {
+        uint64_t count = films.count;
+        if (64 <= count) {
+            return thin_film_reader_films_over(films);
+        }
+        thin_film_grammar_Film_x64 items = films.items;
+        uint64_t from = count - films.unit;
+        films = thin_film_reader_films_push(films, items.at[from]);
+        left = left - 1;
+    }
+    return films;
+}
+
+// A letter's film.
+static thin_film_reader_films_Films thin_film_reader_films_add(thin_film_reader_films_Films f,
+        thin_film_grammar_Film film) {
+    thin_film_reader_films_Films g = thin_film_reader_films_push(f, film);
+    thin_film_grammar_Film_x64 items = g.items;
+    u64_x4 opened = g.opened;
+    return (thin_film_reader_films_Films){.items = items, .count = g.count, .unit = 1, .opened = opened};
+}
+
+// A bracket opens inside depth others.
+static thin_film_reader_films_Films thin_film_reader_films_open(thin_film_reader_films_Films f, uint64_t depth) {
+    thin_film_grammar_Film_x64 items = f.items;
+    u64_x4 opened = f.opened;
+    opened.at[depth] = f.count;
+    return (thin_film_reader_films_Films){.items = items, .count = f.count, .unit = f.unit, .opened = opened};
+}
+
+// The last of depth brackets closes.
+static thin_film_reader_films_Films thin_film_reader_films_close(thin_film_reader_films_Films f, uint64_t depth) {
+    thin_film_grammar_Film_x64 items = f.items;
+    u64_x4 opened = f.opened;
+    uint64_t last = depth - 1;
+    return (thin_film_reader_films_Films){.items = items, .count = f.count, .unit = f.count - opened.at[last],
+            .opened = opened};
+}
+
+// A multiplier stands before the next letter.
+static bool thin_film_reader_films_numbered(thin_film_reader_machine_Phase p) {
+    switch (p) {
+    case thin_film_reader_machine_Phase_Stop:
+    case thin_film_reader_machine_Phase_Ready:
+    case thin_film_reader_machine_Phase_Atom:
+        return false;
+    case thin_film_reader_machine_Phase_Number1:
+    case thin_film_reader_machine_Phase_Number2:
+    case thin_film_reader_machine_Phase_Gap:
+        return true;
+    case thin_film_reader_machine_Phase_Caret:
+    case thin_film_reader_machine_Phase_Power1:
+        return false;
+    default: // thin_film_reader_machine_Phase_Power2
+        return false;
+    }
+}
+
+// The next letter's multiplier; 0 where none is written.
+static uint8_t thin_film_reader_films_multiplier(thin_film_reader_machine_Machine m) {
+    thin_film_reader_machine_Phase p = m.phase;
+    if (!thin_film_reader_films_numbered(p)) {
+        return 0;
+    }
+    return m.number;
+}
+
+static uint64_t thin_film_reader_films_wide(uint8_t x) {
+    return (uint64_t)x;
+}
+
+static uint64_t thin_film_reader_films_one_less(uint8_t a) {
+    if (a == 0) {
+        return 0;
+    }
+    return thin_film_reader_films_wide(a) - 1;
+}
+
+// How many copies of the last item a digit adds: a power's first digit a makes a of one, and its
+// second makes 10 n + a of n.
+static uint64_t thin_film_reader_films_copies(thin_film_reader_machine_Machine m, uint8_t a) {
+    thin_film_reader_machine_Phase p = m.phase;
+    switch (p) {
+    case thin_film_reader_machine_Phase_Stop:
+    case thin_film_reader_machine_Phase_Ready:
+    case thin_film_reader_machine_Phase_Atom:
+    case thin_film_reader_machine_Phase_Number1:
+    case thin_film_reader_machine_Phase_Number2:
+    case thin_film_reader_machine_Phase_Gap:
+        return 0;
+    case thin_film_reader_machine_Phase_Caret:
+        return thin_film_reader_films_one_less(a);
+    case thin_film_reader_machine_Phase_Power1:
+        return 9 * thin_film_reader_films_wide(m.number) + thin_film_reader_films_wide(a);
+    default: // thin_film_reader_machine_Phase_Power2
+        return 0;
+    }
+}
+
+static thin_film_reader_films_Films thin_film_reader_films_digit(thin_film_reader_films_Films f,
+        thin_film_reader_machine_Machine m, uint8_t a) {
+    return thin_film_reader_films_repeat(f, thin_film_reader_films_copies(m, a) * f.unit);
+}
+
+static thin_film_reader_films_Films thin_film_reader_films_letter(thin_film_reader_films_Films f,
+        thin_film_reader_machine_Machine m, uint8_t letter) {
+    return thin_film_reader_films_add(f,
+            (thin_film_grammar_Film){.letter = letter, .multiplier = thin_film_reader_films_multiplier(m)});
+}
+
+// After a byte that does not stop the machine.
+static thin_film_reader_films_Films thin_film_reader_films_take(thin_film_reader_films_Films f,
+        thin_film_reader_machine_Machine m, uint8_t b) {
+    if (b == 72) {
+        return thin_film_reader_films_letter(f, m, 0);
+    }
+    if (b == 76) {
+        return thin_film_reader_films_letter(f, m, 1);
+    }
+    if (b == 77) {
+        return thin_film_reader_films_letter(f, m, 2);
+    }
+    if (b == 40) {
+        return thin_film_reader_films_open(f, m.depth);
+    }
+    if (b == 41) {
+        return thin_film_reader_films_close(f, m.depth);
+    }
+    if (b < 48) {
+        return f;
+    }
+    if (57 < b) {
+        return f;
+    }
+    return thin_film_reader_films_digit(f, m, (uint8_t)(b - 48));
+}
+
+static thin_film_reader_Reading thin_film_reader_refused(uint32_t number, uint64_t place) {
+    thin_film_grammar_Film_x64 films = {{{0}}};
+    return (thin_film_reader_Reading){.refusal = {.number = number, .place = place}, .films = films, .count = 0};
+}
+
+// The films, unless there are more than 64.
+static thin_film_reader_Reading thin_film_reader_counted(thin_film_reader_films_Films f) {
+    uint64_t count = f.count;
+    if (64 < count) {
+        return thin_film_reader_refused(10, 0);
+    }
+    thin_film_grammar_Film_x64 films = f.items;
+    return (thin_film_reader_Reading){.refusal = {.number = 0, .place = 0}, .films = films, .count = count};
+}
+
+static thin_film_reader_machine_Machine thin_film_reader_machine_begin(void) {
+    return (thin_film_reader_machine_Machine){.phase = thin_film_reader_machine_Phase_Ready, .number = 0,
+            .any = false, .depth = 0};
+}
+
+static thin_film_reader_machine_Machine thin_film_reader_machine_stopped(void) {
+    return (thin_film_reader_machine_Machine){.phase = thin_film_reader_machine_Phase_Stop, .number = 0, .any = false,
+            .depth = 0};
+}
+
+static thin_film_reader_machine_Phase thin_film_reader_machine_spaced(thin_film_reader_machine_Phase p) {
+    switch (p) {
+    case thin_film_reader_machine_Phase_Stop:
+        return thin_film_reader_machine_Phase_Stop;
+    case thin_film_reader_machine_Phase_Ready:
+        return thin_film_reader_machine_Phase_Ready;
+    case thin_film_reader_machine_Phase_Atom:
+        return thin_film_reader_machine_Phase_Atom;
+    case thin_film_reader_machine_Phase_Number1:
+    case thin_film_reader_machine_Phase_Number2:
+    case thin_film_reader_machine_Phase_Gap:
+        return thin_film_reader_machine_Phase_Gap;
+    case thin_film_reader_machine_Phase_Caret:
+        return thin_film_reader_machine_Phase_Caret;
+    case thin_film_reader_machine_Phase_Power1:
+        return thin_film_reader_machine_Phase_Ready;
+    default: // thin_film_reader_machine_Phase_Power2
+        return thin_film_reader_machine_Phase_Ready;
+    }
+}
+
+// After a space.
+static thin_film_reader_machine_Machine thin_film_reader_machine_space(thin_film_reader_machine_Machine m) {
+    thin_film_reader_machine_Phase p = m.phase;
+    return (thin_film_reader_machine_Machine){.phase = thin_film_reader_machine_spaced(p), .number = m.number,
+            .any = m.any, .depth = m.depth};
+}
+
+// A letter may follow.
+static bool thin_film_reader_machine_takes_letter(thin_film_reader_machine_Phase p) {
+    switch (p) {
+    case thin_film_reader_machine_Phase_Stop:
+        return false;
+    case thin_film_reader_machine_Phase_Ready:
+    case thin_film_reader_machine_Phase_Atom:
+    case thin_film_reader_machine_Phase_Number1:
+    case thin_film_reader_machine_Phase_Number2:
+    case thin_film_reader_machine_Phase_Gap:
+        return true;
+    case thin_film_reader_machine_Phase_Caret:
+        return false;
+    case thin_film_reader_machine_Phase_Power1:
+        return true;
+    default: // thin_film_reader_machine_Phase_Power2
+        return true;
+    }
+}
+
+// After a letter.
+static thin_film_reader_machine_Machine thin_film_reader_machine_letter(thin_film_reader_machine_Machine m) {
+    thin_film_reader_machine_Phase p = m.phase;
+    if (!thin_film_reader_machine_takes_letter(p)) {
+        return thin_film_reader_machine_stopped();
+    }
+    return (thin_film_reader_machine_Machine){.phase = thin_film_reader_machine_Phase_Atom, .number = 0, .any = true,
+            .depth = m.depth};
+}
+
+// A power may follow.
+static bool thin_film_reader_machine_takes_power(thin_film_reader_machine_Phase p) {
+    switch (p) {
+    case thin_film_reader_machine_Phase_Stop:
+    case thin_film_reader_machine_Phase_Ready:
+        return false;
+    case thin_film_reader_machine_Phase_Atom:
+        return true;
+    case thin_film_reader_machine_Phase_Number1:
+    case thin_film_reader_machine_Phase_Number2:
+    case thin_film_reader_machine_Phase_Gap:
+    case thin_film_reader_machine_Phase_Caret:
+    case thin_film_reader_machine_Phase_Power1:
+        return false;
+    default: // thin_film_reader_machine_Phase_Power2
+        return false;
+    }
+}
+
+// After ^.
+static thin_film_reader_machine_Machine thin_film_reader_machine_caret(thin_film_reader_machine_Machine m) {
+    thin_film_reader_machine_Phase p = m.phase;
+    if (!thin_film_reader_machine_takes_power(p)) {
+        return thin_film_reader_machine_stopped();
+    }
+    return (thin_film_reader_machine_Machine){.phase = thin_film_reader_machine_Phase_Caret, .number = 0,
+            .any = m.any, .depth = m.depth};
+}
+
+// An item is complete.
+static bool thin_film_reader_machine_rests(thin_film_reader_machine_Phase p) {
+    switch (p) {
+    case thin_film_reader_machine_Phase_Stop:
+        return false;
+    case thin_film_reader_machine_Phase_Ready:
+    case thin_film_reader_machine_Phase_Atom:
+        return true;
+    case thin_film_reader_machine_Phase_Number1:
+    case thin_film_reader_machine_Phase_Number2:
+    case thin_film_reader_machine_Phase_Gap:
+    case thin_film_reader_machine_Phase_Caret:
+        return false;
+    case thin_film_reader_machine_Phase_Power1:
+        return true;
+    default: // thin_film_reader_machine_Phase_Power2
+        return true;
+    }
+}
+
+// After (.
+static thin_film_reader_machine_Machine thin_film_reader_machine_open(thin_film_reader_machine_Machine m) {
+    thin_film_reader_machine_Phase p = m.phase;
+    if (!thin_film_reader_machine_rests(p)) {
+        return thin_film_reader_machine_stopped();
+    }
+    if (4 <= m.depth) {
+        return thin_film_reader_machine_stopped();
+    }
+    return (thin_film_reader_machine_Machine){.phase = thin_film_reader_machine_Phase_Ready, .number = 0,
+            .any = false, .depth = m.depth + 1};
+}
+
+// After ).
+static thin_film_reader_machine_Machine thin_film_reader_machine_close(thin_film_reader_machine_Machine m) {
+    thin_film_reader_machine_Phase p = m.phase;
+    if (!thin_film_reader_machine_rests(p)) {
+        return thin_film_reader_machine_stopped();
+    }
+    if (m.depth == 0) {
+        return thin_film_reader_machine_stopped();
+    }
+    if (!m.any) {
+        return thin_film_reader_machine_stopped();
+    }
+    return (thin_film_reader_machine_Machine){.phase = thin_film_reader_machine_Phase_Atom, .number = 0, .any = true,
+            .depth = m.depth - 1};
+}
+
+// After the first digit of a multiplier.
+static thin_film_reader_machine_Machine thin_film_reader_machine_first_digit(thin_film_reader_machine_Machine m,
+        uint8_t a) {
+    if (a == 0) {
+        return thin_film_reader_machine_stopped();
+    }
+    return (thin_film_reader_machine_Machine){.phase = thin_film_reader_machine_Phase_Number1, .number = a,
+            .any = m.any, .depth = m.depth};
+}
+
+// After the first digit of a power.
+static thin_film_reader_machine_Machine thin_film_reader_machine_first_power(thin_film_reader_machine_Machine m,
+        uint8_t a) {
+    if (a == 0) {
+        return thin_film_reader_machine_stopped();
+    }
+    return (thin_film_reader_machine_Machine){.phase = thin_film_reader_machine_Phase_Power1, .number = a,
+            .any = m.any, .depth = m.depth};
+}
+
+// After the second digit of a power.
+static thin_film_reader_machine_Machine thin_film_reader_machine_second_power(thin_film_reader_machine_Machine m,
+        uint8_t a) {
+    uint8_t power = (uint8_t)((uint8_t)(10 * m.number) + a);
+    if (31 < power) {
+        return thin_film_reader_machine_stopped();
+    }
+    return (thin_film_reader_machine_Machine){.phase = thin_film_reader_machine_Phase_Power2, .number = 0,
+            .any = m.any, .depth = m.depth};
+}
+
+// After the second digit of a multiplier.
+static thin_film_reader_machine_Machine thin_film_reader_machine_second_digit(thin_film_reader_machine_Machine m,
+        uint8_t a) {
+    return (thin_film_reader_machine_Machine){.phase = thin_film_reader_machine_Phase_Number2,
+            .number = (uint8_t)((uint8_t)(10 * m.number) + a), .any = m.any, .depth = m.depth};
+}
+
+// After a digit.
+static thin_film_reader_machine_Machine thin_film_reader_machine_digit(thin_film_reader_machine_Machine m,
+        uint8_t a) {
+    thin_film_reader_machine_Phase p = m.phase;
+    switch (p) {
+    case thin_film_reader_machine_Phase_Stop:
+        return thin_film_reader_machine_stopped();
+    case thin_film_reader_machine_Phase_Ready:
+    case thin_film_reader_machine_Phase_Atom:
+        return thin_film_reader_machine_first_digit(m, a);
+    case thin_film_reader_machine_Phase_Number1:
+        return thin_film_reader_machine_second_digit(m, a);
+    case thin_film_reader_machine_Phase_Number2:
+    case thin_film_reader_machine_Phase_Gap:
+        return thin_film_reader_machine_stopped();
+    case thin_film_reader_machine_Phase_Caret:
+        return thin_film_reader_machine_first_power(m, a);
+    case thin_film_reader_machine_Phase_Power1:
+        return thin_film_reader_machine_second_power(m, a);
+    default: // thin_film_reader_machine_Phase_Power2
+        return thin_film_reader_machine_stopped();
+    }
+}
+
+// After a byte.
+static thin_film_reader_machine_Machine thin_film_reader_machine_step(thin_film_reader_machine_Machine m, uint8_t b) {
+    if (b == 32) {
+        return thin_film_reader_machine_space(m);
+    }
+    if (b == 72) {
+        return thin_film_reader_machine_letter(m);
+    }
+    if (b == 76) {
+        return thin_film_reader_machine_letter(m);
+    }
+    if (b == 77) {
+        return thin_film_reader_machine_letter(m);
+    }
+    if (b == 40) {
+        return thin_film_reader_machine_open(m);
+    }
+    if (b == 41) {
+        return thin_film_reader_machine_close(m);
+    }
+    if (b == 94) {
+        return thin_film_reader_machine_caret(m);
+    }
+    if (b < 48) {
+        return thin_film_reader_machine_stopped();
+    }
+    if (57 < b) {
+        return thin_film_reader_machine_stopped();
+    }
+    return thin_film_reader_machine_digit(m, (uint8_t)(b - 48));
+}
+
+// No text of the grammar goes on so.
+static bool thin_film_reader_machine_halted(thin_film_reader_machine_Machine m) {
+    thin_film_reader_machine_Phase p = m.phase;
+    switch (p) {
+    case thin_film_reader_machine_Phase_Stop:
+        return true;
+    case thin_film_reader_machine_Phase_Ready:
+    case thin_film_reader_machine_Phase_Atom:
+    case thin_film_reader_machine_Phase_Number1:
+    case thin_film_reader_machine_Phase_Number2:
+    case thin_film_reader_machine_Phase_Gap:
+    case thin_film_reader_machine_Phase_Caret:
+    case thin_film_reader_machine_Phase_Power1:
+        return false;
+    default: // thin_film_reader_machine_Phase_Power2
+        return false;
+    }
+}
+
+// A text of the grammar may end so.
+static bool thin_film_reader_machine_whole(thin_film_reader_machine_Machine m) {
+    thin_film_reader_machine_Phase p = m.phase;
+    if (m.depth != 0) {
+        return false;
+    }
+    if (!m.any) {
+        return false;
+    }
+    return thin_film_reader_machine_rests(p);
+}
+
+// The films of a text. 9 with 255 for a text over 255 bytes, 9 with the first byte that no text of the
+// grammar could have there, 9 with the length where the text stops early, 10 for more than 64 films.
+static thin_film_reader_Reading thin_film_reader_read(slice_u8 text) {
+    if (255 < text.count) {
+        return thin_film_reader_refused(9, 255);
+    }
+    thin_film_reader_machine_Machine m = thin_film_reader_machine_begin();
+    thin_film_reader_films_Films f = thin_film_reader_films_no_films();
+    uint64_t i = 0;
+    while (i < text.count) {
+        thin_film_reader_machine_Machine next = thin_film_reader_machine_step(m, text.at[i]);
+        if (thin_film_reader_machine_halted(next)) {
+            return thin_film_reader_refused(9, i);
+        }
+        f = thin_film_reader_films_take(f, m, text.at[i]);
+        m = next;
+        i = i + 1;
+    }
+    if (!thin_film_reader_machine_whole(m)) {
+        return thin_film_reader_refused(9, i);
+    }
+    return thin_film_reader_counted(f);
+}
+
+// ==== math_exp
+//
+// exp as document 01's section 2 gives it, for every f64.
+
+static double math_exp_exp_series(double y) {
+    double p = 1.0;
+    double p_2 = 1.0 + y * p / 14.0;
+    double p_3 = 1.0 + y * p_2 / 13.0;
+    double p_4 = 1.0 + y * p_3 / 12.0;
+    double p_5 = 1.0 + y * p_4 / 11.0;
+    double p_6 = 1.0 + y * p_5 / 10.0;
+    double p_7 = 1.0 + y * p_6 / 9.0;
+    double p_8 = 1.0 + y * p_7 / 8.0;
+    double p_9 = 1.0 + y * p_8 / 7.0;
+    double p_10 = 1.0 + y * p_9 / 6.0;
+    double p_11 = 1.0 + y * p_10 / 5.0;
+    double p_12 = 1.0 + y * p_11 / 4.0;
+    double p_13 = 1.0 + y * p_12 / 3.0;
+    double p_14 = 1.0 + y * p_13 / 2.0;
+    return 1.0 + y * p_14 / 1.0;
+}
+
+// p to the power 1024: p = p * p, ten times.
+static double math_exp_squares(double p) {
+    double p_2 = p * p;
+    double p_3 = p_2 * p_2;
+    double p_4 = p_3 * p_3;
+    double p_5 = p_4 * p_4;
+    double p_6 = p_5 * p_5;
+    double p_7 = p_6 * p_6;
+    double p_8 = p_7 * p_7;
+    double p_9 = p_8 * p_8;
+    double p_10 = p_9 * p_9;
+    return p_10 * p_10;
+}
+
+static double math_exp_exp(double x) {
+    if (x != x) {
+        return x;
+    }
+    if (710.0 < x) {
+        return 1.0 / 0.0;
+    }
+    if (x < -746.0) {
+        return 0.0;
+    }
+    return math_exp_squares(math_exp_exp_series(x / 1024.0));
+}
+
+// ==== math_trig
+//
+// sin and cos as document 01's section 2 gives them, each for every f64.
+
+// The first fold, of sin and of cos: to -π..π.
+static double math_trig_fold(double x) {
+    double r = fmod(x, 6.283185307179586);
+    if (3.141592653589793 < r) {
+        return r - 6.283185307179586;
+    }
+    if (r < -3.141592653589793) {
+        return r + 6.283185307179586;
+    }
+    return r;
+}
+
+// sin's second fold: to -π/2..π/2.
+static double math_trig_second_fold(double r) {
+    if (1.5707963267948966 < r) {
+        return 3.141592653589793 - r;
+    }
+    if (r < -1.5707963267948966) {
+        return -3.141592653589793 - r;
+    }
+    return r;
+}
+
+static double math_trig_sin_series(double z) {
+    double p = 1.0;
+    double p_2 = 1.0 - p * z / 420.0;
+    double p_3 = 1.0 - p_2 * z / 342.0;
+    double p_4 = 1.0 - p_3 * z / 272.0;
+    double p_5 = 1.0 - p_4 * z / 210.0;
+    double p_6 = 1.0 - p_5 * z / 156.0;
+    double p_7 = 1.0 - p_6 * z / 110.0;
+    double p_8 = 1.0 - p_7 * z / 72.0;
+    double p_9 = 1.0 - p_8 * z / 42.0;
+    double p_10 = 1.0 - p_9 * z / 20.0;
+    return 1.0 - p_10 * z / 6.0;
+}
+
+static double math_trig_cos_series(double z) {
+    double p = 1.0;
+    double p_2 = 1.0 - p * z / 462.0;
+    double p_3 = 1.0 - p_2 * z / 380.0;
+    double p_4 = 1.0 - p_3 * z / 306.0;
+    double p_5 = 1.0 - p_4 * z / 240.0;
+    double p_6 = 1.0 - p_5 * z / 182.0;
+    double p_7 = 1.0 - p_6 * z / 132.0;
+    double p_8 = 1.0 - p_7 * z / 90.0;
+    double p_9 = 1.0 - p_8 * z / 56.0;
+    double p_10 = 1.0 - p_9 * z / 30.0;
+    double p_11 = 1.0 - p_10 * z / 12.0;
+    return 1.0 - p_11 * z / 2.0;
+}
+
+// sin of an angle that both folds have brought to -π/2..π/2.
+static double math_trig_sin_at(double r) {
+    return ieee_clamp(r * math_trig_sin_series(r * r), -1.0, 1.0);
+}
+
+// cos of an angle up to π/2.
+static double math_trig_cos_at(double a) {
+    return ieee_clamp(math_trig_cos_series(a * a), -1.0, 1.0);
+}
+
+// cos of an angle from 0 to π.
+static double math_trig_cos_of(double a) {
+    if (1.5707963267948966 < a) {
+        return -math_trig_cos_at(3.141592653589793 - a);
+    }
+    return math_trig_cos_at(a);
+}
+
+static double math_trig_cos(double x) {
+    return math_trig_cos_of(ieee_abs(math_trig_fold(x)));
+}
+
+// Both, from one fold.
+static math_trig_SinCos math_trig_sin_cos(double x) {
+    double r = math_trig_fold(x);
+    return (math_trig_SinCos){.sin = math_trig_sin_at(math_trig_second_fold(r)),
+            .cos = math_trig_cos_of(ieee_abs(r))};
+}
+
+// ==== sheet
+//
+// Sheets of document 01, section 1, and of document 02, slips 3 and 5: the reader of their words, and the grammar.
+
+// Four bytes as one number, high byte first.
+static uint32_t sheet_big_endian(uint8_t a, uint8_t b, uint8_t c, uint8_t d) {
+    return (uint32_t)a * 0x1000000 + (uint32_t)b * 0x10000 + (uint32_t)c * 256 + (uint32_t)d;
+}
+
+// The word at a place, counted from 0; past the last word it is 0.
+static uint32_t sheet_word_at(slice_u8 src, uint64_t at) {
+    if (at < src.count / 4) {
+        uint64_t i = 4 * at;
+        return sheet_big_endian(src.at[i], src.at[i + 1], src.at[i + 2], src.at[i + 3]);
+    }
+    return 0;
+}
+
+// The top four bits of a byte.
+static uint32_t sheet_high_half(uint8_t b) {
+    return (uint32_t)b / 16;
+}
+
+// The kind of the word at a place, which stands in its first byte; past the last word it is 0.
+static uint32_t sheet_kind_at(slice_u8 src, uint64_t at) {
+    if (at < src.count / 4) {
+        return sheet_high_half(src.at[4 * at]);
+    }
+    return 0;
+}
+
+// How many floats follow a kind word.
+static uint64_t sheet_floats_after(uint32_t kind) {
+    if (kind == 2) {
+        return 3;
+    }
+    if (kind == 3) {
+        return 3;
+    }
+    if (kind == 4) {
+        return 3;
+    }
+    if (kind == 6) {
+        return 4;
+    }
+    if (kind == 7) {
+        return 1;
+    }
+    return 0;
+}
+
+// The place after the block at a place, two raw words to a float; past the last word the place itself.
+static uint64_t sheet_next_place(slice_u8 src, uint64_t at) {
+    if (src.count / 4 <= at) {
+        return at;
+    }
+    uint32_t kind = sheet_kind_at(src, at);
+    if (kind == 4) {
+        return at + 7;
+    }
+    return at + 2 * sheet_floats_after(kind) + 1;
+}
+
+// A reader at a word.
+static sheet_Reader sheet_new(slice_u8 src, uint64_t at) {
+    return (sheet_Reader){.src = src, .at = at};
+}
+
+// The word that is reached.
+static uint32_t sheet_word(sheet_Reader r) {
+    return sheet_word_at(r.src, r.at);
+}
+
+// The reader after the block whose kind word is reached.
+static sheet_Reader sheet_next(sheet_Reader r) {
+    return (sheet_Reader){.src = r.src, .at = sheet_next_place(r.src, r.at)};
+}
+
+// The word at a place, by a reader.
+static uint32_t sheet_word_from(slice_u8 src, uint64_t at) {
+    return sheet_word(sheet_new(src, at));
+}
+
+// The kind word after the block at a place, by a reader.
+static uint32_t sheet_word_after(slice_u8 src, uint64_t at) {
+    return sheet_word(sheet_next(sheet_new(src, at)));
+}
+
+// The float in two raw words.
+static double sheet_float_from(slice_u8 src, uint64_t at) {
+    if (at < src.count / 4) {
+        return ieee_from_words(sheet_word_from(src, at), sheet_word_from(src, at + 1));
+    }
+    return 0.0;
+}
+
+static bool sheet_is_surface(uint32_t done, uint32_t w) {
+    if (w / 0x10000000 != 3) {
+        return false;
+    }
+    if (64 <= done) {
+        return false;
+    }
+    return w % 0x10000000 <= 15;
+}
+
+// The kinds of a layer: LAYER, and in edition 2 kind 6.
+static bool sheet_layer_kind(uint32_t edition, uint32_t kind) {
+    if (kind == 4) {
+        return true;
+    }
+    if (edition != 2) {
+        return false;
+    }
+    return kind == 6;
+}
+
+static bool sheet_is_layer(uint32_t edition, uint32_t most, uint32_t w) {
+    if (!sheet_layer_kind(edition, w / 0x10000000)) {
+        return false;
+    }
+    if (most == 0) {
+        return false;
+    }
+    return w % 0x10000000 == 0;
+}
+
+// Kind 7: in edition 2, before one of 64 SURFACEs.
+static bool sheet_is_tuning(uint32_t edition, uint32_t done, uint32_t w) {
+    return edition == 2 && w / 0x10000000 == 7 && done < 64 && w % 0x10000000 == 0;
+}
+
+static bool sheet_is_end(uint32_t done, uint32_t w) {
+    if (w / 0x10000000 != 5) {
+        return false;
+    }
+    return w % 0x10000000 == done;
+}
+
+// Whether a kind word may come there.
+static bool sheet_may(sheet_Standing s, uint32_t w) {
+    switch (s.tag) {
+    case sheet_Standing_AtOpen:
+        if (w == 0x10000001) {
+            return true;
+        }
+        return w == 0x10000002;
+    case sheet_Standing_AtBeam:
+        return w == 0x20000000;
+    case sheet_Standing_Among:
+    {
+        uint32_t edition = s.as.Among.part0;
+        uint32_t done = s.as.Among.part1;
+        uint32_t most = s.as.Among.part2;
+        if (sheet_is_surface(done, w)) {
+            return true;
+        }
+        if (sheet_is_layer(edition, most, w)) {
+            return true;
+        }
+        if (sheet_is_tuning(edition, done, w)) {
+            return true;
+        }
+        return sheet_is_end(done, w);
+    }
+    case sheet_Standing_AtSurface:
+    {
+        uint32_t done_2 = s.as.AtSurface.part1;
+        return sheet_is_surface(done_2, w);
+    }
+    default: // sheet_Standing_Ended
+        return false;
+    }
+}
+
+// How many layers may come after a SURFACE of this payload.
+static uint32_t sheet_layers_after(uint32_t payload) {
+    if (payload / 2 == 5) {
+        return 16;
+    }
+    return 0;
+}
+
+// Where one stands after a kind word that may come.
+static sheet_Standing sheet_after(sheet_Standing s, uint32_t w) {
+    switch (s.tag) {
+    case sheet_Standing_AtOpen:
+        return (sheet_Standing){.tag = sheet_Standing_AtBeam, .as.AtBeam = w % 0x10000000};
+    case sheet_Standing_AtBeam:
+    {
+        uint32_t edition = s.as.AtBeam;
+        return (sheet_Standing){.tag = sheet_Standing_Among, .as.Among.part0 = edition, .as.Among.part1 = 0,
+                .as.Among.part2 = 0};
+    }
+    case sheet_Standing_Among:
+    {
+        uint32_t edition_2 = s.as.Among.part0;
+        uint32_t done = s.as.Among.part1;
+        uint32_t most = s.as.Among.part2;
+        if (w / 0x10000000 == 3) {
+            return (sheet_Standing){.tag = sheet_Standing_Among, .as.Among.part0 = edition_2,
+                    .as.Among.part1 = done + 1, .as.Among.part2 = sheet_layers_after(w % 0x10000000)};
+        }
+        if (w / 0x10000000 == 7) {
+            return (sheet_Standing){.tag = sheet_Standing_AtSurface, .as.AtSurface.part0 = edition_2,
+                    .as.AtSurface.part1 = done};
+        }
+        if (w / 0x10000000 == 5) {
+            return (sheet_Standing){.tag = sheet_Standing_Ended};
+        }
+        return (sheet_Standing){.tag = sheet_Standing_Among, .as.Among.part0 = edition_2, .as.Among.part1 = done,
+                .as.Among.part2 = most - 1};
+    }
+    case sheet_Standing_AtSurface:
+    {
+        uint32_t edition_3 = s.as.AtSurface.part0;
+        uint32_t done_2 = s.as.AtSurface.part1;
+        return (sheet_Standing){.tag = sheet_Standing_Among, .as.Among.part0 = edition_3,
+                .as.Among.part1 = done_2 + 1, .as.Among.part2 = sheet_layers_after(w % 0x10000000)};
+    }
+    default: // sheet_Standing_Ended
+        return (sheet_Standing){.tag = sheet_Standing_Ended};
+    }
+}
+
+static bool sheet_has_ended(sheet_Standing s) {
+    switch (s.tag) {
+    case sheet_Standing_AtOpen:
+    case sheet_Standing_AtBeam:
+    case sheet_Standing_Among:
+    case sheet_Standing_AtSurface:
+        return false;
+    default: // sheet_Standing_Ended
+        return true;
+    }
+}
+
+// One more where the kind word is a SURFACE's.
+static uint32_t sheet_counted(uint32_t w, uint32_t n) {
+    if (w / 0x10000000 == 3) {
+        return n + 1;
+    }
+    return n;
+}
+
+// The grammar over the whole sheet.
+static sheet_Verdict sheet_grammar(slice_u8 src) {
+    uint64_t total = src.count / 4;
+    sheet_Standing s = {.tag = sheet_Standing_AtOpen};
+    uint64_t at = 0;
+    uint32_t count = 0;
+    while (at < total) {
+        uint32_t w = sheet_word_from(src, at);
+        if (!sheet_may(s, w)) {
+            return (sheet_Verdict){.tag = sheet_Verdict_Fault, .as.Fault = at};
+        }
+        uint64_t next = sheet_next_place(src, at);
+        if (total < next) {
+            return (sheet_Verdict){.tag = sheet_Verdict_Fault, .as.Fault = at};
+        }
+        count = sheet_counted(w, count);
+        s = sheet_after(s, w);
+        at = next;
+    }
+    if (sheet_has_ended(s)) {
+        return (sheet_Verdict){.tag = sheet_Verdict_Whole, .as.Whole = count};
+    }
+    return (sheet_Verdict){.tag = sheet_Verdict_Fault, .as.Fault = at};
+}
+
+// The place n blocks on.
+static uint64_t sheet_place_on(slice_u8 src, uint64_t at, uint64_t n) {
+    uint64_t place = at;
+    uint64_t i = 0;
+    while (i < n) {
+        place = sheet_next_place(src, place);
+        i = i + 1;
+    }
+    return place;
+}
+
+// How many layers stand directly after the block at a place: 16 at the most.
+static uint64_t sheet_layer_run(slice_u8 src, uint64_t at) {
+    uint64_t n = 0;
+    uint64_t place = at;
+    while (n < 16) {
+        if (!sheet_layer_kind(2, sheet_word_after(src, place) / 0x10000000)) {
+            return n;
+        }
+        place = sheet_next_place(src, place);
+        n = n + 1;
+    }
+    return n;
+}
+
+// The SURFACE of the blocks from a place on: after the kind 7, if one is there.
+static uint64_t sheet_onto(slice_u8 src, uint64_t at) {
+    if (sheet_kind_at(src, at) == 7) {
+        return sheet_next_place(src, at);
+    }
+    return at;
+}
+
+// The place after a SURFACE and its layers.
+static uint64_t sheet_after_layers(slice_u8 src, uint64_t at) {
+    return sheet_place_on(src, at, sheet_layer_run(src, at) + 1);
+}
+
+// Where the n-th SURFACE of a sheet in grammar begins, counted from 0, with the kind 7 before it.
+static uint64_t sheet_begin_of(slice_u8 src, uint32_t n) {
+    uint64_t at = sheet_place_on(src, 0, 2);
+    uint32_t i = 0;
+    while (i < n) {
+        at = sheet_after_layers(src, sheet_onto(src, at));
+        i = i + 1;
+    }
+    return at;
+}
+
+// The place of the n-th SURFACE of a sheet in grammar, counted from 0.
+static uint64_t sheet_place_of(slice_u8 src, uint32_t n) {
+    return sheet_onto(src, sheet_begin_of(src, n));
+}
+
+// ==== math_sqrt
+//
+// The square root of an `f64`, rounded as IEEE 754 says: to the nearest value, and at a tie to the
+// even one. It is right for every argument, with no `requires`: subnormals, both zeros, the
+// infinities, negative numbers and NaN.
+//
+// A guess is made in floats, of which nothing is proved, and whole numbers say whether it is the root.
+// A positive finite x is R * 4 ^ k, where R has 105 or 106 binary digits. The root of x is the root of R,
+// times 2 ^ k. A whole number q is the one nearest to the root of R where q * (q - 1) < R <= q * (q + 1).
+// If no guess is found to be the root, which is rare, the root is taken a digit at a time.
+
+// The root of h from 1/2 to 2 in 64 pieces: the first 32 go from 1/2 to 1, and the others from 1 to 2.
+// Each is within one part in 2 ^ 31 of the root, though nothing is proved of that. The compiler
+// makes tables of them.
+static math_sqrt_Cubic math_sqrt_piece(uint64_t i) {
+    switch (i) {
+    case 0:
+        return (math_sqrt_Cubic){.part0 = 0.22267931136, .part1 = 1.31564022919, .part2 = -0.86364403103,
+                .part3 = 0.34014690553};
+    case 1:
+        return (math_sqrt_Cubic){.part0 = 0.22607986099, .part1 = 1.29585195655, .part2 = -0.82525898966,
+                .part3 = 0.31532635022};
+    case 2:
+        return (math_sqrt_Cubic){.part0 = 0.22942999532, .part1 = 1.27693061758, .part2 = -0.78963554519,
+                .part3 = 0.29296930816};
+    case 3:
+        return (math_sqrt_Cubic){.part0 = 0.23273189307, .part1 = 1.25881469964, .part2 = -0.75650332147,
+                .part3 = 0.27277010042};
+    case 4:
+        return (math_sqrt_Cubic){.part0 = 0.23598758039, .part1 = 1.2414486326, .part2 = -0.72562505105,
+                .part3 = 0.25446815901};
+    case 5:
+        return (math_sqrt_Cubic){.part0 = 0.23919894537, .part1 = 1.22478207043, .part2 = -0.69679175121,
+                .part3 = 0.2378403653};
+    case 6:
+        return (math_sqrt_Cubic){.part0 = 0.24236775091, .part1 = 1.20876927626, .part2 = -0.6698187091,
+                .part3 = 0.2226948515};
+    case 7:
+        return (math_sqrt_Cubic){.part0 = 0.24549564601, .part1 = 1.19336859359, .part2 = -0.64454212358,
+                .part3 = 0.20886595648};
+    case 8:
+        return (math_sqrt_Cubic){.part0 = 0.24858417583, .part1 = 1.17854198988, .part2 = -0.62081628258,
+                .part3 = 0.19621009821};
+    case 9:
+        return (math_sqrt_Cubic){.part0 = 0.25163479062, .part1 = 1.16425466097, .part2 = -0.59851118005,
+                .part3 = 0.18460237854};
+    case 10:
+        return (math_sqrt_Cubic){.part0 = 0.25464885369, .part1 = 1.15047468707, .part2 = -0.57751049523,
+                .part3 = 0.17393377641};
+    case 11:
+        return (math_sqrt_Cubic){.part0 = 0.25762764855, .part1 = 1.13717273251, .part2 = -0.55770987216,
+                .part3 = 0.16410881661};
+    case 12:
+        return (math_sqrt_Cubic){.part0 = 0.26057238526, .part1 = 1.12432178281, .part2 = -0.53901544905,
+                .part3 = 0.15504362473};
+    case 13:
+        return (math_sqrt_Cubic){.part0 = 0.26348420626, .part1 = 1.11189691375, .part2 = -0.52134259669,
+                .part3 = 0.14666429739};
+    case 14:
+        return (math_sqrt_Cubic){.part0 = 0.26636419145, .part1 = 1.09987508792, .part2 = -0.50461483221,
+                .part3 = 0.13890553104};
+    case 15:
+        return (math_sqrt_Cubic){.part0 = 0.26921336297, .part1 = 1.08823497493, .part2 = -0.48876288073,
+                .part3 = 0.13170946389};
+    case 16:
+        return (math_sqrt_Cubic){.part0 = 0.27203268937, .part1 = 1.07695679217, .part2 = -0.47372386214,
+                .part3 = 0.125024694};
+    case 17:
+        return (math_sqrt_Cubic){.part0 = 0.27482308951, .part1 = 1.06602216331, .part2 = -0.45944058409,
+                .part3 = 0.11880544401};
+    case 18:
+        return (math_sqrt_Cubic){.part0 = 0.27758543603, .part1 = 1.05541399234, .part2 = -0.44586092561,
+                .part3 = 0.11301084795};
+    case 19:
+        return (math_sqrt_Cubic){.part0 = 0.28032055855, .part1 = 1.04511635108, .part2 = -0.43293729806,
+                .part3 = 0.10760434045};
+    case 20:
+        return (math_sqrt_Cubic){.part0 = 0.28302924658, .part1 = 1.03511437863, .part2 = -0.42062617261,
+                .part3 = 0.10255313195};
+    case 21:
+        return (math_sqrt_Cubic){.part0 = 0.28571225219, .part1 = 1.02539419109, .part2 = -0.40888766475,
+                .part3 = 0.09782775638};
+    case 22:
+        return (math_sqrt_Cubic){.part0 = 0.28837029244, .part1 = 1.01594280052, .part2 = -0.39768516823,
+                .part3 = 0.0934016803};
+    case 23:
+        return (math_sqrt_Cubic){.part0 = 0.29100405164, .part1 = 1.00674804194, .part2 = -0.38698503159,
+                .part3 = 0.08925096408};
+    case 24:
+        return (math_sqrt_Cubic){.part0 = 0.29361418338, .part1 = 0.99779850747, .part2 = -0.37675627186,
+                .part3 = 0.0853539675};
+    case 25:
+        return (math_sqrt_Cubic){.part0 = 0.29620131245, .part1 = 0.98908348682, .part2 = -0.36697032033,
+                .part3 = 0.08169109321};
+    case 26:
+        return (math_sqrt_Cubic){.part0 = 0.29876603656, .part1 = 0.98059291337, .part2 = -0.35760079659,
+                .part3 = 0.07824456266};
+    case 27:
+        return (math_sqrt_Cubic){.part0 = 0.301308928, .part1 = 0.97231731527, .part2 = -0.34862330705,
+                .part3 = 0.07499821994};
+    case 28:
+        return (math_sqrt_Cubic){.part0 = 0.30383053506, .part1 = 0.96424777101, .part2 = -0.34001526511,
+                .part3 = 0.07193735961};
+    case 29:
+        return (math_sqrt_Cubic){.part0 = 0.3063313835, .part1 = 0.95637586899, .part2 = -0.33175573015,
+                .part3 = 0.06904857529};
+    case 30:
+        return (math_sqrt_Cubic){.part0 = 0.30881197775, .part1 = 0.94869367063, .part2 = -0.32382526332,
+                .part3 = 0.06631962615};
+    case 31:
+        return (math_sqrt_Cubic){.part0 = 0.31127280216, .part1 = 0.94119367672, .part2 = -0.31620579793,
+                .part3 = 0.06373931907};
+    case 32:
+        return (math_sqrt_Cubic){.part0 = 0.31491610218, .part1 = 0.93029812766, .part2 = -0.30534427544,
+                .part3 = 0.06013004587};
+    case 33:
+        return (math_sqrt_Cubic){.part0 = 0.3197252056, .part1 = 0.91630570589, .part2 = -0.29177311391,
+                .part3 = 0.05574235013};
+    case 34:
+        return (math_sqrt_Cubic){.part0 = 0.324463011, .part1 = 0.90292629879, .part2 = -0.27917832434,
+                .part3 = 0.05179014612};
+    case 35:
+        return (math_sqrt_Cubic){.part0 = 0.32913259958, .part1 = 0.89011641037, .part2 = -0.2674643143,
+                .part3 = 0.04821939693};
+    case 36:
+        return (math_sqrt_Cubic){.part0 = 0.33373683674, .part1 = 0.87783674661, .part2 = -0.2565471971,
+                .part3 = 0.04498404021};
+    case 37:
+        return (math_sqrt_Cubic){.part0 = 0.33827839265, .part1 = 0.86605170748, .part2 = -0.24635308618,
+                .part3 = 0.04204463379};
+    case 38:
+        return (math_sqrt_Cubic){.part0 = 0.34275976042, .part1 = 0.85472895213, .part2 = -0.23681667569,
+                .part3 = 0.03936725991};
+    case 39:
+        return (math_sqrt_Cubic){.part0 = 0.34718327209, .part1 = 0.84383902498, .part2 = -0.22788005317,
+                .part3 = 0.03692263355};
+    case 40:
+        return (math_sqrt_Cubic){.part0 = 0.35155111285, .part1 = 0.83335503296, .part2 = -0.21949170164,
+                .part3 = 0.03468537275};
+    case 41:
+        return (math_sqrt_Cubic){.part0 = 0.35586533366, .part1 = 0.8232523658, .part2 = -0.21160565701,
+                .part3 = 0.03263339842};
+    case 42:
+        return (math_sqrt_Cubic){.part0 = 0.36012786253, .part1 = 0.81350845281, .part2 = -0.20418079369,
+                .part3 = 0.03074743819};
+    case 43:
+        return (math_sqrt_Cubic){.part0 = 0.36434051462, .part1 = 0.80410255054, .part2 = -0.19718021627,
+                .part3 = 0.02901061427};
+    case 44:
+        return (math_sqrt_Cubic){.part0 = 0.36850500122, .part1 = 0.79501555686, .part2 = -0.19057073959,
+                .part3 = 0.02740809961};
+    case 45:
+        return (math_sqrt_Cubic){.part0 = 0.37262293796, .part1 = 0.78622984769, .part2 = -0.18432244272,
+                .part3 = 0.02592682981};
+    case 46:
+        return (math_sqrt_Cubic){.part0 = 0.37669585208, .part1 = 0.77772913313, .part2 = -0.17840828487,
+                .part3 = 0.02455526074};
+    case 47:
+        return (math_sqrt_Cubic){.part0 = 0.38072518908, .part1 = 0.7694983303, .part2 = -0.17280377368,
+                .part3 = 0.02328316377};
+    case 48:
+        return (math_sqrt_Cubic){.part0 = 0.38471231872, .part1 = 0.76152345079, .part2 = -0.16748667766,
+                .part3 = 0.02210145224};
+    case 49:
+        return (math_sqrt_Cubic){.part0 = 0.38865854044, .part1 = 0.75379150057, .part2 = -0.16243677628,
+                .part3 = 0.02100203377};
+    case 50:
+        return (math_sqrt_Cubic){.part0 = 0.39256508836, .part1 = 0.74629039094, .part2 = -0.15763564198,
+                .part3 = 0.01997768423};
+    case 51:
+        return (math_sqrt_Cubic){.part0 = 0.39643313571, .part1 = 0.73900885898, .part2 = -0.15306644964,
+                .part3 = 0.0190219397};
+    case 52:
+        return (math_sqrt_Cubic){.part0 = 0.40026379906, .part1 = 0.73193639643, .part2 = -0.1487138095,
+                .part3 = 0.01812900376};
+    case 53:
+        return (math_sqrt_Cubic){.part0 = 0.40405814198, .part1 = 0.72506318591, .part2 = -0.14456362025,
+                .part3 = 0.01729366748};
+    case 54:
+        return (math_sqrt_Cubic){.part0 = 0.40781717856, .part1 = 0.71838004354, .part2 = -0.14060293962,
+                .part3 = 0.01651124038};
+    case 55:
+        return (math_sqrt_Cubic){.part0 = 0.41154187654, .part1 = 0.7118783674, .part2 = -0.13681987003,
+                .part3 = 0.01577749048};
+    case 56:
+        return (math_sqrt_Cubic){.part0 = 0.41523316025, .part1 = 0.70555009089, .part2 = -0.13320345734,
+                .part3 = 0.01508859231};
+    case 57:
+        return (math_sqrt_Cubic){.part0 = 0.41889191326, .part1 = 0.69938764069, .part2 = -0.129743601,
+                .part3 = 0.01444108149};
+    case 58:
+        return (math_sqrt_Cubic){.part0 = 0.42251898088, .part1 = 0.69338389863, .part2 = -0.12643097411,
+                .part3 = 0.01383181521};
+    case 59:
+        return (math_sqrt_Cubic){.part0 = 0.42611517244, .part1 = 0.68753216709, .part2 = -0.12325695225,
+                .part3 = 0.01325793747};
+    case 60:
+        return (math_sqrt_Cubic){.part0 = 0.42968126335, .part1 = 0.68182613763, .part2 = -0.12021354983,
+                .part3 = 0.0127168487};
+    case 61:
+        return (math_sqrt_Cubic){.part0 = 0.43321799713, .part1 = 0.67625986233, .part2 = -0.11729336325,
+                .part3 = 0.01220617896};
+    case 62:
+        return (math_sqrt_Cubic){.part0 = 0.43672608716, .part1 = 0.67082772777, .part2 = -0.11448951981,
+                .part3 = 0.01172376434};
+    default:
+        return (math_sqrt_Cubic){.part0 = 0.44020621841, .part1 = 0.66552443122, .part2 = -0.11179563198,
+                .part3 = 0.01126762619};
+    }
+}
+
+// A guess at the root of h, whose pattern is `bits`.
+static double math_sqrt_first_guess(double h, uint64_t bits) {
+    math_sqrt_Cubic p = math_sqrt_piece(bits / 0x800000000000u % 64);
+    double square = h * h;
+    return p.part0 + p.part1 * h + p.part2 * square + p.part3 * h * square;
+}
+
+// A better guess from the guess s, by Newton's method. `high` has the upper digits of s, so that its
+// square is exact, and so is what s * s leaves of h, but for its last digits.
+static double math_sqrt_second_guess(double h, double s) {
+    double high = s + 201326592.0 - 201326592.0;
+    double left = h - high * high - (s + high) * (s - high);
+    return s + left * (0.5 / s);
+}
+
+// x * y modulo 2 ^ 64. The compiler makes one multiplication of it.
+static uint64_t math_sqrt_low_product(uint64_t x, uint64_t y) {
+    uint64_t x0 = x % 0x100000000u;
+    uint64_t x1 = x / 0x100000000u;
+    uint64_t y0 = y % 0x100000000u;
+    uint64_t y1 = y / 0x100000000u;
+    return std_num_wrapping_add_u64((x0 * y1 + x1 * y0) << 32, x0 * y0);
+}
+
+// Whether the float with the pattern `root` is the root of the float with the pattern `bits`. Both are
+// from 1/2 to 1, or both from 1 to 2. The float product says that q * q is near R, so that
+// R - q * (q - 1) is known once it is known modulo 2 ^ 64.
+static bool math_sqrt_is_root(uint64_t bits, uint64_t root) {
+    double n = from_bits(root);
+    if (to_bits(n * n) / 1024 == bits / 1024) {
+        uint64_t d = (bits % 0x10000000000000u + 0x10000000000000u) * (2 - bits / 0x10000000000000u % 2);
+        uint64_t q = root % 0x10000000000000u + 0x10000000000000u;
+        uint64_t over = std_num_wrapping_sub_u64(d << 52, math_sqrt_low_product(q, q - 1));
+        return std_num_wrapping_sub_u64(over, 1) < 2 * q;
+    }
+    return false;
+}
+
+// The root of d * 2 ^ 52, cut to a whole number, a binary digit at a time: slow and simple. `step` is
+// twice the weight of the digit that is tried next, and `left` is what the root's square leaves,
+// divided by that weight.
+static math_sqrt_Cut math_sqrt_root_by_digits(uint64_t d) {
+    uint64_t q = 0;
+    uint64_t left = d;
+    uint64_t step = 0x20000000000000u;
+    while (1 < step) {
+        step = step / 2;
+        uint64_t t = 2 * q + step;
+        if (t <= left) {
+            left = 2 * (left - t);
+            q = q + step;
+        } else {
+            left = 2 * left;
+        }
+    }
+    return (math_sqrt_Cut){.root = q, .rest = left / 2};
+}
+
+// The whole number nearest to the root of d * 2 ^ 52.
+static uint64_t math_sqrt_nearest_by_digits(uint64_t d) {
+    math_sqrt_Cut r = math_sqrt_root_by_digits(d);
+    if (r.root < r.rest) {
+        return r.root + 1;
+    }
+    return r.root;
+}
+
+// The root of a normal number, from its pattern. The guess is made for the number times a power of 4
+// that brings it to where the pieces are, and `part` is its pattern then.
+static double math_sqrt_normal_sqrt(uint64_t bits) {
+    uint64_t field = bits / 0x10000000000000u;
+    uint64_t part = bits % 0x20000000000000u + 0x3fe0000000000000u;
+    double h = from_bits(part);
+    double n = math_sqrt_second_guess(h, math_sqrt_first_guess(h, part));
+    if (0.0 < n) {
+        uint64_t root = to_bits(n);
+        if (root / 0x10000000000000u == part / 0x10000000000000u) {
+            if (math_sqrt_is_root(part, root)) {
+                if (part == bits) {
+                    return from_bits(root);
+                }
+                return from_bits(root + field / 2 * 0x10000000000000u - 0x1ff0000000000000u);
+            }
+        }
+    }
+    uint64_t d = (bits % 0x10000000000000u + 0x10000000000000u) * (2 - field % 2);
+    return from_bits((field + 1021) / 2 * 0x10000000000000u + math_sqrt_nearest_by_digits(d));
+}
+
+// The root of a subnormal number, from its pattern. Its digits are moved up by their leading zeros,
+// which makes them those of a normal number: the subnormal one, times 2 ^ 108.
+static double math_sqrt_subnormal_sqrt(uint64_t bits) {
+    uint32_t up = leading_zeros(bits) - 11;
+    uint64_t lifted = (bits << (uint64_t)up) + (108 - (uint64_t)up) * 0x10000000000000u;
+    uint64_t root = to_bits(math_sqrt_normal_sqrt(lifted));
+    return from_bits(root - UINT64_C(54) * 0x10000000000000u);
+}
+
+// The square root of x.
+static double math_sqrt_sqrt(double x) {
+    if (0.0 < x) {
+        uint64_t bits = to_bits(x);
+        if (bits < 0x10000000000000u) {
+            return math_sqrt_subnormal_sqrt(bits);
+        }
+        if (bits < 0x7ff0000000000000u) {
+            return math_sqrt_normal_sqrt(bits);
+        }
+        return x;
+    }
+    if (x == 0.0) {
+        return x;
+    }
+    return 0.0 / 0.0;
+}
+
+// The square root of x. It is quick for an x from 1 to 2 whose root is near s.
+static double math_sqrt_sqrt_near(double x, double s) {
+    if (1.0 <= x) {
+        uint64_t bits = to_bits(x);
+        if (bits < 0x4000000000000000u) {
+            double n = math_sqrt_second_guess(x, s);
+            if (1.0 <= n) {
+                uint64_t root = to_bits(n);
+                if (root < 0x4000000000000000u) {
+                    if (math_sqrt_is_root(bits, root)) {
+                        return from_bits(root);
+                    }
+                }
+            }
+        }
+    }
+    return math_sqrt_sqrt(x);
+}
+
+// ==== math_atan
+//
+// atan, asin and atan2 as document 01's section 2 gives them, each for every f64.
+
+// One of two numbers, by the sign bit of x. A NaN has none.
+static double math_atan_by_sign(double x, double set, double clear) {
+    if (x != x) {
+        return clear;
+    }
+    if (to_bits(x) < 0x8000000000000000u) {
+        return clear;
+    }
+    return set;
+}
+
+// v, whose sign bit is clear, with the sign bit of x.
+static double math_atan_with_sign(double v, double x) {
+    return math_atan_by_sign(x, -v, v);
+}
+
+// Where t is the tangent of an angle and h = 1 + t * t, the root of h is 1 over the angle's cosine.
+// The same of half the angle, for h from 1 to 2 in 16 pieces. Each is within one part in 2 ^ 27 of it,
+// though nothing is proved of that: it is a guess, from which the root is found sooner.
+static math_atan_Cubic math_atan_half_piece(uint64_t i) {
+    switch (i) {
+    case 0:
+        return (math_atan_Cubic){.part0 = 0.7611857554, .part1 = 0.3962944244, .part2 = -0.20114411734,
+                .part3 = 0.04366394141};
+    case 1:
+        return (math_atan_Cubic){.part0 = 0.76963650656, .part1 = 0.37241577571, .part2 = -0.1786501797,
+                .part3 = 0.03659975092};
+    case 2:
+        return (math_atan_Cubic){.part0 = 0.77763159284, .part1 = 0.351081411, .part2 = -0.15967128875,
+                .part3 = 0.03097120267};
+    case 3:
+        return (math_atan_Cubic){.part0 = 0.78521616789, .part1 = 0.33190895903, .part2 = -0.14351457978,
+                .part3 = 0.026432237};
+    case 4:
+        return (math_atan_Cubic){.part0 = 0.79242895065, .part1 = 0.31458895382, .part2 = -0.12964966704,
+                .part3 = 0.02273216522};
+    case 5:
+        return (math_atan_Cubic){.part0 = 0.79930340186, .part1 = 0.29886823174, .part2 = -0.11766497988,
+                .part3 = 0.01968637063};
+    case 6:
+        return (math_atan_Cubic){.part0 = 0.80586864172, .part1 = 0.28453767427, .part2 = -0.10723720406,
+                .part3 = 0.0171568609};
+    case 7:
+        return (math_atan_Cubic){.part0 = 0.81215017463, .part1 = 0.27142302327, .part2 = -0.09810951634,
+                .part3 = 0.01503909621};
+    case 8:
+        return (math_atan_Cubic){.part0 = 0.81817046779, .part1 = 0.25937790502, .part2 = -0.09007583422,
+                .part3 = 0.01325290342};
+    case 9:
+        return (math_atan_Cubic){.part0 = 0.82394941793, .part1 = 0.24827846662, .part2 = -0.08296925259,
+                .part3 = 0.01173610401};
+    case 10:
+        return (math_atan_Cubic){.part0 = 0.8295047312, .part1 = 0.23801920557, .part2 = -0.07665344179,
+                .part3 = 0.01043997682};
+    case 11:
+        return (math_atan_Cubic){.part0 = 0.834852235, .part1 = 0.2285096936, .part2 = -0.07101617076,
+                .part3 = 0.00932598208};
+    case 12:
+        return (math_atan_Cubic){.part0 = 0.84000613599, .part1 = 0.21967197867, .part2 = -0.06596437569,
+                .part3 = 0.00836336567};
+    case 13:
+        return (math_atan_Cubic){.part0 = 0.84497923507, .part1 = 0.21143850656, .part2 = -0.0614203667,
+                .part3 = 0.00752738625};
+    case 14:
+        return (math_atan_Cubic){.part0 = 0.84978310763, .part1 = 0.20375044472, .part2 = -0.05731888192,
+                .part3 = 0.00679798892};
+    default:
+        return (math_atan_Cubic){.part0 = 0.85442825579, .part1 = 0.19655632029, .part2 = -0.05360477938,
+                .part3 = 0.00615880272};
+    }
+}
+
+static double math_atan_half_guess(double h) {
+    if (h != h) {
+        return h;
+    }
+    math_atan_Cubic p = math_atan_half_piece(to_bits(h) / 0x1000000000000u % 16);
+    double square = h * h;
+    return p.part0 + p.part1 * h + p.part2 * square + p.part3 * h * square;
+}
+
+// The tangent of a quarter of the angle whose tangent is t: twice the half angle.
+static double math_atan_quarter_angle(double t) {
+    double h = 1.0 + t * t;
+    double u = t / (1.0 + math_sqrt_sqrt(h));
+    return u / (1.0 + math_sqrt_sqrt_near(1.0 + u * u, math_atan_half_guess(h)));
+}
+
+static double math_atan_atan_series(double z) {
+    double p = 0.0;
+    double p_2 = 1.0 / 25.0 - z * p;
+    double p_3 = 1.0 / 23.0 - z * p_2;
+    double p_4 = 1.0 / 21.0 - z * p_3;
+    double p_5 = 1.0 / 19.0 - z * p_4;
+    double p_6 = 1.0 / 17.0 - z * p_5;
+    double p_7 = 1.0 / 15.0 - z * p_6;
+    double p_8 = 1.0 / 13.0 - z * p_7;
+    double p_9 = 1.0 / 11.0 - z * p_8;
+    double p_10 = 1.0 / 9.0 - z * p_9;
+    double p_11 = 1.0 / 7.0 - z * p_10;
+    double p_12 = 1.0 / 5.0 - z * p_11;
+    double p_13 = 1.0 / 3.0 - z * p_12;
+    return 1.0 / 1.0 - z * p_13;
+}
+
+static double math_atan_atan_poly(double t) {
+    return 4.0 * (t * math_atan_atan_series(t * t));
+}
+
+// a, or 1/a if a > 1.
+static double math_atan_at_most_one(double a) {
+    if (1.0 < a) {
+        return 1.0 / a;
+    }
+    return a;
+}
+
+// atan of an a whose sign bit is clear.
+static double math_atan_atan_abs(double a) {
+    double q = math_atan_atan_poly(math_atan_quarter_angle(math_atan_at_most_one(a)));
+    if (1.0 < a) {
+        return 1.5707963267948966 - q;
+    }
+    return q;
+}
+
+static double math_atan_atan(double x) {
+    if (x != x) {
+        return x;
+    }
+    return math_atan_with_sign(math_atan_atan_abs(ieee_abs(x)), x);
+}
+
+static bool math_atan_is_infinite(double x) {
+    double infinity = 1.0 / 0.0;
+    return x == infinity || x == -infinity;
+}
+
+static bool math_atan_both_infinite(double a, double b) {
+    return math_atan_is_infinite(a) && math_atan_is_infinite(b);
+}
+
+// Whether a is a zero, or b an infinity.
+static bool math_atan_zero_or_infinite(double a, double b) {
+    return a == 0.0 || math_atan_is_infinite(b);
+}
+
+// atan(y / x) = q, taken to the half plane of x.
+static double math_atan_turned(double q, double y, double x) {
+    if (x < 0.0) {
+        if (0.0 < y) {
+            return q + 3.141592653589793;
+        }
+        if (y < 0.0) {
+            return q - 3.141592653589793;
+        }
+    }
+    return q;
+}
+
+// The angle of the point (x, y).
+static double math_atan_atan2(double y, double x) {
+    if (y != y) {
+        return y;
+    }
+    if (x != x) {
+        return x;
+    }
+    if (math_atan_both_infinite(y, x)) {
+        return math_atan_with_sign(math_atan_by_sign(x, 3.0 * 0.7853981633974483, 0.7853981633974483), y);
+    }
+    if (math_atan_zero_or_infinite(y, x)) {
+        return math_atan_with_sign(math_atan_by_sign(x, 3.141592653589793, 0.0), y);
+    }
+    if (math_atan_zero_or_infinite(x, y)) {
+        return math_atan_with_sign(1.5707963267948966, y);
+    }
+    return math_atan_turned(math_atan_atan(y / x), y, x);
+}
+
+// ==== fresnel
+//
+// The Fresnel equations of fresnel.rs for dielectric media, and Schlick's approximation. Each is for
+// every f64 and never refuses.
+
+// The square of the refracted ray's sine: 1 and above is total internal reflection.
+static double fresnel_sin2_t(double cos_i, double n1, double n2) {
+    double eta = n1 / n2;
+    return eta * eta * ieee_max(1.0 - cos_i * cos_i, 0.0);
+}
+
+// The refracted ray's cosine.
+static double fresnel_cos_t(double sin2_t) {
+    return math_sqrt_sqrt(ieee_max(1.0 - sin2_t, 0.0));
+}
+
+// The power of an amplitude num / den.
+static double fresnel_power(double num, double den) {
+    if (ieee_abs(den) < 1e-30) {
+        return 0.0;
+    }
+    return ieee_clamp(ieee_powi2(num / den), 0.0, 1.0);
+}
+
+// Rs and Rp where the light is refracted.
+static fresnel_Reflectances fresnel_refracted(double cos_i, double cos_t, double n1, double n2) {
+    double rs_num = n1 * cos_i - n2 * cos_t;
+    double rs_den = n1 * cos_i + n2 * cos_t;
+    double rs = fresnel_power(rs_num, rs_den);
+    double rp_num = n2 * cos_i - n1 * cos_t;
+    double rp_den = n2 * cos_i + n1 * cos_t;
+    double rp = fresnel_power(rp_num, rp_den);
+    return (fresnel_Reflectances){.rs = rs, .rp = rp};
+}
+
+// Rs and Rp of a dielectric interface; the cosine is clamped to 0..1.
+static fresnel_Reflectances fresnel_fresnel_dielectric(double cos_theta_i, double n1, double n2) {
+    double cos_i = ieee_clamp(cos_theta_i, 0.0, 1.0);
+    double sin2_t = fresnel_sin2_t(cos_i, n1, n2);
+    if (1.0 <= sin2_t) {
+        return (fresnel_Reflectances){.rs = 1.0, .rp = 1.0};
+    }
+    return fresnel_refracted(cos_i, fresnel_cos_t(sin2_t), n1, n2);
+}
+
+// ==== reflectance_range
+//
+// Indices off the data sheet: a low and a high reflectance of a bare surface met head-on, where both
+// indices are known as ranges within 1 to 4.
+
+// An index from 1 to 4; a NaN is none.
+static bool reflectance_range_index_valid(double n) {
+    if (1.0 <= n) {
+        return n <= 4.0;
+    }
+    return false;
+}
+
+// Two ends of a range within 1 to 4.
+static bool reflectance_range_range_valid(double low, double high) {
+    if (!reflectance_range_index_valid(low)) {
+        return false;
+    }
+    if (!reflectance_range_index_valid(high)) {
+        return false;
+    }
+    return low <= high;
+}
+
+// What a bare surface reflects head-on.
+static double reflectance_range_head_on(double n1, double n2) {
+    fresnel_Reflectances reflectances = fresnel_fresnel_dielectric(1.0, n1, n2);
+    return reflectances.rs;
+}
+
+// No less than the exact fraction: 1 + 2^-49 is more than its roundings.
+static double reflectance_range_upper(double n1, double n2) {
+    return reflectance_range_head_on(n1, n2) * 1.0000000000000018;
+}
+
+// No more than the exact fraction: 1 - 2^-49.
+static double reflectance_range_lower(double n1, double n2) {
+    return reflectance_range_head_on(n1, n2) * 0.9999999999999982;
+}
+
+// At the corner where the indices are farthest apart.
+static double reflectance_range_high(double n1_low, double n1_high, double n2_low, double n2_high) {
+    return ieee_max(reflectance_range_upper(n1_high, n2_low), reflectance_range_upper(n1_low, n2_high));
+}
+
+// At the corner where they are nearest; zero where the ranges meet.
+static double reflectance_range_low(double n1_low, double n1_high, double n2_low, double n2_high) {
+    if (n1_high < n2_low) {
+        return reflectance_range_lower(n1_high, n2_low);
+    }
+    if (n2_high < n1_low) {
+        return reflectance_range_lower(n1_low, n2_high);
+    }
+    return 0.0;
+}
+
+// A low and a high reflectance; 13 for a low end above its high end, or an end that is NaN or outside
+// 1 to 4.
+static reflectance_range_RangeReply reflectance_range_reflectance_range(double n1_low, double n1_high, double n2_low,
+        double n2_high) {
+    if (!reflectance_range_range_valid(n1_low, n1_high)) {
+        return (reflectance_range_RangeReply){.tag = reflectance_range_RangeReply_Refused,
+                .as.Refused = {.number = 13, .place = 0}};
+    }
+    if (!reflectance_range_range_valid(n2_low, n2_high)) {
+        return (reflectance_range_RangeReply){.tag = reflectance_range_RangeReply_Refused,
+                .as.Refused = {.number = 13, .place = 0}};
+    }
+    return (reflectance_range_RangeReply){.tag = reflectance_range_RangeReply_Range,
+            .as.Range = {.low = reflectance_range_low(n1_low, n1_high, n2_low, n2_high),
+            .high = reflectance_range_high(n1_low, n1_high, n2_low, n2_high)}};
+}
+
+// ==== thin_film_complex
+//
+// Complex numbers of two f64, as thin_film.rs has them: every operation rounds, in the Rust's order.
+
+// The root of x / 2, of zero where that is below zero or a NaN.
+static double thin_film_complex_half_root(double x) {
+    return math_sqrt_sqrt(ieee_max(x / 2.0, 0.0));
+}
+
+// z = x + i y
+static thin_film_complex_Complex thin_film_complex_Complex_new(double re, double im) {
+    return (thin_film_complex_Complex){.re = re, .im = im};
+}
+
+// z = x + 0 i
+static thin_film_complex_Complex thin_film_complex_Complex_real(double re) {
+    return (thin_film_complex_Complex){.re = re, .im = 0.0};
+}
+
+static thin_film_complex_Complex thin_film_complex_Complex_zero(void) {
+    return (thin_film_complex_Complex){.re = 0.0, .im = 0.0};
+}
+
+static thin_film_complex_Complex thin_film_complex_Complex_scale(thin_film_complex_Complex self, double s) {
+    return (thin_film_complex_Complex){.re = self.re * s, .im = self.im * s};
+}
+
+// |z|^2 = x^2 + y^2
+static double thin_film_complex_Complex_norm_sq(thin_film_complex_Complex self) {
+    return self.re * self.re + self.im * self.im;
+}
+
+static double thin_film_complex_Complex_norm(thin_film_complex_Complex self) {
+    return math_sqrt_sqrt(thin_film_complex_Complex_norm_sq(self));
+}
+
+static double thin_film_complex_Complex_arg(thin_film_complex_Complex self) {
+    return math_atan_atan2(self.im, self.re);
+}
+
+// The principal root.
+static thin_film_complex_Complex thin_film_complex_Complex_sqrt(thin_film_complex_Complex self) {
+    if (self.im == 0.0) {
+        if (0.0009765625 <= self.re) {
+            if (self.re <= 1024.0) {
+                return (thin_film_complex_Complex){.re = thin_film_complex_half_root(self.re + self.re), .im = 0.0};
+            }
+        }
+    }
+    double r = thin_film_complex_Complex_norm(self);
+    double u = thin_film_complex_half_root(r + self.re);
+    double v = thin_film_complex_half_root(r - self.re);
+    if (0.0 <= self.im) {
+        return (thin_film_complex_Complex){.re = u, .im = v};
+    }
+    return (thin_film_complex_Complex){.re = u, .im = -v};
+}
+
+static thin_film_complex_Complex thin_film_complex_Complex_add(thin_film_complex_Complex self,
+        thin_film_complex_Complex rhs) {
+    return (thin_film_complex_Complex){.re = self.re + rhs.re, .im = self.im + rhs.im};
+}
+
+static thin_film_complex_Complex thin_film_complex_Complex_sub(thin_film_complex_Complex self,
+        thin_film_complex_Complex rhs) {
+    return (thin_film_complex_Complex){.re = self.re - rhs.re, .im = self.im - rhs.im};
+}
+
+static thin_film_complex_Complex thin_film_complex_Complex_mul(thin_film_complex_Complex self,
+        thin_film_complex_Complex rhs) {
+    return (thin_film_complex_Complex){.re = self.re * rhs.re - self.im * rhs.im,
+            .im = self.re * rhs.im + self.im * rhs.re};
+}
+
+static thin_film_complex_Complex thin_film_complex_Complex_div(thin_film_complex_Complex self,
+        thin_film_complex_Complex rhs) {
+    double denom = rhs.re * rhs.re + rhs.im * rhs.im;
+    if (denom < 1e-28) {
+        return thin_film_complex_Complex_zero();
+    }
+    return (thin_film_complex_Complex){.re = (self.re * rhs.re + self.im * rhs.im) / denom,
+            .im = (self.im * rhs.re - self.re * rhs.im) / denom};
+}
+
+// ==== thin_film_matrix
+//
+// The characteristic matrix of one film, and products of such matrices: thin_film.rs's mat_mul_2x2
+// and the body of the loop in its evaluate_tmm_multilayer.
+
+// a b + c d
+static thin_film_complex_Complex thin_film_matrix_dot(thin_film_complex_Complex a, thin_film_complex_Complex b,
+        thin_film_complex_Complex c, thin_film_complex_Complex d) {
+    return thin_film_complex_Complex_add(thin_film_complex_Complex_mul(a, b), thin_film_complex_Complex_mul(c, d));
+}
+
+static thin_film_complex_Complex_x2_x2 thin_film_matrix_mat_mul_2x2(thin_film_complex_Complex_x2_x2 a,
+        thin_film_complex_Complex_x2_x2 b) {
+    thin_film_complex_Complex_x2_x2 text_2 = b;
+    return (thin_film_complex_Complex_x2_x2){{{{thin_film_matrix_dot(a.at[0].at[0], text_2.at[0].at[0], a.at[0].at[1],
+            text_2.at[1].at[0]),
+            thin_film_matrix_dot(a.at[0].at[0], text_2.at[0].at[1], a.at[0].at[1], text_2.at[1].at[1])}},
+            {{thin_film_matrix_dot(a.at[1].at[0], text_2.at[0].at[0], a.at[1].at[1], text_2.at[1].at[0]),
+            thin_film_matrix_dot(a.at[1].at[0], text_2.at[0].at[1], a.at[1].at[1], text_2.at[1].at[1])}}}};
+}
+
+// Before the first layer.
+static thin_film_complex_Complex_x2_x2 thin_film_matrix_identity(void) {
+    thin_film_complex_Complex one = thin_film_complex_Complex_real(1.0);
+    thin_film_complex_Complex zero = thin_film_complex_Complex_zero();
+    return (thin_film_complex_Complex_x2_x2){{{{one, zero}}, {{zero, one}}}};
+}
+
+// cos(theta) in a film of index n_c; snell is n_incident * sin_theta0.
+static thin_film_complex_Complex thin_film_matrix_cos_theta(double snell, thin_film_complex_Complex n_c) {
+    thin_film_complex_Complex sin_theta = thin_film_complex_Complex_div(thin_film_complex_Complex_real(snell), n_c);
+    return thin_film_complex_Complex_sqrt(thin_film_complex_Complex_sub(thin_film_complex_Complex_real(1.0),
+            thin_film_complex_Complex_mul(sin_theta, sin_theta)));
+}
+
+// e^x, at once where x is a zero.
+static double thin_film_matrix_exp_of(double x) {
+    if (x == 0.0) {
+        return 1.0;
+    }
+    return math_exp_exp(x);
+}
+
+// Both exponentials from one sine and one cosine: -sin(x) stands for sin(-x). Where these differ,
+// both are zeros, and the sum and the difference of the exponentials have the same bits.
+static thin_film_matrix_Phase thin_film_matrix_phase_of(thin_film_complex_Complex delta) {
+    math_trig_SinCos y = math_trig_sin_cos(delta.re);
+    double pos = thin_film_matrix_exp_of(-delta.im);
+    double neg = thin_film_matrix_exp_of(delta.im);
+    thin_film_complex_Complex exp_pos = thin_film_complex_Complex_new(pos * y.cos, pos * y.sin);
+    thin_film_complex_Complex exp_neg = thin_film_complex_Complex_new(neg * y.cos, neg * -y.sin);
+    thin_film_complex_Complex cos_delta = thin_film_complex_Complex_scale(thin_film_complex_Complex_add(exp_pos,
+            exp_neg), 0.5);
+    thin_film_complex_Complex sin_delta = thin_film_complex_Complex_mul(thin_film_complex_Complex_sub(exp_pos,
+            exp_neg), thin_film_complex_Complex_new(0.0, -0.5));
+    return (thin_film_matrix_Phase){.cos = cos_delta,
+            .i_sin = thin_film_complex_Complex_new(-sin_delta.im, sin_delta.re)};
+}
+
+// The characteristic matrix of a film of admittance eta.
+static thin_film_complex_Complex_x2_x2 thin_film_matrix_characteristic(thin_film_matrix_Phase phase,
+        thin_film_complex_Complex eta) {
+    thin_film_complex_Complex cos = phase.cos;
+    thin_film_complex_Complex i_sin = phase.i_sin;
+    return (thin_film_complex_Complex_x2_x2){{{{cos, thin_film_complex_Complex_div(i_sin, eta)}},
+            {{thin_film_complex_Complex_mul(i_sin, eta), cos}}}};
+}
+
+// ==== polarization_stokes
+//
+// Jones and Stokes vectors, as polarization.rs has them.
+
+static polarization_stokes_JonesVector polarization_stokes_JonesVector_new(thin_film_complex_Complex ex,
+        thin_film_complex_Complex ey) {
+    return (polarization_stokes_JonesVector){.ex = ex, .ey = ey};
+}
+
+static polarization_stokes_JonesVector polarization_stokes_JonesVector_linear_horizontal(void) {
+    return polarization_stokes_JonesVector_new(thin_film_complex_Complex_real(1.0), thin_film_complex_Complex_zero());
+}
+
+static polarization_stokes_JonesVector polarization_stokes_JonesVector_linear_vertical(void) {
+    return polarization_stokes_JonesVector_new(thin_film_complex_Complex_zero(), thin_film_complex_Complex_real(1.0));
+}
+
+static polarization_stokes_JonesVector polarization_stokes_JonesVector_linear_45(void) {
+    return polarization_stokes_JonesVector_new(thin_film_complex_Complex_real(0.7071067811865476),
+            thin_film_complex_Complex_real(0.7071067811865476));
+}
+
+// (1, -i) / sqrt(2): its Stokes S3 is negative.
+static polarization_stokes_JonesVector polarization_stokes_JonesVector_circular_right(void) {
+    return polarization_stokes_JonesVector_new(thin_film_complex_Complex_real(0.7071067811865476),
+            thin_film_complex_Complex_new(0.0, -0.7071067811865476));
+}
+
+// The Stokes parameters after Born and Wolf, in parts.
+static polarization_stokes_StokesVector polarization_stokes_JonesVector_to_stokes(
+        polarization_stokes_JonesVector self) {
+    double i_x = thin_film_complex_Complex_norm_sq(self.ex);
+    double i_y = thin_film_complex_Complex_norm_sq(self.ey);
+    double ex_ey_conj_re = self.ex.re * self.ey.re + self.ex.im * self.ey.im;
+    double ex_conj_ey_im = self.ex.re * self.ey.im - self.ex.im * self.ey.re;
+    return (polarization_stokes_StokesVector){.s0 = i_x + i_y, .s1 = i_x - i_y, .s2 = 2.0 * ex_ey_conj_re,
+            .s3 = 2.0 * ex_conj_ey_im};
+}
+
+// ==== thin_film_solver
+//
+// The transfer-matrix method of thin_film.rs, one layer at a time and by value.
+//
+// Whoever has layers, in a list, by index or in a sheet, begins with two identity matrices, takes
+// step_s and step_p for each layer, from the incident medium to the substrate, and calls finish.
+
+// A lossless layer.
+static thin_film_solver_ThinFilmLayer thin_film_solver_ThinFilmLayer_dielectric(double n, double thickness_nm) {
+    return (thin_film_solver_ThinFilmLayer){.n = n, .k = 0.0, .thickness_nm = thickness_nm};
+}
+
+static thin_film_solver_Incidence thin_film_solver_Incidence_new(double n_incident, double n_substrate,
+        double angle_incident_rad, double wavelength_nm) {
+    math_trig_SinCos theta0 = math_trig_sin_cos(angle_incident_rad);
+    return (thin_film_solver_Incidence){.n_incident = n_incident, .n_substrate = n_substrate,
+            .cos_theta0 = theta0.cos, .snell = n_incident * theta0.sin, .wavelength_nm = wavelength_nm};
+}
+
+// Those of a layer.
+static thin_film_solver_Terms thin_film_solver_terms_of(thin_film_solver_Incidence light,
+        thin_film_solver_ThinFilmLayer layer) {
+    thin_film_complex_Complex n_c = thin_film_complex_Complex_new(layer.n, -layer.k);
+    thin_film_complex_Complex cos = thin_film_matrix_cos_theta(light.snell, n_c);
+    thin_film_complex_Complex eta_s = thin_film_complex_Complex_mul(n_c, cos);
+    thin_film_complex_Complex eta_p = thin_film_complex_Complex_div(n_c, cos);
+    double factor = 2.0 * 3.141592653589793 * layer.thickness_nm / light.wavelength_nm;
+    thin_film_matrix_Phase phase = thin_film_matrix_phase_of(thin_film_complex_Complex_scale(eta_s, factor));
+    return (thin_film_solver_Terms){.phase = phase, .eta_s = eta_s, .eta_p = eta_p};
+}
+
+// m_layer_s
+static thin_film_complex_Complex_x2_x2 thin_film_solver_layer_s(thin_film_solver_Terms terms) {
+    thin_film_matrix_Phase phase = terms.phase;
+    thin_film_complex_Complex eta_s = terms.eta_s;
+    return thin_film_matrix_characteristic(phase, eta_s);
+}
+
+// m_layer_p
+static thin_film_complex_Complex_x2_x2 thin_film_solver_layer_p(thin_film_solver_Terms terms) {
+    thin_film_matrix_Phase phase = terms.phase;
+    thin_film_complex_Complex eta_p = terms.eta_p;
+    return thin_film_matrix_characteristic(phase, eta_p);
+}
+
+// ms = mat_mul_2x2(ms, m_layer_s)
+static thin_film_complex_Complex_x2_x2 thin_film_solver_step_s(thin_film_complex_Complex_x2_x2 ms,
+        thin_film_solver_Terms terms) {
+    return thin_film_matrix_mat_mul_2x2(ms, thin_film_solver_layer_s(terms));
+}
+
+// mp = mat_mul_2x2(mp, m_layer_p)
+static thin_film_complex_Complex_x2_x2 thin_film_solver_step_p(thin_film_complex_Complex_x2_x2 mp,
+        thin_film_solver_Terms terms) {
+    return thin_film_matrix_mat_mul_2x2(mp, thin_film_solver_layer_p(terms));
+}
+
+// [B; C] = M * [1; eta], and what follows from them. eta0 is the incident admittance, eta the
+// substrate's.
+static thin_film_solver_Polarized thin_film_solver_solve(thin_film_complex_Complex_x2_x2 m,
+        thin_film_complex_Complex eta0, thin_film_complex_Complex eta) {
+    thin_film_complex_Complex m11 = m.at[0].at[0];
+    thin_film_complex_Complex m12 = m.at[0].at[1];
+    thin_film_complex_Complex m21 = m.at[1].at[0];
+    thin_film_complex_Complex m22 = m.at[1].at[1];
+    thin_film_complex_Complex b = thin_film_complex_Complex_add(m11, thin_film_complex_Complex_mul(m12, eta));
+    thin_film_complex_Complex c = thin_film_complex_Complex_add(m21, thin_film_complex_Complex_mul(m22, eta));
+    thin_film_complex_Complex num = thin_film_complex_Complex_sub(thin_film_complex_Complex_mul(eta0, b), c);
+    thin_film_complex_Complex den = thin_film_complex_Complex_add(thin_film_complex_Complex_mul(eta0, b), c);
+    thin_film_complex_Complex r = thin_film_complex_Complex_div(num, den);
+    thin_film_complex_Complex t = thin_film_complex_Complex_div(thin_film_complex_Complex_scale(eta0, 2.0), den);
+    return (thin_film_solver_Polarized){.r = r, .t = t,
+            .reflectance = ieee_clamp(thin_film_complex_Complex_norm_sq(r), 0.0, 1.0),
+            .transmittance = ieee_clamp(eta.re / eta0.re * thin_film_complex_Complex_norm_sq(t), 0.0, 1.0),
+            .phase = thin_film_complex_Complex_arg(r)};
+}
+
+// cos(theta) in the substrate: beyond a sine of 1 there is total internal reflection.
+static thin_film_complex_Complex thin_film_solver_cos_theta_sub(double sin_theta_sub) {
+    if (ieee_abs(sin_theta_sub) <= 1.0) {
+        return thin_film_complex_Complex_real(math_sqrt_sqrt(ieee_max(1.0 - sin_theta_sub * sin_theta_sub, 0.0)));
+    }
+    return thin_film_complex_Complex_new(0.0, -math_sqrt_sqrt(sin_theta_sub * sin_theta_sub - 1.0));
+}
+
+// What is neither reflected nor transmitted.
+static double thin_film_solver_absorptance(double reflectance, double transmittance) {
+    return ieee_clamp(1.0 - reflectance - transmittance, 0.0, 1.0);
+}
+
+// The one maker of a response, from the answers for s and for p.
+static thin_film_solver_CoatingResponse thin_film_solver_respond(thin_film_solver_Polarized s,
+        thin_film_solver_Polarized p) {
+    thin_film_complex_Complex rs = s.r;
+    thin_film_complex_Complex rp = p.r;
+    thin_film_complex_Complex ts = s.t;
+    thin_film_complex_Complex tp = p.t;
+    return (thin_film_solver_CoatingResponse){.rs = rs, .rp = rp, .ts = ts, .tp = tp, .reflectance_s = s.reflectance,
+            .reflectance_p = p.reflectance, .transmittance_s = s.transmittance, .transmittance_p = p.transmittance,
+            .phase_rs_rad = s.phase, .phase_rp_rad = p.phase,
+            .absorptance_s = thin_film_solver_absorptance(s.reflectance, s.transmittance),
+            .absorptance_p = thin_film_solver_absorptance(p.reflectance, p.transmittance)};
+}
+
+// The response, from the products of all the layers' matrices.
+static thin_film_solver_CoatingResponse thin_film_solver_finish(thin_film_solver_Incidence light,
+        thin_film_complex_Complex_x2_x2 ms, thin_film_complex_Complex_x2_x2 mp) {
+    thin_film_complex_Complex cos = thin_film_solver_cos_theta_sub(light.snell / light.n_substrate);
+    thin_film_complex_Complex n_sub = thin_film_complex_Complex_real(light.n_substrate);
+    thin_film_complex_Complex eta0_s = thin_film_complex_Complex_real(light.n_incident * light.cos_theta0);
+    thin_film_complex_Complex eta0_p = thin_film_complex_Complex_real(light.n_incident / ieee_max(light.cos_theta0,
+            1e-12));
+    thin_film_solver_Polarized s = thin_film_solver_solve(ms, eta0_s, thin_film_complex_Complex_mul(n_sub, cos));
+    thin_film_solver_Polarized p = thin_film_solver_solve(mp, eta0_p, thin_film_complex_Complex_div(n_sub, cos));
+    return thin_film_solver_respond(s, p);
+}
+
+// Where there is no response: zero throughout.
+static thin_film_solver_CoatingResponse thin_film_solver_no_response(void) {
+    thin_film_complex_Complex zero = thin_film_complex_Complex_zero();
+    return (thin_film_solver_CoatingResponse){.rs = zero, .rp = zero, .ts = zero, .tp = zero, .reflectance_s = 0.0,
+            .reflectance_p = 0.0, .transmittance_s = 0.0, .transmittance_p = 0.0, .phase_rs_rad = 0.0,
+            .phase_rp_rad = 0.0, .absorptance_s = 0.0, .absorptance_p = 0.0};
+}
+
+// ==== polarization_mueller
+//
+// Jones and Mueller matrices, as polarization.rs has them: flat arrays, one row after the other.
+
+// E' = J E
+static polarization_stokes_JonesVector polarization_mueller_JonesMatrix_apply(polarization_mueller_JonesMatrix self,
+        polarization_stokes_JonesVector v) {
+    thin_film_complex_Complex_x4 m = self.m;
+    thin_film_complex_Complex x = v.ex;
+    thin_film_complex_Complex y = v.ey;
+    return (polarization_stokes_JonesVector){.ex = thin_film_matrix_dot(m.at[0], x, m.at[1], y),
+            .ey = thin_film_matrix_dot(m.at[2], x, m.at[3], y)};
+}
+
+// The response to a state, as a Stokes vector.
+static polarization_stokes_StokesVector polarization_mueller_response(polarization_mueller_JonesMatrix j,
+        polarization_stokes_JonesVector v) {
+    return polarization_stokes_JonesVector_to_stokes(polarization_mueller_JonesMatrix_apply(j, v));
+}
+
+// A Mueller matrix by its columns, from the responses to four states.
+static polarization_mueller_MuellerMatrix polarization_mueller_columns(polarization_stokes_StokesVector h,
+        polarization_stokes_StokesVector v, polarization_stokes_StokesVector p45,
+        polarization_stokes_StokesVector rcp) {
+    double m00 = 0.5 * (h.s0 + v.s0);
+    double m10 = 0.5 * (h.s1 + v.s1);
+    double m20 = 0.5 * (h.s2 + v.s2);
+    double m30 = 0.5 * (h.s3 + v.s3);
+    double m01 = 0.5 * (h.s0 - v.s0);
+    double m11 = 0.5 * (h.s1 - v.s1);
+    double m21 = 0.5 * (h.s2 - v.s2);
+    double m31 = 0.5 * (h.s3 - v.s3);
+    double m02 = p45.s0 - m00;
+    double m12 = p45.s1 - m10;
+    double m22 = p45.s2 - m20;
+    double m32 = p45.s3 - m30;
+    double m03 = rcp.s0 - m00;
+    double m13 = rcp.s1 - m10;
+    double m23 = rcp.s2 - m20;
+    double m33 = rcp.s3 - m30;
+    return (polarization_mueller_MuellerMatrix){
+            .m = {{m00, m01, m02, m03, m10, m11, m12, m13, m20, m21, m22, m23, m30, m31, m32, m33}}};
+}
+
+// Diagonal: the amplitudes of the two polarizations.
+static polarization_mueller_JonesMatrix polarization_mueller_JonesMatrix_diattenuator(thin_film_complex_Complex tx,
+        thin_film_complex_Complex ty) {
+    thin_film_complex_Complex zero = thin_film_complex_Complex_zero();
+    return (polarization_mueller_JonesMatrix){.m = {{tx, zero, zero, ty}}};
+}
+
+// Its columns come from four states; the fourth is the response to circular_right.
+static polarization_mueller_MuellerMatrix polarization_mueller_JonesMatrix_to_mueller(
+        polarization_mueller_JonesMatrix self) {
+    polarization_stokes_StokesVector h = polarization_mueller_response(self,
+            polarization_stokes_JonesVector_linear_horizontal());
+    polarization_stokes_StokesVector v = polarization_mueller_response(self,
+            polarization_stokes_JonesVector_linear_vertical());
+    polarization_stokes_StokesVector p45 = polarization_mueller_response(self,
+            polarization_stokes_JonesVector_linear_45());
+    polarization_stokes_StokesVector rcp = polarization_mueller_response(self,
+            polarization_stokes_JonesVector_circular_right());
+    return polarization_mueller_columns(h, v, p45, rcp);
+}
+
+// ==== polarization_born_wolf
+//
+// The Mueller matrix of a Jones matrix over Stokes vectors with S3 = 2·Im(Ex*·Ey), as Born and Wolf have them
+// (document 02, slip 8). `to_mueller` of polarization_mueller is the Rust's.
+
+// The Stokes vector of the beam that (ex, ey) becomes.
+static polarization_stokes_StokesVector polarization_born_wolf_transformed(polarization_mueller_JonesMatrix j,
+        thin_film_complex_Complex ex, thin_film_complex_Complex ey) {
+    return polarization_stokes_JonesVector_to_stokes(polarization_mueller_JonesMatrix_apply(j,
+            polarization_stokes_JonesVector_new(ex, ey)));
+}
+
+// A Mueller matrix from what the beams (1, 0), (0, 1), (1, 1), (1, -1), (1, i) and (1, -i) become.
+static polarization_mueller_MuellerMatrix polarization_born_wolf_from_six(polarization_stokes_StokesVector x,
+        polarization_stokes_StokesVector y, polarization_stokes_StokesVector plus,
+        polarization_stokes_StokesVector minus, polarization_stokes_StokesVector plus_i,
+        polarization_stokes_StokesVector minus_i) {
+    return (polarization_mueller_MuellerMatrix){
+            .m = {{0.5 * (x.s0 + y.s0), 0.5 * (x.s0 - y.s0), 0.25 * (plus.s0 - minus.s0),
+            0.25 * (plus_i.s0 - minus_i.s0), 0.5 * (x.s1 + y.s1), 0.5 * (x.s1 - y.s1), 0.25 * (plus.s1 - minus.s1),
+            0.25 * (plus_i.s1 - minus_i.s1), 0.5 * (x.s2 + y.s2), 0.5 * (x.s2 - y.s2), 0.25 * (plus.s2 - minus.s2),
+            0.25 * (plus_i.s2 - minus_i.s2), 0.5 * (x.s3 + y.s3), 0.5 * (x.s3 - y.s3), 0.25 * (plus.s3 - minus.s3),
+            0.25 * (plus_i.s3 - minus_i.s3)}}};
+}
+
+static polarization_mueller_MuellerMatrix polarization_born_wolf_to_mueller_born_wolf(
+        polarization_mueller_JonesMatrix j) {
+    thin_film_complex_Complex zero = thin_film_complex_Complex_zero();
+    thin_film_complex_Complex one = thin_film_complex_Complex_new(1.0, 0.0);
+    return polarization_born_wolf_from_six(polarization_born_wolf_transformed(j, one, zero),
+            polarization_born_wolf_transformed(j, zero, one), polarization_born_wolf_transformed(j, one, one),
+            polarization_born_wolf_transformed(j, one, thin_film_complex_Complex_new(-1.0, 0.0)),
+            polarization_born_wolf_transformed(j, one, thin_film_complex_Complex_new(0.0, 1.0)),
+            polarization_born_wolf_transformed(j, one, thin_film_complex_Complex_new(0.0, -1.0)));
+}
+
+// ==== thin_film_valid
+//
+// What an evaluation asks and answers before any layer is read: the tests of its numbers, and the
+// responses of the ideal coatings.
+
+// The seven tests of evaluate: what fails one is InvalidParameter.
+static bool thin_film_valid_valid(double n_incident, double n_substrate, double angle_incident_rad,
+        double wavelength_nm) {
+    if (!ieee_finite_positive(n_incident)) {
+        return false;
+    }
+    if (!ieee_finite_positive(n_substrate)) {
+        return false;
+    }
+    return ieee_is_finite(angle_incident_rad) && ieee_finite_positive(wavelength_nm);
+}
+
+static thin_film_solver_CoatingResponse thin_film_valid_ideal_ar(void) {
+    thin_film_solver_Polarized clear = {.r = thin_film_complex_Complex_zero(),
+            .t = thin_film_complex_Complex_real(1.0), .reflectance = 0.0, .transmittance = 1.0, .phase = 0.0};
+    return thin_film_solver_respond(clear, clear);
+}
+
+// r and its phase, and nothing transmitted.
+static thin_film_solver_Polarized thin_film_valid_mirrored(double r, double phase) {
+    return (thin_film_solver_Polarized){.r = thin_film_complex_Complex_real(r), .t = thin_film_complex_Complex_zero(),
+            .reflectance = 1.0, .transmittance = 0.0, .phase = phase};
+}
+
+static thin_film_solver_CoatingResponse thin_film_valid_ideal_mirror(void) {
+    thin_film_solver_Polarized s = thin_film_valid_mirrored(-1.0, 3.141592653589793);
+    thin_film_solver_Polarized p = thin_film_valid_mirrored(1.0, 0.0);
+    return thin_film_solver_respond(s, p);
+}
+
+static thin_film_solver_CoatingResponse thin_film_valid_ideal_beamsplitter(void) {
+    thin_film_complex_Complex amp = thin_film_complex_Complex_real(math_sqrt_sqrt(0.5));
+    thin_film_solver_Polarized halved = {.r = amp, .t = amp, .reflectance = 0.5, .transmittance = 0.5, .phase = 0.0};
+    return thin_film_solver_respond(halved, halved);
+}
+
+// ==== thin_film_layers
+//
+// An evaluation before and while its layers are read: which are, and from which end; and the loop over
+// the caller's own list of them.
+
+// The index of the i-th layer that is read, of n.
+static uint64_t thin_film_layers_nth_index(bool reversed, uint64_t n, uint64_t i) {
+    if (reversed) {
+        if (i < n) {
+            return n - 1 - i;
+        }
+        return 0;
+    }
+    return i;
+}
+
+// ==== polarization
+//
+// The Jones matrices of a surface, coated or bare, as polarization.rs has them.
+
+static polarization_SurfaceJones polarization_surface_coating_jones(thin_film_solver_CoatingResponse coating) {
+    thin_film_complex_Complex rs = coating.rs;
+    thin_film_complex_Complex rp = coating.rp;
+    thin_film_complex_Complex ts = coating.ts;
+    thin_film_complex_Complex tp = coating.tp;
+    polarization_mueller_JonesMatrix reflection = polarization_mueller_JonesMatrix_diattenuator(rs, rp);
+    polarization_mueller_JonesMatrix transmission = polarization_mueller_JonesMatrix_diattenuator(ts, tp);
+    return (polarization_SurfaceJones){.reflection = reflection, .transmission = transmission};
+}
+
+// The five tests of surface_fresnel_jones: what fails one is InvalidParameter.
+static bool polarization_indices_valid(double n1, double n2, double angle_i_rad) {
+    if (!ieee_finite_positive(n1)) {
+        return false;
+    }
+    return ieee_finite_positive(n2) && ieee_is_finite(angle_i_rad);
+}
+
+// sqrt(sin_i^2 - (n2 / n1)^2)
+static double polarization_excess(double n1, double n2, double sin_i) {
+    return math_sqrt_sqrt(sin_i * sin_i - ieee_powi2(n2 / n1));
+}
+
+// cos + i sin of a phase.
+static thin_film_complex_Complex polarization_phase_factor(double phase) {
+    math_trig_SinCos p = math_trig_sin_cos(phase);
+    return thin_film_complex_Complex_new(p.cos, p.sin);
+}
+
+// rs and rp have magnitude 1 and a phase; nothing is transmitted.
+static polarization_SurfaceJones polarization_totally_reflected(double n1, double n2, double sin_i, double cos_i) {
+    double excess = polarization_excess(n1, n2, sin_i);
+    double rs_phase = -2.0 * math_atan_atan(excess / cos_i);
+    double rp_phase = -2.0 * math_atan_atan(ieee_powi2(n1 / n2) * excess / cos_i);
+    polarization_mueller_JonesMatrix reflection = polarization_mueller_JonesMatrix_diattenuator(
+            polarization_phase_factor(rs_phase), polarization_phase_factor(rp_phase));
+    polarization_mueller_JonesMatrix transmission = polarization_mueller_JonesMatrix_diattenuator(
+            thin_film_complex_Complex_zero(), thin_film_complex_Complex_zero());
+    return (polarization_SurfaceJones){.reflection = reflection, .transmission = transmission};
+}
+
+// The refracted ray's cosine.
+static double polarization_cos_t(double sin_t) {
+    return math_sqrt_sqrt(ieee_max(1.0 - sin_t * sin_t, 0.0));
+}
+
+// A real diagonal matrix.
+static polarization_mueller_JonesMatrix polarization_real_diattenuator(double tx, double ty) {
+    return polarization_mueller_JonesMatrix_diattenuator(thin_film_complex_Complex_real(tx),
+            thin_film_complex_Complex_real(ty));
+}
+
+static polarization_SurfaceJones polarization_refracted(double n1, double n2, double cos_i, double cos_t) {
+    double rs = (n1 * cos_i - n2 * cos_t) / (n1 * cos_i + n2 * cos_t);
+    double rp = (n2 * cos_i - n1 * cos_t) / (n2 * cos_i + n1 * cos_t);
+    double ts = 2.0 * n1 * cos_i / (n1 * cos_i + n2 * cos_t);
+    double tp = 2.0 * n1 * cos_i / (n2 * cos_i + n1 * cos_t);
+    polarization_mueller_JonesMatrix reflection = polarization_real_diattenuator(rs, rp);
+    polarization_mueller_JonesMatrix transmission = polarization_real_diattenuator(ts, tp);
+    return (polarization_SurfaceJones){.reflection = reflection, .transmission = transmission};
+}
+
+// Total internal reflection where the refracted sine is above 1 in size, not at 1.
+static polarization_SurfaceJones polarization_bare(double n1, double n2, double sin_i, double cos_i) {
+    double sin_t = n1 * sin_i / n2;
+    if (1.0 < ieee_abs(sin_t)) {
+        return polarization_totally_reflected(n1, n2, sin_i, cos_i);
+    }
+    return polarization_refracted(n1, n2, cos_i, polarization_cos_t(sin_t));
+}
+
+// The matrices of a bare dielectric surface. Indices that are not finite and above zero, and an angle
+// that is not finite, are refused with 1.
+static polarization_FresnelJones polarization_surface_fresnel_jones(double n1, double n2, double angle_i_rad) {
+    if (!polarization_indices_valid(n1, n2, angle_i_rad)) {
+        polarization_mueller_JonesMatrix dark = polarization_mueller_JonesMatrix_diattenuator(
+                thin_film_complex_Complex_zero(), thin_film_complex_Complex_zero());
+        return (polarization_FresnelJones){.refusal = 1, .matrices = {.reflection = dark, .transmission = dark}};
+    }
+    math_trig_SinCos i = math_trig_sin_cos(angle_i_rad);
+    polarization_SurfaceJones matrices = polarization_bare(n1, n2, i.sin, i.cos);
+    return (polarization_FresnelJones){.refusal = 0, .matrices = matrices};
+}
+
+// ==== thin_film_presets
+//
+// The layers of the preset coatings by index, and 64 places that hold none.
+
+// No layer in any place.
+static thin_film_solver_ThinFilmLayer_x64 thin_film_presets_no_layers(void) {
+    return (thin_film_solver_ThinFilmLayer_x64){{{0}}};
+}
+
+// A lossless layer, a quarter of the design wavelength thick.
+static thin_film_solver_ThinFilmLayer thin_film_presets_quarter_wave(double n, double design_wavelength_nm) {
+    return thin_film_solver_ThinFilmLayer_dielectric(n, design_wavelength_nm / (4.0 * n));
+}
+
+// The four layers of the broadband coating, from the incident medium to the substrate: SiO2, TiO2,
+// SiO2, TiO2.
+static thin_film_solver_ThinFilmLayer_x4 thin_film_presets_broadband(void) {
+    return (thin_film_solver_ThinFilmLayer_x4){{thin_film_solver_ThinFilmLayer_dielectric(1.46, 88.0),
+            thin_film_solver_ThinFilmLayer_dielectric(2.3, 112.0),
+            thin_film_solver_ThinFilmLayer_dielectric(1.46, 32.0),
+            thin_film_solver_ThinFilmLayer_dielectric(2.3, 15.0)}};
+}
+
+// ==== thin_film_coating
+//
+// A coating of thin_film.rs beside a list of its layers: how it is built, and its response at a
+// wavelength and an angle of incidence.
+
+// An evaluation whose response needs no layer beside the coating.
+static thin_film_layers_Prepared thin_film_coating_answered(thin_film_solver_CoatingResponse response) {
+    return (thin_film_layers_Prepared){.tag = thin_film_layers_Prepared_Answered,
+            .as.Answered = {.tag = thin_film_layers_Evaluation_Response, .as.Response = response}};
+}
+
+// The one place that says which layers an evaluation reads, from which end, and what is refused:
+// Coating::evaluate, up to the layers beside the coating, of which there are count.
+static thin_film_layers_Prepared thin_film_coating_prepare(thin_film_coating_Coating coating, bool reversed,
+        uint64_t count, double n_incident, double n_substrate, double angle_incident_rad, double wavelength_nm) {
+    if (!thin_film_valid_valid(n_incident, n_substrate, angle_incident_rad, wavelength_nm)) {
+        return (thin_film_layers_Prepared){.tag = thin_film_layers_Prepared_Answered,
+                .as.Answered = {.tag = thin_film_layers_Evaluation_Refused, .as.Refused = {.number = 1, .place = 0}}};
+    }
+    switch (coating) {
+    case thin_film_coating_Coating_IdealAr:
+        return thin_film_coating_answered(thin_film_valid_ideal_ar());
+    case thin_film_coating_Coating_IdealMirror:
+        return thin_film_coating_answered(thin_film_valid_ideal_mirror());
+    case thin_film_coating_Coating_IdealBeamsplitter:
+        return thin_film_coating_answered(thin_film_valid_ideal_beamsplitter());
+    default: // thin_film_coating_Coating_Multilayer
+    {
+        if (64 < count) {
+            return (thin_film_layers_Prepared){.tag = thin_film_layers_Prepared_Answered,
+                    .as.Answered = {.tag = thin_film_layers_Evaluation_Refused,
+                    .as.Refused = {.number = 3, .place = 0}}};
+        }
+        thin_film_solver_Incidence light = thin_film_solver_Incidence_new(n_incident, n_substrate, angle_incident_rad,
+                wavelength_nm);
+        return (thin_film_layers_Prepared){.tag = thin_film_layers_Prepared_Layers, .as.Layers.reversed = reversed,
+                .as.Layers.light = light};
+    }
+    }
+}
+
+// ==== thin_film
+//
+// Optical coatings of thin_film.rs as they are ordered: what they are made of, and their response at a
+// wavelength and an angle of incidence. A list of layers stands beside the enum that speaks of it.
+
+// The response with one layer.
+static thin_film_solver_CoatingResponse thin_film_presets_solve_one(thin_film_solver_Incidence light,
+        thin_film_solver_ThinFilmLayer layer) {
+    thin_film_complex_Complex_x2_x2 one = thin_film_matrix_identity();
+    thin_film_solver_Terms terms = thin_film_solver_terms_of(light, layer);
+    thin_film_complex_Complex_x2_x2 ms = thin_film_solver_step_s(one, terms);
+    thin_film_complex_Complex_x2_x2 mp = thin_film_solver_step_p(one, terms);
+    return thin_film_solver_finish(light, ms, mp);
+}
+
+// The response with four layers, one after the other.
+static thin_film_solver_CoatingResponse thin_film_presets_solve_four(thin_film_solver_Incidence light,
+        thin_film_solver_ThinFilmLayer a, thin_film_solver_ThinFilmLayer b, thin_film_solver_ThinFilmLayer c,
+        thin_film_solver_ThinFilmLayer d) {
+    thin_film_complex_Complex_x2_x2 one = thin_film_matrix_identity();
+    thin_film_solver_Terms a_terms = thin_film_solver_terms_of(light, a);
+    thin_film_solver_Terms b_terms = thin_film_solver_terms_of(light, b);
+    thin_film_solver_Terms c_terms = thin_film_solver_terms_of(light, c);
+    thin_film_solver_Terms d_terms = thin_film_solver_terms_of(light, d);
+    thin_film_complex_Complex_x2_x2 s1 = thin_film_solver_step_s(one, a_terms);
+    thin_film_complex_Complex_x2_x2 s2 = thin_film_solver_step_s(s1, b_terms);
+    thin_film_complex_Complex_x2_x2 s3 = thin_film_solver_step_s(s2, c_terms);
+    thin_film_complex_Complex_x2_x2 s4 = thin_film_solver_step_s(s3, d_terms);
+    thin_film_complex_Complex_x2_x2 p1 = thin_film_solver_step_p(one, a_terms);
+    thin_film_complex_Complex_x2_x2 p2 = thin_film_solver_step_p(p1, b_terms);
+    thin_film_complex_Complex_x2_x2 p3 = thin_film_solver_step_p(p2, c_terms);
+    thin_film_complex_Complex_x2_x2 p4 = thin_film_solver_step_p(p3, d_terms);
+    return thin_film_solver_finish(light, s4, p4);
+}
+
+// The response of the broadband coating, in its order or reversed.
+static thin_film_solver_CoatingResponse thin_film_presets_solve_broadband(thin_film_solver_Incidence light,
+        bool reversed) {
+    thin_film_solver_ThinFilmLayer_x4 b = thin_film_presets_broadband();
+    if (reversed) {
+        return thin_film_presets_solve_four(light, b.at[3], b.at[2], b.at[1], b.at[0]);
+    }
+    return thin_film_presets_solve_four(light, b.at[0], b.at[1], b.at[2], b.at[3]);
+}
+
+// The response of the mirror, (H L)^7 H: two films, each worked out once. It is the same reversed.
+static thin_film_solver_CoatingResponse thin_film_presets_solve_mirror(thin_film_solver_Incidence light) {
+    thin_film_complex_Complex_x2_x2 one = thin_film_matrix_identity();
+    thin_film_solver_Terms high = thin_film_solver_terms_of(light, thin_film_presets_quarter_wave(2.3, 550.0));
+    thin_film_solver_Terms low = thin_film_solver_terms_of(light, thin_film_presets_quarter_wave(1.46, 550.0));
+    thin_film_complex_Complex_x2_x2 high_s = thin_film_solver_layer_s(high);
+    thin_film_complex_Complex_x2_x2 high_p = thin_film_solver_layer_p(high);
+    thin_film_complex_Complex_x2_x2 low_s = thin_film_solver_layer_s(low);
+    thin_film_complex_Complex_x2_x2 low_p = thin_film_solver_layer_p(low);
+    thin_film_complex_Complex_x2_x2 ms = thin_film_matrix_mat_mul_2x2(one, high_s);
+    thin_film_complex_Complex_x2_x2 mp = thin_film_matrix_mat_mul_2x2(one, high_p);
+    uint64_t i = 0;
+    while (i < 7) {
+        thin_film_complex_Complex_x2_x2 after_low_s = thin_film_matrix_mat_mul_2x2(ms, low_s);
+        thin_film_complex_Complex_x2_x2 after_low_p = thin_film_matrix_mat_mul_2x2(mp, low_p);
+        thin_film_complex_Complex_x2_x2 after_high_s = thin_film_matrix_mat_mul_2x2(after_low_s, high_s);
+        thin_film_complex_Complex_x2_x2 after_high_p = thin_film_matrix_mat_mul_2x2(after_low_p, high_p);
+        ms = after_high_s;
+        mp = after_high_p;
+        i = i + 1;
+    }
+    return thin_film_solver_finish(light, ms, mp);
+}
+
+// to_coating, without the layers.
+static thin_film_coating_Coating thin_film_reading_coating_of(thin_film_SurfaceCoating coating) {
+    switch (coating.tag) {
+    case thin_film_SurfaceCoating_IdealAr:
+        return thin_film_coating_Coating_IdealAr;
+    case thin_film_SurfaceCoating_MgF2:
+    case thin_film_SurfaceCoating_BroadbandAr:
+    case thin_film_SurfaceCoating_HighReflectanceMirror:
+        return thin_film_coating_Coating_Multilayer;
+    default: // thin_film_SurfaceCoating_Custom
+    {
+        thin_film_coating_Coating c = coating.as.Custom;
+        return c;
+    }
+    }
+}
+
+// How many of the count layers beside a coating are its own: a preset has none there.
+static uint64_t thin_film_reading_count_beside(thin_film_SurfaceCoating coating, uint64_t count) {
+    switch (coating.tag) {
+    case thin_film_SurfaceCoating_IdealAr:
+        return count;
+    case thin_film_SurfaceCoating_MgF2:
+    case thin_film_SurfaceCoating_BroadbandAr:
+    case thin_film_SurfaceCoating_HighReflectanceMirror:
+        return 0;
+    default: // thin_film_SurfaceCoating_Custom
+        return count;
+    }
+}
+
+// A preset coating is answered from its own layers, in the order that is prepared.
+static thin_film_layers_Prepared thin_film_reading_with_own_layers(thin_film_SurfaceCoating coating,
+        thin_film_layers_Prepared prepared) {
+    if (prepared.tag == thin_film_layers_Prepared_Answered) {
+        return prepared;
+    }
+    bool reversed = prepared.as.Layers.reversed;
+    thin_film_solver_Incidence light = prepared.as.Layers.light;
+    switch (coating.tag) {
+    case thin_film_SurfaceCoating_MgF2:
+    {
+        double design_wavelength_nm = coating.as.MgF2;
+        return thin_film_coating_answered(thin_film_presets_solve_one(light,
+                thin_film_presets_quarter_wave(1.38, design_wavelength_nm)));
+    }
+    case thin_film_SurfaceCoating_BroadbandAr:
+        return thin_film_coating_answered(thin_film_presets_solve_broadband(light, reversed));
+    case thin_film_SurfaceCoating_HighReflectanceMirror:
+        return thin_film_coating_answered(thin_film_presets_solve_mirror(light));
+    case thin_film_SurfaceCoating_IdealAr:
+        return prepared;
+    default: // thin_film_SurfaceCoating_Custom
+        return prepared;
+    }
+}
+
+// The layers beside the coating are those of Custom(Multilayer): there are count of them, and they
+// are reversed where light goes from the denser medium to the rarer one.
+static thin_film_layers_Prepared thin_film_reading_prepare_surface(thin_film_SurfaceCoating coating, uint64_t count,
+        double n_incident, double n_substrate, double angle_incident_rad, double wavelength_nm) {
+    return thin_film_reading_with_own_layers(coating,
+            thin_film_coating_prepare(thin_film_reading_coating_of(coating), n_substrate < n_incident,
+            thin_film_reading_count_beside(coating, count), n_incident, n_substrate, angle_incident_rad,
+            wavelength_nm));
+}
+
+// ==== thin_film_shorthand
+//
+// The stack shorthand of coating makers: (HL)^7 H is fifteen quarter waves.
+
+// The indices and the design wavelength are positive and finite.
+static bool thin_film_shorthand_valid(double n_h, double n_l, double n_m, double design_wavelength_nm) {
+    if (!ieee_finite_positive(n_h)) {
+        return false;
+    }
+    if (!ieee_finite_positive(n_l)) {
+        return false;
+    }
+    if (!ieee_finite_positive(n_m)) {
+        return false;
+    }
+    return ieee_finite_positive(design_wavelength_nm);
+}
+
+// The index of a letter.
+static double thin_film_shorthand_index(uint8_t letter, double n_h, double n_l, double n_m) {
+    if (letter == 0) {
+        return n_h;
+    }
+    if (letter == 1) {
+        return n_l;
+    }
+    return n_m;
+}
+
+// A quarter wave of a film's index, times its multiplier where one is written.
+static thin_film_solver_ThinFilmLayer thin_film_shorthand_layer(thin_film_grammar_Film film, double n_h, double n_l,
+        double n_m, double design_wavelength_nm) {
+    double n = thin_film_shorthand_index(film.letter, n_h, n_l, n_m);
+    thin_film_solver_ThinFilmLayer quarter = thin_film_presets_quarter_wave(n, design_wavelength_nm);
+    if (film.multiplier == 0) {
+        return quarter;
+    }
+    return thin_film_solver_ThinFilmLayer_dielectric(n, (double)film.multiplier * quarter.thickness_nm);
+}
+
+// The layers of the first count films.
+static thin_film_coating_Layers thin_film_shorthand_layers(thin_film_grammar_Film_x64 films, uint64_t count,
+        double n_h, double n_l, double n_m, double design_wavelength_nm) {
+    thin_film_solver_ThinFilmLayer_x64 items = thin_film_presets_no_layers();
+    uint64_t i = 0;
+    while (i < count) {
+        items.at[i] = thin_film_shorthand_layer(films.at[i], n_h, n_l, n_m, design_wavelength_nm);
+        i = i + 1;
+    }
+    return (thin_film_coating_Layers){.items = items, .count = count};
+}
+
+static thin_film_shorthand_Stacked thin_film_shorthand_refused(refusal_Refusal refusal) {
+    thin_film_solver_ThinFilmLayer_x64 items = thin_film_presets_no_layers();
+    return (thin_film_shorthand_Stacked){.refusal = refusal, .layers = {.items = items, .count = 0}};
+}
+
+// The layers that a text stands for: H, L and M are quarter waves of three indices at the design
+// wavelength. 1 for an index or a wavelength that is not positive and finite; 9 with the first byte
+// that no text of the grammar could have there, with the length where the text stops early, and with
+// 255 for a text over 255 bytes; 10 for more than 64 layers.
+static thin_film_shorthand_Stacked thin_film_shorthand_stack(slice_u8 text, double n_h, double n_l, double n_m,
+        double design_wavelength_nm) {
+    if (!thin_film_shorthand_valid(n_h, n_l, n_m, design_wavelength_nm)) {
+        return thin_film_shorthand_refused((refusal_Refusal){.number = 1, .place = 0});
+    }
+    thin_film_reader_Reading reading = thin_film_reader_read(text);
+    refusal_Refusal refusal = reading.refusal;
+    if (refusal.number != 0) {
+        return thin_film_shorthand_refused(refusal);
+    }
+    thin_film_grammar_Film_x64 films = reading.films;
+    uint64_t count = reading.count;
+    return (thin_film_shorthand_Stacked){.refusal = refusal,
+            .layers = thin_film_shorthand_layers(films, count, n_h, n_l, n_m, design_wavelength_nm)};
+}
+
+// ==== gate_limits
+//
+// One surface of a train: its coating by code, and the limits of document 01's section 3.
+
+// From a code to a coating. Code 5 is made of layers of its own.
+static gate_limits_Interface gate_limits_coded(uint32_t code, double design_wavelength_nm) {
+    if (code == 1) {
+        return (gate_limits_Interface){.tag = gate_limits_Interface_Coated,
+                .as.Coated = {.tag = thin_film_SurfaceCoating_IdealAr}};
+    }
+    if (code == 2) {
+        return (gate_limits_Interface){.tag = gate_limits_Interface_Coated,
+                .as.Coated = {.tag = thin_film_SurfaceCoating_MgF2, .as.MgF2 = design_wavelength_nm}};
+    }
+    if (code == 3) {
+        return (gate_limits_Interface){.tag = gate_limits_Interface_Coated,
+                .as.Coated = {.tag = thin_film_SurfaceCoating_BroadbandAr}};
+    }
+    if (code == 4) {
+        return (gate_limits_Interface){.tag = gate_limits_Interface_Coated,
+                .as.Coated = {.tag = thin_film_SurfaceCoating_HighReflectanceMirror}};
+    }
+    if (code == 5) {
+        return (gate_limits_Interface){.tag = gate_limits_Interface_Coated,
+                .as.Coated = {.tag = thin_film_SurfaceCoating_Custom,
+                .as.Custom = thin_film_coating_Coating_Multilayer}};
+    }
+    if (code == 6) {
+        return (gate_limits_Interface){.tag = gate_limits_Interface_Coated,
+                .as.Coated = {.tag = thin_film_SurfaceCoating_Custom,
+                .as.Custom = thin_film_coating_Coating_IdealBeamsplitter}};
+    }
+    if (code == 7) {
+        return (gate_limits_Interface){.tag = gate_limits_Interface_Coated,
+                .as.Coated = {.tag = thin_film_SurfaceCoating_Custom,
+                .as.Custom = thin_film_coating_Coating_IdealMirror}};
+    }
+    return (gate_limits_Interface){.tag = gate_limits_Interface_Bare};
+}
+
+// Of a sheet, whose MgF2 is at 550 nm.
+static gate_limits_Interface gate_limits_interface_of(uint32_t code) {
+    return gate_limits_coded(code, 550.0);
+}
+
+static bool gate_limits_within(double lo, double hi, double x) {
+    return lo <= x && x <= hi;
+}
+
+// A wavelength: the BEAM's, a kind 7's or one that a train is given.
+static bool gate_limits_wavelength_passes(double wavelength_nm) {
+    return gate_limits_within(100.0, 10000.0, wavelength_nm);
+}
+
+// A BEAM: its wavelength, its s and its p power.
+static bool gate_limits_beam_passes(double wavelength_nm, double s, double p) {
+    return gate_limits_wavelength_passes(wavelength_nm) && gate_limits_within(0.0, 1.0, s)
+            && gate_limits_within(0.0, 1.0, p);
+}
+
+// A layer, for an n_incident * abs(sin) of snell.
+static bool gate_limits_layer_within(double snell, thin_film_solver_ThinFilmLayer layer) {
+    return gate_limits_within(1.0, 4.0, layer.n) && layer.k == 0.0
+            && gate_limits_within(0.0, 100000.0, layer.thickness_nm) && snell <= 0.875 * layer.n;
+}
+
+// The layers of a preset coating. All that can fail is n_incident * abs(sin), and it fails first at
+// the smallest index, MgF2's or SiO2's.
+static bool gate_limits_presets_within(double snell, uint32_t coating) {
+    if (coating == 2) {
+        return snell <= 0.875 * 1.38;
+    }
+    if (coating == 3) {
+        return snell <= 0.875 * 1.46;
+    }
+    if (coating == 4) {
+        return snell <= 0.875 * 1.46;
+    }
+    return true;
+}
+
+// The angle of a SURFACE, where it is finite, from n_incident * abs(sin) and its cosine.
+static bool gate_limits_angle_within(double snell, double cos, gate_limits_Surface surface) {
+    return 0.25 <= cos && snell <= 0.875 * surface.n_substrate && gate_limits_presets_within(snell, surface.coating);
+}
+
+// A SURFACE without its LAYERs, from n_incident * abs(sin) and the cosine of its angle; the layers of a
+// preset coating count as its own.
+static bool gate_limits_surface_within(double snell, double cos, gate_limits_Surface surface) {
+    return gate_limits_within(1.0, 4.0, surface.n_incident) && gate_limits_within(1.0, 4.0, surface.n_substrate)
+            && ieee_is_finite(surface.angle_rad) && gate_limits_angle_within(snell, cos, surface);
+}
+
+// One sine and one cosine for all of a surface's limits.
+static gate_limits_Judgement gate_limits_judge_surface(gate_limits_Surface surface) {
+    math_trig_SinCos theta = math_trig_sin_cos(surface.angle_rad);
+    double snell = surface.n_incident * ieee_abs(theta.sin);
+    return (gate_limits_Judgement){.passes = gate_limits_surface_within(snell, theta.cos, surface), .snell = snell};
+}
+
+// ==== quarter_waves
+//
+// Document 02, slip 11: the path n * thickness of a film in whole quarter waves, and what is over.
+
+// The limits of document 01's section 3, ends included: of a layer's index and thickness, and of a
+// wavelength.
+static bool quarter_waves_admitted(double n, double thickness_nm, double wavelength_nm) {
+    return gate_limits_within(1.0, 4.0, n) && gate_limits_within(0.0, 100000.0, thickness_nm)
+            && gate_limits_within(100.0, 10000.0, wavelength_nm);
+}
+
+// How often q goes into p, by halves: first how often 2q does, then whether once more. No operation
+// rounds: what is over is below 2q, so that q can be taken from it exactly.
+static quarter_waves_QuarterWaves quarter_waves_divided(double p, double q) {
+    if (p < q) {
+        return (quarter_waves_QuarterWaves){.count = 0, .remainder_nm = p};
+    }
+    quarter_waves_QuarterWaves pairs = quarter_waves_divided(p, q + q);
+    double over = pairs.remainder_nm;
+    if (over < q) {
+        return (quarter_waves_QuarterWaves){.count = 2 * pairs.count, .remainder_nm = over};
+    }
+    return (quarter_waves_QuarterWaves){.count = 2 * pairs.count + 1, .remainder_nm = over - q};
+}
+
+// n * thickness in quarters of the wavelength; 14 where one of the three is outside its limits.
+static quarter_waves_QuarterWavesReply quarter_waves_quarter_waves(double n, double thickness_nm,
+        double wavelength_nm) {
+    if (quarter_waves_admitted(n, thickness_nm, wavelength_nm)) {
+        double p = ieee_abs(n * thickness_nm);
+        return (quarter_waves_QuarterWavesReply){.tag = quarter_waves_QuarterWavesReply_Counted,
+                .as.Counted = quarter_waves_divided(p, wavelength_nm / 4.0)};
+    }
+    return (quarter_waves_QuarterWavesReply){.tag = quarter_waves_QuarterWavesReply_Refused,
+            .as.Refused = {.number = 14, .place = 0}};
+}
+
+// ==== c_layers
+//
+// SurfaceCoating::evaluate for a coating by its code, whose layers stand in a flat list: n, k, thickness
+// of one after the other.
+
+// The j-th layer.
+static thin_film_solver_ThinFilmLayer c_layers_layer_at(slice_f64 flat, uint64_t j) {
+    return (thin_film_solver_ThinFilmLayer){.n = flat.at[3 * j], .k = flat.at[3 * j + 1],
+            .thickness_nm = flat.at[3 * j + 2]};
+}
+
+// The response with every layer of the list, in its order or reversed.
+static thin_film_solver_CoatingResponse c_layers_solve(slice_f64 flat, bool reversed,
+        thin_film_solver_Incidence light) {
+    uint64_t n = flat.count / 3;
+    thin_film_complex_Complex_x2_x2 ms = thin_film_matrix_identity();
+    thin_film_complex_Complex_x2_x2 mp = thin_film_matrix_identity();
+    uint64_t i = 0;
+    while (i < n) {
+        uint64_t j = thin_film_layers_nth_index(reversed, n, i);
+        thin_film_solver_Terms terms = thin_film_solver_terms_of(light, c_layers_layer_at(flat, j));
+        thin_film_complex_Complex_x2_x2 next_s = thin_film_solver_step_s(ms, terms);
+        thin_film_complex_Complex_x2_x2 next_p = thin_film_solver_step_p(mp, terms);
+        ms = next_s;
+        mp = next_p;
+        i = i + 1;
+    }
+    return thin_film_solver_finish(light, ms, mp);
+}
+
+// A coating beside its layers.
+static thin_film_layers_Evaluation c_layers_evaluate_known(thin_film_SurfaceCoating coating, slice_f64 flat,
+        double n_incident, double n_substrate, double angle_incident_rad, double wavelength_nm) {
+    thin_film_layers_Prepared value = thin_film_reading_prepare_surface(coating, flat.count / 3, n_incident,
+            n_substrate, angle_incident_rad, wavelength_nm);
+    if (value.tag == thin_film_layers_Prepared_Answered) {
+        thin_film_layers_Evaluation answer = value.as.Answered;
+        return answer;
+    }
+    bool reversed = value.as.Layers.reversed;
+    thin_film_solver_Incidence light = value.as.Layers.light;
+    return (thin_film_layers_Evaluation){.tag = thin_film_layers_Evaluation_Response,
+            .as.Response = c_layers_solve(flat, reversed, light)};
+}
+
+// From a code to a coating: a sheet's codes, and 8 for Custom(IdealAr).
+static gate_limits_Interface c_layers_coating_of(uint32_t code, double design_wavelength_nm) {
+    if (code == 8) {
+        return (gate_limits_Interface){.tag = gate_limits_Interface_Coated,
+                .as.Coated = {.tag = thin_film_SurfaceCoating_Custom,
+                .as.Custom = thin_film_coating_Coating_IdealAr}};
+    }
+    return gate_limits_coded(code, design_wavelength_nm);
+}
+
+// The coating by its code, the layers in a flat list; 1 for a code that has no coating, and for a
+// list that is no multiple of 3.
+static thin_film_layers_Evaluation c_layers_evaluate(uint32_t code, double design_wavelength_nm, double n_incident,
+        double n_substrate, double angle_incident_rad, double wavelength_nm, slice_f64 flat) {
+    if (flat.count % 3 != 0) {
+        return (thin_film_layers_Evaluation){.tag = thin_film_layers_Evaluation_Refused,
+                .as.Refused = {.number = 1, .place = 0}};
+    }
+    gate_limits_Interface value = c_layers_coating_of(code, design_wavelength_nm);
+    if (value.tag == gate_limits_Interface_Coated) {
+        thin_film_SurfaceCoating coating = value.as.Coated;
+        return c_layers_evaluate_known(coating, flat, n_incident, n_substrate, angle_incident_rad, wavelength_nm);
+    }
+    return (thin_film_layers_Evaluation){.tag = thin_film_layers_Evaluation_Refused,
+            .as.Refused = {.number = 1, .place = 0}};
+}
+
+// ==== surface
+//
+// The answers of one surface of a train: document 01's section 7.
+
+static surface_Answers surface_assembled(bool coated, surface_Powers powers,
+        thin_film_solver_CoatingResponse response, polarization_SurfaceJones jones) {
+    polarization_mueller_JonesMatrix reflection = jones.reflection;
+    polarization_mueller_JonesMatrix transmission = jones.transmission;
+    polarization_mueller_MuellerMatrix reflection_mueller = polarization_mueller_JonesMatrix_to_mueller(reflection);
+    polarization_mueller_MuellerMatrix transmission_mueller = polarization_mueller_JonesMatrix_to_mueller(
+            transmission);
+    return (surface_Answers){.coated = coated, .powers = powers, .response = response, .reflection = reflection,
+            .transmission = transmission, .reflection_mueller = reflection_mueller,
+            .transmission_mueller = transmission_mueller};
+}
+
+// The powers of a coated surface, from its response.
+static surface_Powers surface_coated_powers(thin_film_solver_CoatingResponse response) {
+    return (surface_Powers){.reflectance_s = response.reflectance_s, .reflectance_p = response.reflectance_p,
+            .transmittance_s = response.transmittance_s, .transmittance_p = response.transmittance_p};
+}
+
+// The answers of a coated surface, from its response.
+static surface_Answers surface_coated_answers(thin_film_solver_CoatingResponse response) {
+    return surface_assembled(true, surface_coated_powers(response), response,
+            polarization_surface_coating_jones(response));
+}
+
+// The powers of a bare surface, whatever its code.
+static surface_Powers surface_bare_powers(gate_limits_Surface surface) {
+    fresnel_Reflectances r = fresnel_fresnel_dielectric(math_trig_cos(surface.angle_rad), surface.n_incident,
+            surface.n_substrate);
+    return (surface_Powers){.reflectance_s = r.rs, .reflectance_p = r.rp, .transmittance_s = 1.0 - r.rs,
+            .transmittance_p = 1.0 - r.rp};
+}
+
+// Zero throughout, beside a refusal.
+static surface_Answers surface_no_answers(void) {
+    polarization_mueller_JonesMatrix dark = polarization_mueller_JonesMatrix_diattenuator(
+            thin_film_complex_Complex_zero(), thin_film_complex_Complex_zero());
+    surface_Powers powers = {.reflectance_s = 0.0, .reflectance_p = 0.0, .transmittance_s = 0.0,
+            .transmittance_p = 0.0};
+    polarization_SurfaceJones jones = {.reflection = dark, .transmission = dark};
+    return surface_assembled(false, powers, thin_film_solver_no_response(), jones);
+}
+
+// A refusal's number, with no answers.
+static surface_AnswersReply surface_refused(uint32_t number) {
+    surface_Answers answers = surface_no_answers();
+    return (surface_AnswersReply){.refusal = number, .answers = answers};
+}
+
+// The answers of a bare surface, whatever its code.
+static surface_AnswersReply surface_bare_answers(gate_limits_Surface surface) {
+    polarization_FresnelJones jones = polarization_surface_fresnel_jones(surface.n_incident, surface.n_substrate,
+            surface.angle_rad);
+    if (jones.refusal == 0) {
+        polarization_SurfaceJones matrices = jones.matrices;
+        surface_Answers answers = surface_assembled(false, surface_bare_powers(surface),
+                thin_film_solver_no_response(), matrices);
+        return (surface_AnswersReply){.refusal = 0, .answers = answers};
+    }
+    return surface_refused(jones.refusal);
+}
+
+// ==== sheet_values
+//
+// The BEAM, the SURFACEs and the layers of a sheet as values: document 01, section 1, and document 02, slips 3 and 5.
+
+// The BEAM whose kind word is at a place; zero throughout past the last word.
+static sheet_values_Beam sheet_values_beam_at(slice_u8 src, uint64_t at) {
+    if (at < src.count / 4) {
+        return (sheet_values_Beam){.wavelength_nm = sheet_float_from(src, at + 1), .s = sheet_float_from(src, at + 3),
+                .p = sheet_float_from(src, at + 5)};
+    }
+    return (sheet_values_Beam){.wavelength_nm = 0.0, .s = 0.0, .p = 0.0};
+}
+
+// The BEAM of a sheet: it stands after OPEN.
+static sheet_values_Beam sheet_values_beam_of(slice_u8 src) {
+    return sheet_values_beam_at(src, sheet_next_place(src, 0));
+}
+
+// The SURFACE whose kind word is at a place; zero throughout past the last word.
+static gate_limits_Surface sheet_values_surface_at(slice_u8 src, uint64_t at) {
+    if (at < src.count / 4) {
+        uint32_t payload = sheet_word_from(src, at) % 0x10000000;
+        return (gate_limits_Surface){.reflected = payload % 2 == 1, .coating = payload / 2,
+                .n_incident = sheet_float_from(src, at + 1), .n_substrate = sheet_float_from(src, at + 3),
+                .angle_rad = sheet_float_from(src, at + 5)};
+    }
+    return (gate_limits_Surface){.reflected = false, .coating = 0, .n_incident = 0.0, .n_substrate = 0.0,
+            .angle_rad = 0.0};
+}
+
+// The LAYER whose kind word is at a place; zero throughout past the last word.
+static thin_film_solver_ThinFilmLayer sheet_values_plain_at(slice_u8 src, uint64_t at) {
+    if (at < src.count / 4) {
+        return (thin_film_solver_ThinFilmLayer){.n = sheet_float_from(src, at + 1),
+                .k = sheet_float_from(src, at + 3), .thickness_nm = sheet_float_from(src, at + 5)};
+    }
+    return (thin_film_solver_ThinFilmLayer){.n = 0.0, .k = 0.0, .thickness_nm = 0.0};
+}
+
+// The kind 6 whose kind word is at a place; zero throughout past the last word.
+static sheet_values_Cauchy sheet_values_cauchy_at(slice_u8 src, uint64_t at) {
+    if (at < src.count / 4) {
+        return (sheet_values_Cauchy){.a = sheet_float_from(src, at + 1), .b = sheet_float_from(src, at + 3),
+                .c = sheet_float_from(src, at + 5), .thickness_nm = sheet_float_from(src, at + 7)};
+    }
+    return (sheet_values_Cauchy){.a = 0.0, .b = 0.0, .c = 0.0, .thickness_nm = 0.0};
+}
+
+// Its index at a wavelength.
+static double sheet_values_cauchy_index(double wavelength_nm, sheet_values_Cauchy glass) {
+    double u = wavelength_nm / 1000.0;
+    double u2 = u * u;
+    return glass.a + (glass.b + glass.c / u2) / u2;
+}
+
+// The layer that it is at a wavelength.
+static thin_film_solver_ThinFilmLayer sheet_values_cauchy_film(double wavelength_nm, sheet_values_Cauchy glass) {
+    return (thin_film_solver_ThinFilmLayer){.n = sheet_values_cauchy_index(wavelength_nm, glass), .k = 0.0,
+            .thickness_nm = glass.thickness_nm};
+}
+
+// The layer of either kind at a place, at a wavelength.
+static thin_film_solver_ThinFilmLayer sheet_values_layer_at(slice_u8 src, uint64_t at, double wavelength_nm) {
+    if (sheet_kind_at(src, at) == 6) {
+        return sheet_values_cauchy_film(wavelength_nm, sheet_values_cauchy_at(src, at));
+    }
+    return sheet_values_plain_at(src, at);
+}
+
+// The wavelength that a SURFACE is met with whose first block is at a place: its own kind 7's, or else the one held.
+static double sheet_values_met_with(slice_u8 src, uint64_t at, double held_nm) {
+    if (at < src.count / 4) {
+        if (sheet_kind_at(src, at) == 7) {
+            return sheet_float_from(src, at + 1);
+        }
+    }
+    return held_nm;
+}
+
+// The wavelength that the n-th SURFACE is met with by steps alone, counted from 0.
+static double sheet_values_wavelength_of(slice_u8 src, uint32_t n) {
+    sheet_values_Beam beam = sheet_values_beam_of(src);
+    uint64_t at = sheet_begin_of(src, 0);
+    double held_nm = sheet_values_met_with(src, at, beam.wavelength_nm);
+    uint32_t i = 0;
+    while (i < n) {
+        at = sheet_after_layers(src, sheet_onto(src, at));
+        held_nm = sheet_values_met_with(src, at, held_nm);
+        i = i + 1;
+    }
+    return held_nm;
+}
+
+// ==== c_call
+//
+// What an exported call returns, and what it leaves in the list that it was lent: refusals as one
+// number, and answers by their numbers.
+
+// A refusal as one number, for a place below 2^32.
+static uint64_t c_call_packed(refusal_Refusal r) {
+    return (uint64_t)r.number * 0x100000000u + r.place % 0x100000000u;
+}
+
+// Numbers at a place of a list that has room for them.
+static void c_call_place(uint64_t at, slice_f64 numbers, slice_mut_f64 list) {
+    uint64_t i = 0;
+    while (i < numbers.count) {
+        list.at[at + i] = numbers.at[i];
+        i = i + 1;
+    }
+}
+
+// Numbers at the front of a list that is long enough, and what is returned for them.
+static uint64_t c_call_put(uint64_t returned, slice_f64 numbers, slice_mut_f64 list) {
+    if (list.count < numbers.count) {
+        return 0x800000000u;
+    }
+    c_call_place(0, numbers, list);
+    return returned;
+}
+
+// Two numbers, and what is returned for them.
+static uint64_t c_call_put_both(uint64_t returned, double a, double b, slice_mut_f64 list) {
+    f64_x2 numbers = {{a, b}};
+    return c_call_put(returned, (slice_f64){numbers.at, 2}, list);
+}
+
+static f64_x16 c_call_response(thin_film_solver_CoatingResponse r) {
+    thin_film_complex_Complex rs = r.rs;
+    thin_film_complex_Complex rp = r.rp;
+    thin_film_complex_Complex ts = r.ts;
+    thin_film_complex_Complex tp = r.tp;
+    return (f64_x16){{rs.re, rs.im, rp.re, rp.im, ts.re, ts.im, tp.re, tp.im, r.reflectance_s, r.reflectance_p,
+            r.transmittance_s, r.transmittance_p, r.phase_rs_rad, r.phase_rp_rad, r.absorptance_s, r.absorptance_p}};
+}
+
+// The response by its numbers.
+static uint64_t c_call_put_response(thin_film_solver_CoatingResponse r, slice_mut_f64 list) {
+    f64_x16 numbers = c_call_response(r);
+    return c_call_put(16, (slice_f64){numbers.at, 16}, list);
+}
+
+static f64_x8 c_call_jones(polarization_mueller_JonesMatrix j) {
+    thin_film_complex_Complex_x4 m = j.m;
+    thin_film_complex_Complex a = m.at[0];
+    thin_film_complex_Complex b = m.at[1];
+    thin_film_complex_Complex c = m.at[2];
+    thin_film_complex_Complex d = m.at[3];
+    return (f64_x8){{a.re, a.im, b.re, b.im, c.re, c.im, d.re, d.im}};
+}
+
+static f64_x16 c_call_mueller(polarization_mueller_MuellerMatrix m) {
+    f64_x16 e = m.m;
+    return (f64_x16){{e.at[0], e.at[1], e.at[2], e.at[3], e.at[4], e.at[5], e.at[6], e.at[7], e.at[8], e.at[9],
+            e.at[10], e.at[11], e.at[12], e.at[13], e.at[14], e.at[15]}};
+}
+
+// A Mueller matrix by its numbers, row after row.
+static uint64_t c_call_put_mueller(polarization_mueller_MuellerMatrix m, slice_mut_f64 list) {
+    f64_x16 numbers = c_call_mueller(m);
+    return c_call_put(16, (slice_f64){numbers.at, 16}, list);
+}
+
+// Whether there is a coating, and the powers.
+static f64_x5 c_call_head(surface_Answers a) {
+    surface_Powers p = a.powers;
+    if (a.coated) {
+        return (f64_x5){{1.0, p.reflectance_s, p.reflectance_p, p.transmittance_s, p.transmittance_p}};
+    }
+    return (f64_x5){{0.0, p.reflectance_s, p.reflectance_p, p.transmittance_s, p.transmittance_p}};
+}
+
+// What every surface has.
+static void c_call_place_common(surface_Answers a, slice_mut_f64 list) {
+    f64_x5 first = c_call_head(a);
+    c_call_place(0, (slice_f64){first.at, 5}, list);
+    polarization_mueller_JonesMatrix reflection = a.reflection;
+    polarization_mueller_JonesMatrix transmission = a.transmission;
+    f64_x8 j = c_call_jones(reflection);
+    c_call_place(5, (slice_f64){j.at, 8}, list);
+    f64_x8 k = c_call_jones(transmission);
+    c_call_place(13, (slice_f64){k.at, 8}, list);
+    polarization_mueller_MuellerMatrix reflection_mueller = a.reflection_mueller;
+    polarization_mueller_MuellerMatrix transmission_mueller = a.transmission_mueller;
+    f64_x16 m = c_call_mueller(reflection_mueller);
+    c_call_place(21, (slice_f64){m.at, 16}, list);
+    f64_x16 t = c_call_mueller(transmission_mueller);
+    c_call_place(37, (slice_f64){t.at, 16}, list);
+}
+
+// The answers by their numbers; a bare surface has no response.
+static uint64_t c_call_put_answers(surface_Answers a, slice_mut_f64 list) {
+    if (a.coated) {
+        if (list.count < 69) {
+            return 0x800000000u;
+        }
+        c_call_place_common(a, list);
+        f64_x16 numbers = c_call_response(a.response);
+        c_call_place(53, (slice_f64){numbers.at, 16}, list);
+        return 69;
+    }
+    if (list.count < 53) {
+        return 0x800000000u;
+    }
+    c_call_place_common(a, list);
+    return 53;
+}
+
+// ==== c_stack
+//
+// dihkelu_stack: the layers of a stack by their numbers, in a list that was lent.
+
+// The first layers at the front of a list that has room for them.
+static void c_stack_place(thin_film_solver_ThinFilmLayer_x64 items, uint64_t count, slice_mut_f64 list) {
+    uint64_t i = 0;
+    while (i < count) {
+        thin_film_solver_ThinFilmLayer layer = items.at[i];
+        list.at[3 * i] = layer.n;
+        list.at[3 * i + 1] = layer.k;
+        list.at[3 * i + 2] = layer.thickness_nm;
+        i = i + 1;
+    }
+}
+
+// The first layers by their numbers, and how many numbers they are.
+static uint64_t c_stack_put(thin_film_solver_ThinFilmLayer_x64 items, uint64_t count, slice_mut_f64 list) {
+    uint64_t numbers = 3 * count;
+    if (list.count < numbers) {
+        return 0x800000000u;
+    }
+    c_stack_place(items, count, list);
+    return numbers;
+}
+
+// The layers that a text stands for: n, k, thickness of one after the other at the front of a list. Returns
+// the count of these numbers, or a refusal: 1, 9, 10, then 8 for a list that is too short.
+static uint64_t c_stack_stack(slice_u8 text, double n_h, double n_l, double n_m, double design_wavelength_nm,
+        slice_mut_f64 list) {
+    thin_film_shorthand_Stacked stacked = thin_film_shorthand_stack(text, n_h, n_l, n_m, design_wavelength_nm);
+    refusal_Refusal refusal = stacked.refusal;
+    if (refusal.number != 0) {
+        return c_call_packed(refusal);
+    }
+    thin_film_coating_Layers layers = stacked.layers;
+    thin_film_solver_ThinFilmLayer_x64 items = layers.items;
+    uint64_t count = layers.count;
+    return c_stack_put(items, count, list);
+}
+
+// ==== c_mueller
+//
+// dihkelu_to_mueller and dihkelu_mueller_born_wolf: a Jones matrix from 8 numbers that were lent, its Mueller
+// matrix to a list that was lent.
+
+// The Jones matrix of 8 numbers: m00, m01, m10, m11, each as re, im.
+static polarization_mueller_JonesMatrix c_mueller_jones(slice_f64 numbers) {
+    return (polarization_mueller_JonesMatrix){
+            .m = {{{.re = numbers.at[0], .im = numbers.at[1]}, {.re = numbers.at[2], .im = numbers.at[3]},
+            {.re = numbers.at[4], .im = numbers.at[5]}, {.re = numbers.at[6], .im = numbers.at[7]}}}};
+}
+
+// JonesMatrix::to_mueller: writes the matrix to the front of list and returns 16; or a refusal: 1 where
+// there are not 8 numbers, then 8 for a list that is too short.
+static uint64_t c_mueller_to_mueller(slice_f64 numbers, slice_mut_f64 list) {
+    if (numbers.count != 8) {
+        return c_call_packed((refusal_Refusal){.number = 1, .place = 0});
+    }
+    return c_call_put_mueller(polarization_mueller_JonesMatrix_to_mueller(c_mueller_jones(numbers)), list);
+}
+
+// The same of to_mueller_born_wolf.
+static uint64_t c_mueller_mueller_born_wolf(slice_f64 numbers, slice_mut_f64 list) {
+    if (numbers.count != 8) {
+        return c_call_packed((refusal_Refusal){.number = 1, .place = 0});
+    }
+    return c_call_put_mueller(polarization_born_wolf_to_mueller_born_wolf(c_mueller_jones(numbers)), list);
+}
+
+// ==== c_range
+//
+// dihkelu_reflectance_range: a low and a high reflectance, in a list that was lent.
+
+// The two numbers at the front of a list. Returns their count, or a refusal: 13, then 8 for a list
+// that is too short.
+static uint64_t c_range_reflectance_range(double n1_low, double n1_high, double n2_low, double n2_high,
+        slice_mut_f64 list) {
+    reflectance_range_RangeReply reply = reflectance_range_reflectance_range(n1_low, n1_high, n2_low, n2_high);
+    if (reply.tag == reflectance_range_RangeReply_Range) {
+        reflectance_range_ReflectanceRange r = reply.as.Range;
+        return c_call_put_both(2, r.low, r.high, list);
+    }
+    refusal_Refusal r_2 = reply.as.Refused;
+    return c_call_packed(r_2);
+}
+
+// ==== c_quarter_waves
+//
+// dihkelu_quarter_waves: the count is returned, and what is over is written to the number that was lent.
+
+// The whole quarter waves of n * thickness; or a refusal: 14. One number that is lent is a list of one.
+static uint64_t c_quarter_waves_quarter_waves(double n, double thickness_nm, double wavelength_nm,
+        double *remainder_nm) {
+    quarter_waves_QuarterWavesReply value = quarter_waves_quarter_waves(n, thickness_nm, wavelength_nm);
+    if (value.tag == quarter_waves_QuarterWavesReply_Counted) {
+        quarter_waves_QuarterWaves waves = value.as.Counted;
+        *remainder_nm = waves.remainder_nm;
+        return (uint64_t)waves.count;
+    }
+    refusal_Refusal r = value.as.Refused;
+    return c_call_packed(r);
+}
+
+// ==== sheet_answers
+//
+// The answers of a surface of a sheet, from the sheet's bytes: document 01, section 7. The SURFACE's kind
+// word is at a place and n layers follow it; neither need be so: past the last word every word is zero.
+
+// The j-th layer after the block at a place, at a wavelength.
+static thin_film_solver_ThinFilmLayer sheet_answers_layer_after(slice_u8 src, uint64_t at, uint64_t j,
+        double wavelength_nm) {
+    uint64_t place = sheet_place_on(src, sheet_next_place(src, at), j);
+    return sheet_values_layer_at(src, place, wavelength_nm);
+}
+
+// The response with the n layers after the block at a place, in their order or reversed, at a wavelength.
+static thin_film_solver_CoatingResponse sheet_answers_solve(slice_u8 src, uint64_t at, uint64_t n, bool reversed,
+        double wavelength_nm, thin_film_solver_Incidence light) {
+    thin_film_complex_Complex_x2_x2 ms = thin_film_matrix_identity();
+    thin_film_complex_Complex_x2_x2 mp = thin_film_matrix_identity();
+    uint64_t i = 0;
+    while (i < n) {
+        uint64_t j = thin_film_layers_nth_index(reversed, n, i);
+        thin_film_solver_Terms terms = thin_film_solver_terms_of(light,
+                sheet_answers_layer_after(src, at, j, wavelength_nm));
+        thin_film_complex_Complex_x2_x2 next_s = thin_film_solver_step_s(ms, terms);
+        thin_film_complex_Complex_x2_x2 next_p = thin_film_solver_step_p(mp, terms);
+        ms = next_s;
+        mp = next_p;
+        i = i + 1;
+    }
+    return thin_film_solver_finish(light, ms, mp);
+}
+
+// A coated surface. Only Custom(Multilayer) has the layers after it, which are reversed where light
+// goes from the denser medium to the rarer one.
+static thin_film_layers_Evaluation sheet_answers_evaluate_at(slice_u8 src, uint64_t at, uint64_t n,
+        gate_limits_Surface surface, thin_film_SurfaceCoating coating, double wavelength_nm) {
+    thin_film_layers_Prepared value = thin_film_reading_prepare_surface(coating, n, surface.n_incident,
+            surface.n_substrate, surface.angle_rad, wavelength_nm);
+    if (value.tag == thin_film_layers_Prepared_Answered) {
+        thin_film_layers_Evaluation answer = value.as.Answered;
+        return answer;
+    }
+    bool reversed = value.as.Layers.reversed;
+    thin_film_solver_Incidence light = value.as.Layers.light;
+    return (thin_film_layers_Evaluation){.tag = thin_film_layers_Evaluation_Response,
+            .as.Response = sheet_answers_solve(src, at, n, reversed, wavelength_nm, light)};
+}
+
+// The powers of the surface at a place with the n layers after it.
+static sheet_answers_PowersReply sheet_answers_powers_at(slice_u8 src, uint64_t at, uint64_t n,
+        gate_limits_Surface surface, double wavelength_nm) {
+    gate_limits_Interface value = gate_limits_interface_of(surface.coating);
+    if (value.tag == gate_limits_Interface_Bare) {
+        return (sheet_answers_PowersReply){.tag = sheet_answers_PowersReply_Powers,
+                .as.Powers = surface_bare_powers(surface)};
+    }
+    thin_film_SurfaceCoating coating = value.as.Coated;
+    thin_film_layers_Evaluation value_2 = sheet_answers_evaluate_at(src, at, n, surface, coating, wavelength_nm);
+    if (value_2.tag == thin_film_layers_Evaluation_Response) {
+        thin_film_solver_CoatingResponse r = value_2.as.Response;
+        return (sheet_answers_PowersReply){.tag = sheet_answers_PowersReply_Powers,
+                .as.Powers = surface_coated_powers(r)};
+    }
+    refusal_Refusal r_2 = value_2.as.Refused;
+    return (sheet_answers_PowersReply){.tag = sheet_answers_PowersReply_Refused, .as.Refused = r_2};
+}
+
+// The answers of the surface at a place with the n layers after it.
+static surface_AnswersReply sheet_answers_answers_at(slice_u8 src, uint64_t at, uint64_t n,
+        gate_limits_Surface surface, double wavelength_nm) {
+    gate_limits_Interface value = gate_limits_interface_of(surface.coating);
+    if (value.tag == gate_limits_Interface_Bare) {
+        return surface_bare_answers(surface);
+    }
+    thin_film_SurfaceCoating coating = value.as.Coated;
+    thin_film_layers_Evaluation value_2 = sheet_answers_evaluate_at(src, at, n, surface, coating, wavelength_nm);
+    if (value_2.tag == thin_film_layers_Evaluation_Response) {
+        thin_film_solver_CoatingResponse r = value_2.as.Response;
+        surface_Answers answers = surface_coated_answers(r);
+        return (surface_AnswersReply){.refusal = 0, .answers = answers};
+    }
+    refusal_Refusal r_2 = value_2.as.Refused;
+    return surface_refused(r_2.number);
+}
+
+// ==== gate
+//
+// The gate of document 01: any bytes of any length are admitted, with their count of surfaces, or
+// refused with 4, 5 or 6, in that order over the whole sheet.
+
+// The longest sheet in bytes: edition 2's where the first word is its OPEN.
+static uint64_t gate_longest(slice_u8 src) {
+    if (sheet_word_from(src, 0) == 0x10000002) {
+        return 39460;
+    }
+    return 30500;
+}
+
+// A multiple of 4, not under 36 and not over the longest.
+static bool gate_length_fits(slice_u8 src) {
+    uint64_t n = src.count;
+    return n % 4 == 0 && 36 <= n && n <= gate_longest(src);
+}
+
+// The first block outside the limits, at its place.
+static gate_Gated gate_outside(uint64_t place) {
+    return (gate_Gated){.tag = gate_Gated_Refused, .as.Refused = {.number = 6, .place = place}};
+}
+
+// A kind 6 at a wavelength: its coefficients are finite, and its index is tested as a layer's n.
+static bool gate_cauchy_passes(double wavelength_nm, double snell, sheet_values_Cauchy glass) {
+    return ieee_is_finite(glass.a) && ieee_is_finite(glass.b) && ieee_is_finite(glass.c)
+            && gate_limits_layer_within(snell, sheet_values_cauchy_film(wavelength_nm, glass));
+}
+
+// Whether the block at a place is within the limits at a wavelength, and n_incident * abs(sin) after it.
+static gate_limits_Judgement gate_judge(slice_u8 src, uint64_t at, double wavelength_nm, double snell) {
+    uint32_t kind = sheet_kind_at(src, at);
+    if (kind == 2) {
+        sheet_values_Beam beam = sheet_values_beam_at(src, at);
+        return (gate_limits_Judgement){.passes = gate_limits_beam_passes(beam.wavelength_nm, beam.s, beam.p),
+                .snell = snell};
+    }
+    if (kind == 3) {
+        return gate_limits_judge_surface(sheet_values_surface_at(src, at));
+    }
+    if (kind == 4) {
+        return (gate_limits_Judgement){.passes = gate_limits_layer_within(snell, sheet_values_plain_at(src, at)),
+                .snell = snell};
+    }
+    if (kind == 6) {
+        return (gate_limits_Judgement){.passes = gate_cauchy_passes(wavelength_nm, snell,
+                sheet_values_cauchy_at(src, at)), .snell = snell};
+    }
+    if (kind == 7) {
+        return (gate_limits_Judgement){.passes = gate_limits_wavelength_passes(wavelength_nm), .snell = snell};
+    }
+    return (gate_limits_Judgement){.passes = true, .snell = snell};
+}
+
+// The limits of a sheet that is in grammar, block after block, each layer at the wavelength that its SURFACE is met with.
+static gate_Gated gate_limits(slice_u8 src, uint32_t count) {
+    uint64_t total = src.count / 4;
+    sheet_values_Beam beam = sheet_values_beam_of(src);
+    double wavelength_nm = beam.wavelength_nm;
+    uint64_t at = 0;
+    double snell = 0.0;
+    while (at < total) {
+        wavelength_nm = sheet_values_met_with(src, at, wavelength_nm);
+        gate_limits_Judgement judgement = gate_judge(src, at, wavelength_nm, snell);
+        if (!judgement.passes) {
+            return gate_outside(at);
+        }
+        snell = judgement.snell;
+        at = sheet_next_place(src, at);
+    }
+    return (gate_Gated){.tag = gate_Gated_Admitted, .as.Admitted = count};
+}
+
+// The gate: the length, then the grammar, then the limits.
+static gate_Gated gate_gate(slice_u8 src) {
+    if (!gate_length_fits(src)) {
+        return (gate_Gated){.tag = gate_Gated_Refused, .as.Refused = {.number = 4, .place = 0}};
+    }
+    sheet_Verdict value = sheet_grammar(src);
+    if (value.tag == sheet_Verdict_Whole) {
+        uint32_t count = value.as.Whole;
+        return gate_limits(src, count);
+    }
+    uint64_t place = value.as.Fault;
+    return (gate_Gated){.tag = gate_Gated_Refused, .as.Refused = {.number = 5, .place = place}};
+}
+
+// The layer of either kind at a place, at a wavelength.
+static bool gate_layer_passes(slice_u8 src, uint64_t at, double wavelength_nm, double snell) {
+    if (sheet_kind_at(src, at) == 6) {
+        return gate_cauchy_passes(wavelength_nm, snell, sheet_values_cauchy_at(src, at));
+    }
+    return gate_limits_layer_within(snell, sheet_values_plain_at(src, at));
+}
+
+// The n layers from a place on.
+static bool gate_layers_pass(slice_u8 src, uint64_t at, uint64_t n, double wavelength_nm, double snell) {
+    uint64_t place = at;
+    uint64_t i = 0;
+    while (i < n) {
+        if (!gate_layer_passes(src, place, wavelength_nm, snell)) {
+            return false;
+        }
+        place = sheet_next_place(src, place);
+        i = i + 1;
+    }
+    return true;
+}
+
+// The layers of the SURFACE at a place.
+static bool gate_surface_holds(slice_u8 src, uint64_t at, double wavelength_nm) {
+    gate_limits_Judgement judgement = gate_limits_judge_surface(sheet_values_surface_at(src, at));
+    uint64_t n = sheet_layer_run(src, at);
+    return gate_layers_pass(src, sheet_next_place(src, at), n, wavelength_nm, judgement.snell);
+}
+
+// The layers of n SURFACEs, the first of which begins at a place, up to the next kind 7.
+static bool gate_layers_hold(slice_u8 src, uint64_t at, uint32_t n, double wavelength_nm) {
+    uint64_t place = at;
+    uint32_t i = 0;
+    while (i < n) {
+        if (sheet_kind_at(src, place) == 7) {
+            return true;
+        }
+        if (!gate_surface_holds(src, place, wavelength_nm)) {
+            return false;
+        }
+        place = sheet_after_layers(src, place);
+        i = i + 1;
+    }
+    return true;
+}
+
+// A wavelength, with done of a sheet's count of SURFACEs behind it.
+static bool gate_holds(slice_u8 src, uint32_t done, uint32_t count, double wavelength_nm) {
+    if (!gate_limits_wavelength_passes(wavelength_nm)) {
+        return false;
+    }
+    if (count <= done) {
+        return true;
+    }
+    return gate_layers_hold(src, sheet_begin_of(src, done), count - done, wavelength_nm);
+}
+
+// ==== sheet_surfaces
+//
+// The surfaces of a sheet by their numbers, counted from 0: document 01, section 7. Each call is handed
+// the sheet's bytes and gates them anew.
+
+static sheet_surfaces_SurfaceReply sheet_surfaces_refused(refusal_Refusal refusal) {
+    surface_AnswersReply reply = surface_refused(refusal.number);
+    surface_Answers answers = reply.answers;
+    return (sheet_surfaces_SurfaceReply){.refusal = refusal, .answers = answers};
+}
+
+// Of the i-th surface, counted from 0, at the wavelength that a list of steps alone meets it with.
+static sheet_surfaces_SurfaceReply sheet_surfaces_surface_answers(slice_u8 src, uint32_t i) {
+    gate_Gated value = gate_gate(src);
+    if (value.tag == gate_Gated_Admitted) {
+        uint32_t count = value.as.Admitted;
+        if (count <= i) {
+            return sheet_surfaces_refused((refusal_Refusal){.number = 7, .place = 0});
+        }
+        uint64_t at = sheet_place_of(src, i);
+        uint64_t n = sheet_layer_run(src, at);
+        gate_limits_Surface surface = sheet_values_surface_at(src, at);
+        double wavelength_nm = sheet_values_wavelength_of(src, i);
+        surface_AnswersReply reply = sheet_answers_answers_at(src, at, n, surface, wavelength_nm);
+        surface_Answers answers = reply.answers;
+        return (sheet_surfaces_SurfaceReply){.refusal = {.number = reply.refusal, .place = 0}, .answers = answers};
+    }
+    refusal_Refusal r = value.as.Refused;
+    return sheet_surfaces_refused(r);
+}
+
+// ==== train_steps
+//
+// The train of document 01, section 7, and of document 02, slip 5: start, step, retune and whole run. Each is
+// handed the sheet's bytes and gates them anew.
+
+// Those of the reflected or of the transmitted light.
+static train_steps_Chosen train_steps_choose(bool reflected, surface_Powers r) {
+    if (reflected) {
+        return (train_steps_Chosen){.s = r.reflectance_s, .p = r.reflectance_p};
+    }
+    return (train_steps_Chosen){.s = r.transmittance_s, .p = r.transmittance_p};
+}
+
+// Of the surface at a place with the n layers after it. No surface within the limits is refused.
+static train_steps_Chosen train_steps_chosen_at(slice_u8 src, uint64_t at, uint64_t n, double wavelength_nm) {
+    gate_limits_Surface surface = sheet_values_surface_at(src, at);
+    sheet_answers_PowersReply value = sheet_answers_powers_at(src, at, n, surface, wavelength_nm);
+    if (value.tag == sheet_answers_PowersReply_Powers) {
+        surface_Powers r = value.as.Powers;
+        return train_steps_choose(surface.reflected, r);
+    }
+    return (train_steps_Chosen){.s = 0.0 / 0.0, .p = 0.0 / 0.0};
+}
+
+// The state after the surface that begins at a place, which is met with its own kind 7's wavelength or the one held.
+static train_steps_State train_steps_moved_at(slice_u8 src, uint64_t begin, train_steps_State state) {
+    double wavelength_nm = sheet_values_met_with(src, begin, state.wavelength_nm);
+    uint64_t at = sheet_onto(src, begin);
+    train_steps_Chosen c = train_steps_chosen_at(src, at, sheet_layer_run(src, at), wavelength_nm);
+    return (train_steps_State){.done = state.done + 1, .s = state.s * c.s, .p = state.p * c.p,
+            .wavelength_nm = wavelength_nm};
+}
+
+// One surface on from any state; a refusal leaves the state as it was.
+static train_steps_TrainReply train_steps_step(slice_u8 src, train_steps_State state) {
+    gate_Gated value = gate_gate(src);
+    if (value.tag == gate_Gated_Admitted) {
+        uint32_t count = value.as.Admitted;
+        if (count <= state.done) {
+            return (train_steps_TrainReply){.tag = train_steps_TrainReply_Refused,
+                    .as.Refused = {.number = 7, .place = 0}};
+        }
+        if (!gate_holds(src, state.done, count, state.wavelength_nm)) {
+            return (train_steps_TrainReply){.tag = train_steps_TrainReply_Refused,
+                    .as.Refused = {.number = 11, .place = 0}};
+        }
+        uint64_t begin = sheet_begin_of(src, state.done);
+        return (train_steps_TrainReply){.tag = train_steps_TrainReply_State,
+                .as.State = train_steps_moved_at(src, begin, state)};
+    }
+    refusal_Refusal r = value.as.Refused;
+    return (train_steps_TrainReply){.tag = train_steps_TrainReply_Refused, .as.Refused = r};
+}
+
+// A new wavelength for the surfaces not yet done, from any state; a refusal leaves the state as it was.
+static train_steps_TrainReply train_steps_retune(slice_u8 src, train_steps_State state, double wavelength_nm) {
+    gate_Gated value = gate_gate(src);
+    if (value.tag == gate_Gated_Admitted) {
+        uint32_t count = value.as.Admitted;
+        if (!gate_holds(src, state.done, count, wavelength_nm)) {
+            return (train_steps_TrainReply){.tag = train_steps_TrainReply_Refused,
+                    .as.Refused = {.number = 11, .place = 0}};
+        }
+        return (train_steps_TrainReply){.tag = train_steps_TrainReply_State,
+                .as.State = {.done = state.done, .s = state.s, .p = state.p, .wavelength_nm = wavelength_nm}};
+    }
+    refusal_Refusal r = value.as.Refused;
+    return (train_steps_TrainReply){.tag = train_steps_TrainReply_Refused, .as.Refused = r};
+}
+
+// The powers after each of count surfaces, written to a list that has room for them.
+static void train_steps_write_each(slice_u8 src, uint64_t count, slice_mut_f64 list) {
+    sheet_values_Beam beam = sheet_values_beam_of(src);
+    double s = beam.s;
+    double p = beam.p;
+    double wavelength_nm = beam.wavelength_nm;
+    uint64_t begin = sheet_begin_of(src, 0);
+    uint64_t i = 0;
+    while (i < count) {
+        wavelength_nm = sheet_values_met_with(src, begin, wavelength_nm);
+        uint64_t at = sheet_onto(src, begin);
+        uint64_t n = sheet_layer_run(src, at);
+        train_steps_Chosen c = train_steps_chosen_at(src, at, n, wavelength_nm);
+        s = s * c.s;
+        p = p * c.p;
+        list.at[2 * i] = s;
+        list.at[2 * i + 1] = p;
+        begin = sheet_place_on(src, at, n + 1);
+        i = i + 1;
+    }
+}
+
+// A run over the whole sheet from its start: s, p after each surface go to the lent list.
+static gate_Gated train_steps_run(slice_u8 src, slice_mut_f64 list) {
+    gate_Gated value = gate_gate(src);
+    if (value.tag == gate_Gated_Admitted) {
+        uint32_t count = value.as.Admitted;
+        uint64_t n = (uint64_t)count;
+        if (list.count < 2 * n) {
+            return (gate_Gated){.tag = gate_Gated_Refused, .as.Refused = {.number = 8, .place = 0}};
+        }
+        train_steps_write_each(src, n, list);
+        return (gate_Gated){.tag = gate_Gated_Admitted, .as.Admitted = count};
+    }
+    refusal_Refusal r = value.as.Refused;
+    return (gate_Gated){.tag = gate_Gated_Refused, .as.Refused = r};
+}
+
+// ==== dihkelu
+//
+// The C interface (include/dihkelu.h). A list is lent as a pointer and a count of elements, two
+// arguments one after the other, and a number as a pointer. No call that refuses changes what it was lent:
+// a refusal is its number times 2^32 plus its place, which is 0 where the documents give none.
+
+// Its version: major times 2^16 plus minor.
+uint32_t dihkelu_version(void) {
+    return 3;
+}
+
+// SurfaceCoating::evaluate: the coating by its code, its layers as n, k, thickness one after the
+// other. Writes the response to the front of list and returns the count of its numbers; or returns
+// a refusal: 1, then 3, then 8 for a list that is too short.
+uint64_t dihkelu_evaluate(uint32_t code, double design_wavelength_nm, double n_incident, double n_substrate,
+        double angle_incident_rad, double wavelength_nm, const double *layers_at, size_t layers_count,
+        double *list_at, size_t list_count) {
+    slice_f64 layers = {layers_at, layers_count};
+    slice_mut_f64 list = {list_at, list_count};
+    thin_film_layers_Evaluation evaluation = c_layers_evaluate(code, design_wavelength_nm, n_incident, n_substrate,
+            angle_incident_rad, wavelength_nm, layers);
+    if (evaluation.tag == thin_film_layers_Evaluation_Response) {
+        thin_film_solver_CoatingResponse r = evaluation.as.Response;
+        return c_call_put_response(r, list);
+    }
+    refusal_Refusal r_2 = evaluation.as.Refused;
+    return c_call_packed(r_2);
+}
+
+// The layers that a text of the stack shorthand stands for, H, L and M being quarter waves of three
+// indices at the design wavelength: writes n, k, thickness of one after the other, as dihkelu_evaluate
+// takes them, and returns the count of these numbers; or a refusal: 1, 9, 10, then 8.
+uint64_t dihkelu_stack(const uint8_t *text_at, size_t text_count, double n_h, double n_l, double n_m,
+        double design_wavelength_nm, double *list_at, size_t list_count) {
+    slice_u8 text = {text_at, text_count};
+    slice_mut_f64 list = {list_at, list_count};
+    return c_stack_stack(text, n_h, n_l, n_m, design_wavelength_nm, list);
+}
+
+// JonesMatrix::to_mueller of a Jones matrix by its 8 numbers, m00, m01, m10, m11, each as re, im: writes
+// the matrix row after row and returns 16; or a refusal: 1 where there are not 8 numbers, then 8.
+uint64_t dihkelu_to_mueller(const double *jones_at, size_t jones_count, double *list_at, size_t list_count) {
+    slice_f64 jones = {jones_at, jones_count};
+    slice_mut_f64 list = {list_at, list_count};
+    return c_mueller_to_mueller(jones, list);
+}
+
+// The same over Stokes vectors with S3 = 2 Im(Ex* Ey), after Born and Wolf: to_mueller_born_wolf.
+uint64_t dihkelu_mueller_born_wolf(const double *jones_at, size_t jones_count, double *list_at, size_t list_count) {
+    slice_f64 jones = {jones_at, jones_count};
+    slice_mut_f64 list = {list_at, list_count};
+    return c_mueller_mueller_born_wolf(jones, list);
+}
+
+// Met head-on, both indices known as ranges within 1 to 4: writes a low and a high reflectance, between
+// which every pair of indices within the ranges reflects, and returns 2; or a refusal: 13, then 8.
+uint64_t dihkelu_reflectance_range(double n1_low, double n1_high, double n2_low, double n2_high, double *list_at,
+        size_t list_count) {
+    slice_mut_f64 list = {list_at, list_count};
+    return c_range_reflectance_range(n1_low, n1_high, n2_low, n2_high, list);
+}
+
+// n * thickness in whole quarters of the wavelength: writes the length that is over and returns the
+// count; or a refusal: 14.
+uint64_t dihkelu_quarter_waves(double n, double thickness_nm, double wavelength_nm, double *remainder_nm) {
+    return c_quarter_waves_quarter_waves(n, thickness_nm, wavelength_nm, remainder_nm);
+}
+
+// An answer of the gate as one number.
+static uint64_t dihkelu_number_of(gate_Gated g) {
+    if (g.tag == gate_Gated_Admitted) {
+        uint32_t count = g.as.Admitted;
+        return (uint64_t)count;
+    }
+    refusal_Refusal r = g.as.Refused;
+    return c_call_packed(r);
+}
+
+// The gate: the count of surfaces, or a refusal: 4, 5 or 6.
+uint64_t dihkelu_gate(const uint8_t *sheet_at, size_t sheet_count) {
+    slice_u8 sheet = {sheet_at, sheet_count};
+    return dihkelu_number_of(gate_gate(sheet));
+}
+
+// A fresh train: writes 0 surfaces done and the BEAM's s, p and wavelength, and returns the count of
+// surfaces; or a refusal: 4, 5 or 6.
+uint64_t dihkelu_start(const uint8_t *sheet_at, size_t sheet_count, uint32_t *surfaces_done, double *s, double *p,
+        double *wavelength_nm) {
+    slice_u8 sheet = {sheet_at, sheet_count};
+    gate_Gated value = gate_gate(sheet);
+    if (value.tag == gate_Gated_Admitted) {
+        uint32_t count = value.as.Admitted;
+        sheet_values_Beam beam = sheet_values_beam_of(sheet);
+        *surfaces_done = 0;
+        *s = beam.s;
+        *p = beam.p;
+        *wavelength_nm = beam.wavelength_nm;
+        return (uint64_t)count;
+    }
+    refusal_Refusal r = value.as.Refused;
+    return c_call_packed(r);
+}
+
+// One surface on from any state: writes the next one and returns its surfaces done; or a refusal: 4, 5,
+// 6, 7 or 11.
+uint64_t dihkelu_step(const uint8_t *sheet_at, size_t sheet_count, uint32_t *surfaces_done, double *s, double *p,
+        double *wavelength_nm) {
+    slice_u8 sheet = {sheet_at, sheet_count};
+    train_steps_State state = {.done = *surfaces_done, .s = *s, .p = *p, .wavelength_nm = *wavelength_nm};
+    train_steps_TrainReply value = train_steps_step(sheet, state);
+    if (value.tag == train_steps_TrainReply_State) {
+        train_steps_State next = value.as.State;
+        *surfaces_done = next.done;
+        *s = next.s;
+        *p = next.p;
+        *wavelength_nm = next.wavelength_nm;
+        return (uint64_t)next.done;
+    }
+    refusal_Refusal r = value.as.Refused;
+    return c_call_packed(r);
+}
+
+// A new wavelength for the surfaces not yet done, from any state: writes it and returns the surfaces
+// done; or a refusal: 4, 5, 6 or 11. A state's s and p do not count.
+uint64_t dihkelu_retune(const uint8_t *sheet_at, size_t sheet_count, uint32_t surfaces_done, double *wavelength_nm,
+        double new_wavelength_nm) {
+    slice_u8 sheet = {sheet_at, sheet_count};
+    train_steps_State state = {.done = surfaces_done, .s = 0.0, .p = 0.0, .wavelength_nm = *wavelength_nm};
+    train_steps_TrainReply value = train_steps_retune(sheet, state, new_wavelength_nm);
+    if (value.tag == train_steps_TrainReply_State) {
+        train_steps_State next = value.as.State;
+        *wavelength_nm = next.wavelength_nm;
+        return (uint64_t)next.done;
+    }
+    refusal_Refusal r = value.as.Refused;
+    return c_call_packed(r);
+}
+
+// A whole run: writes s, p after each surface and returns the count of surfaces; or a refusal: 4, 5,
+// 6, then 8 for a list shorter than 2 numbers for each surface.
+uint64_t dihkelu_run(const uint8_t *sheet_at, size_t sheet_count, double *list_at, size_t list_count) {
+    slice_u8 sheet = {sheet_at, sheet_count};
+    slice_mut_f64 list = {list_at, list_count};
+    gate_Gated value = train_steps_run(sheet, list);
+    return dihkelu_number_of(value);
+}
+
+// Of a sheet's surface, counted from 0: writes its answers and returns the count of their numbers; or
+// a refusal: 4, 5, 6, 7 where there is no such surface, then 8.
+uint64_t dihkelu_answers(const uint8_t *sheet_at, size_t sheet_count, uint32_t surface, double *list_at,
+        size_t list_count) {
+    slice_u8 sheet = {sheet_at, sheet_count};
+    slice_mut_f64 list = {list_at, list_count};
+    sheet_surfaces_SurfaceReply reply = sheet_surfaces_surface_answers(sheet, surface);
+    refusal_Refusal refusal = reply.refusal;
+    if (refusal.number != 0) {
+        return c_call_packed(refusal);
+    }
+    surface_Answers answers = reply.answers;
+    return c_call_put_answers(answers, list);
+}

@@ -1,0 +1,236 @@
+/* Light through a train of coated windows: the calls of libdihkelu.a (document 01, and the built slips of document 02).
+ *
+ * ============================================================================================================
+ * KEEP WHAT A CALL RETURNS IN 64 BITS. The refusal stands in the HIGH half: `int n = dihkelu_gate(..)` compiles,
+ * drops it, and turns "refused 6, word 8" into "8 surfaces". Test dihkelu_refusal(returned) FIRST, every time:
+ *
+ *     uint64_t returned = dihkelu_gate(sheet, size);
+ *     if (dihkelu_refusal(returned)) .. refused, at dihkelu_place(returned) ..
+ *     else .. dihkelu_value(returned) surfaces ..
+ *
+ * A result that is thrown away is warned about. One that is cut to 32 bits is warned about with -Wconversion.
+ * ============================================================================================================
+ *
+ * A call returns one number. Its high 32 bits are 0 where the call answers; the low 32 bits are then what the call
+ * says below. Where it refuses, the high 32 bits are the documents' number of the refusal and the low 32 bits its
+ * place, a word of the sheet or a byte of the text counted from 0; the place is 0 where the documents give none.
+ *
+ *   1  evaluate: the Rust's InvalidParameter, an unknown code, or a count of layers that is no multiple of 3;
+ *      stack: an index or the design wavelength is not positive and finite; to_mueller, mueller_born_wolf: there are
+ *      not 8 numbers
+ *   3  evaluate: more than 64 layers, where the code is that of explicit layers (any other ignores them)
+ *   4  the sheet's bytes are no multiple of 4, under 36 or over 30,500 (39,460 where the first word is 0x10000002)
+ *   5  the word at this place is out of grammar
+ *   6  the BEAM, SURFACE, layer or kind 7 at this place is outside the limits
+ *   7  there is no such surface: it is the sheet's count or more
+ *   8  the list is too short; after all other refusals
+ *   9  stack: no text can have the byte at this place; the place is the count of bytes where the text stops early, and
+ *      255 for a text over 255 bytes
+ *  10  stack: more than 64 layers
+ *  11  step, retune: the wavelength is NaN or outside 100 to 10,000 nm, or a layer still to come fails at it, of those up
+ *      to the next kind 7
+ *  13  reflectance_range: a low end is above its high end, or an end is NaN or outside 1 to 4
+ *  14  quarter_waves: n is outside 1 to 4, the thickness outside 0 to 100,000 or the wavelength outside 100 to 10,000, or
+ *      one of them is no number
+ *
+ * A call that refuses writes nothing. (That is proved of the numbers that are lent, so up to the bits of a NaN that
+ * stands there; the tests look at every bit.) A call that answers writes the front of the list and leaves the rest of
+ * it, or each number of a state. Every call answers or refuses for all bytes, all numbers and all counts; no call keeps anything between calls,
+ * and any number of threads may call at once. Where an answer is not a number its bits may be those of any NaN.
+ *
+ * Link with libdihkelu.a and the C library's mathematics (-lm): its fmod is called. The library is for x86-64.
+ *
+ * WHAT THE CALLER OWES, since no callee can check it:
+ *   - A sheet, a text, a list of layers, a Jones matrix and a list that is written are each passed as a pointer and a
+ *     count of elements (bytes or doubles), two arguments one after the other. So many elements are there, readable, and
+ *     writable in the list; a pointer to doubles is aligned for them. Where the count is 0 the pointer may be anything,
+ *     null too: nothing is read or written through it.
+ *   - A number that is written, such as a state's s, is passed as a pointer to it, which is never null. The numbers of a
+ *     state are apart from each other and from the sheet.
+ *   - The list overlaps neither the sheet nor the text nor the layers nor the Jones matrix, and no other thread writes
+ *     any of them meanwhile.
+ *   - One double that is written, remainder_nm, is a pointer that is not null, to a double that is there, aligned and writable.
+ *   - The floating-point environment is the one that a C program starts with: rounding to nearest, subnormal numbers
+ *     kept, no exception trapped. A program LINKED WITH -ffast-math or -Ofast starts with subnormals flushed to zero, and
+ *     the gate then admits k = 2^-1074 and a power of -2^-1074; another rounding mode changes the last bits of every
+ *     answer. dihkelu_environment_ok() says whether subnormals and rounding are as they should be: call it once in
+ *     each thread that calls the library.
+ *
+ * s AND p: row and column 0 of a Jones matrix are s, row and column 1 are p. A surface's Jones matrices are zero off the
+ * diagonal.
+ *
+ * TWO CONVENTIONS. A bare surface's Jones matrices are Fresnel's, a coated one's are the layer solver's, as in the Rust:
+ *   - rp has the opposite sign (from 1 to 1.5 at 0.6 rad: +0.1439 bare, -0.1439 coated without a layer);
+ *   - tp of the coated one is the bare one's times cos_t / cos_i (0.8561 and 0.7626 there);
+ *   - under total reflection, which no sheet within the limits has, the phases are conjugate.
+ * Multiply Jones matrices of both kinds only after you have made them agree. Powers are not concerned.
+ * NEITHER MUELLER MATRIX OF THE TRANSMITTED LIGHT carries n_substrate·cos_t / (n_incident·cos_i): its entry [0][0] is no
+ * share of the power. (The ideal coatings alone have T = |t|^2.) Take T_s and T_p for that. The fourth column of a Mueller
+ * matrix is the response to the Rust's circular_right, (1, -i)/sqrt(2), whose S3 is negative.
+ */
+#ifndef DIHKELU_H
+#define DIHKELU_H
+
+#include <stddef.h>
+#include <stdint.h>
+#include <string.h>
+
+#ifdef __cplusplus
+extern "C" {
+#endif
+
+/* A result that is thrown away is warned about, where the compiler can. */
+#if defined(__has_attribute)
+#if __has_attribute(warn_unused_result)
+#define DIHKELU_MUST_USE __attribute__((warn_unused_result))
+#endif
+#elif defined(__GNUC__)
+#define DIHKELU_MUST_USE __attribute__((warn_unused_result))
+#endif
+#ifndef DIHKELU_MUST_USE
+#define DIHKELU_MUST_USE
+#endif
+
+/* ---- the version: major × 2^16 + minor. A program can hold the header it was compiled with against the library */
+
+#define DIHKELU_VERSION 0x00000003u
+DIHKELU_MUST_USE uint32_t dihkelu_version(void);
+
+/* ---- what a call returned, taken apart */
+
+/* The refusal's number; 0 for an answer. */
+DIHKELU_MUST_USE static inline uint32_t dihkelu_refusal(uint64_t returned) { return (uint32_t)(returned >> 32); }
+
+/* The place of a refusal; 0 for an answer. */
+DIHKELU_MUST_USE static inline uint32_t dihkelu_place(uint64_t returned) {
+    return dihkelu_refusal(returned) != 0 ? (uint32_t)(returned & 0xFFFFFFFFu) : 0;
+}
+
+/* The call's own number; 0 for a refusal. */
+DIHKELU_MUST_USE static inline uint32_t dihkelu_value(uint64_t returned) {
+    return dihkelu_refusal(returned) == 0 ? (uint32_t)(returned & 0xFFFFFFFFu) : 0;
+}
+
+/* ---- the floating-point environment */
+
+/* 1 where subnormals are kept and rounding is to nearest, ties to even; else 0. The numbers are volatile, so that they
+ * are worked out when the program runs. */
+DIHKELU_MUST_USE static inline int dihkelu_environment_ok(void) {
+    volatile double normal = 2.2250738585072014e-308, half = 0.5, one = 1.0, minus = -1.0, tie = 1.1102230246251565e-16;
+    volatile double subnormal = normal * half;       /* 2^-1023; 0 where results are flushed */
+    volatile double doubled = subnormal + subnormal; /* 2^-1022; 0 where operands are taken for zeros */
+    volatile double up = one + tie;                  /* 1; its neighbour above where rounding is upwards */
+    volatile double down = minus - tie;              /* -1; its neighbour below where rounding is downwards */
+    volatile double odd = one + 3.0 * tie;           /* 1 + 2^-51; 1 + 2^-52 where rounding is towards zero */
+    volatile const double *found[] = {&subnormal, &doubled, &up, &down, &odd};
+    static const uint64_t wanted[] = {0x0008000000000000u, 0x0010000000000000u, 0x3FF0000000000000u,
+                                      0xBFF0000000000000u, 0x3FF0000000000002u};
+    for (int i = 0; i < 5; i++) {
+        double x = *found[i];
+        uint64_t bits;
+        memcpy(&bits, &x, sizeof bits);
+        if (bits != wanted[i]) return 0;
+    }
+    return 1;
+}
+
+/* ---- the calls */
+
+/* How many doubles are written by dihkelu_evaluate, by dihkelu_answers for a bare surface, and for a coated one. Up to
+ * version 0.1 a response had 14, without what stays in the glass at its end: go by the count that is returned. */
+#define DIHKELU_RESPONSE 16
+#define DIHKELU_BARE 53
+#define DIHKELU_COATED 69
+
+/* The gate. A sheet is of edition 1, or of edition 2, in which a layer may be of kind 6, a glass whose index changes with
+ * colour, and a kind 7 may stand before a surface: the wavelength from there on. Returns the count of surfaces; refuses
+ * with 4, 5, 6. */
+DIHKELU_MUST_USE uint64_t dihkelu_gate(const uint8_t *sheet, size_t sheet_count);
+
+/* A train's state is four numbers: surfaces done, s, p and the wavelength held in nm. The calls take any state, also one
+ * that no train has been in. Up to version 0.2 a state had no wavelength, and start and step wrote s and p to a list.
+ *
+ * A fresh train: no surface done, the BEAM's s, p and wavelength. Returns the count of surfaces; refuses with 4, 5, 6. */
+DIHKELU_MUST_USE uint64_t dihkelu_start(const uint8_t *sheet, size_t sheet_count, uint32_t *surfaces_done, double *s,
+                                        double *p, double *wavelength_nm);
+
+/* A step: takes the surface after those done, at the wavelength of the kind 7 before it or else at the one held, which is
+ * held then. Returns the surfaces done then; refuses with 4, 5, 6, 7, 11, and the state is as before. */
+DIHKELU_MUST_USE uint64_t dihkelu_step(const uint8_t *sheet, size_t sheet_count, uint32_t *surfaces_done, double *s,
+                                       double *p, double *wavelength_nm);
+
+/* A retune: another wavelength for the surfaces not yet done; those done keep their powers. Returns the surfaces done;
+ * refuses with 4, 5, 6, 11, and the wavelength held is as before. */
+DIHKELU_MUST_USE uint64_t dihkelu_retune(const uint8_t *sheet, size_t sheet_count, uint32_t surfaces_done,
+                                         double *wavelength_nm, double new_wavelength_nm);
+
+/* A whole run from the start. Writes s, p after each surface, 2 doubles for each, and returns the count of surfaces;
+ * refuses with 4, 5, 6, 8. */
+DIHKELU_MUST_USE uint64_t dihkelu_run(const uint8_t *sheet, size_t sheet_count, double *list, size_t list_count);
+
+/* The answers of a surface, counted from 0, at the wavelength that steps alone meet it with: that of the last kind 7 up
+ * to it, or else the BEAM's. Returns how many doubles it wrote; refuses with 4, 5, 6, 7, 8. In order:
+ *    0        1 for a coated surface, 0 for a bare one
+ *    1 to 4   the powers R_s, R_p, T_s, T_p
+ *    5 to 12  the Jones matrix of the reflected light: m00 (s), m01, m10, m11 (p), each re, im
+ *   13 to 20  the same of the transmitted light
+ *   21 to 36  the Mueller matrix of the reflected light, row after row
+ *   37 to 52  the same of the transmitted light
+ *   53 to 68  of a coated surface alone: its response, as dihkelu_evaluate writes it */
+DIHKELU_MUST_USE uint64_t dihkelu_answers(const uint8_t *sheet, size_t sheet_count, uint32_t surface, double *list,
+                                          size_t list_count);
+
+/* SurfaceCoating::evaluate. Codes: 1 IdealAr, 2 MgF2 (at the design wavelength), 3 BroadbandAr,
+ * 4 HighReflectanceMirror, 5 Custom layers, 6 Custom beamsplitter, 7 Custom mirror, 8 Custom IdealAr. The layers are
+ * n, k, thickness in nm of one after the other, from the side of the lower index (from the incident side where both are
+ * equal). Returns how many doubles it wrote; refuses with 1, 3, 8. In order:
+ *    0 to 7   rs, rp, ts, tp, each re, im
+ *    8 to 11  R_s, R_p, T_s, T_p
+ *   12, 13    the phases of rs and rp in radians
+ *   14, 15    what stays in the glass of s and of p: (1 - R) - T, from 0 to 1 */
+DIHKELU_MUST_USE uint64_t dihkelu_evaluate(uint32_t code, double design_wavelength_nm, double n_incident,
+                                           double n_substrate, double angle_incident_rad, double wavelength_nm,
+                                           const double *layers, size_t layers_count, double *list,
+                                           size_t list_count);
+
+/* The most doubles that dihkelu_stack writes: 64 layers of 3. */
+#define DIHKELU_STACK 192
+
+/* A stack in the coating makers' shorthand, such as "(HL)^7 H", of text_count bytes (no byte 0 ends it). H, L and M
+ * are quarter waves of n_h, n_l, n_m at the design wavelength: thickness design / (4 n), k 0. A whole number 1 to 99
+ * before a letter multiplies its thickness; a power ^1 to ^31 repeats the letter or bracket before it; brackets nest at
+ * most four deep; spaces are skipped, but not inside a number. Writes n, k, thickness in nm of one layer after the
+ * other, as dihkelu_evaluate takes them, and returns how many doubles these are; refuses with 1, 9, 10, 8. All three
+ * indices must be positive and finite, also those of letters that do not occur. */
+DIHKELU_MUST_USE uint64_t dihkelu_stack(const uint8_t *text, size_t text_count, double n_h, double n_l, double n_m,
+                                        double design_wavelength_nm, double *list, size_t list_count);
+
+/* How many doubles a Mueller matrix is. */
+#define DIHKELU_MUELLER 16
+
+/* The Mueller matrix of a Jones matrix of 8 doubles: m00, m01, m10, m11, each re, im. Writes it row after row, 16
+ * doubles, and returns 16; refuses with 1, 8. The first is the Rust's JonesMatrix::to_mueller, as dihkelu_answers has it:
+ * its fourth column is the response to circular_right, (1, -i), so that empty space has -1 in its last place. The second
+ * is over Stokes vectors with S3 = 2 Im(Ex* Ey), as Born and Wolf have them, and empty space has the identity. */
+DIHKELU_MUST_USE uint64_t dihkelu_to_mueller(const double *jones, size_t jones_count, double *list, size_t list_count);
+DIHKELU_MUST_USE uint64_t dihkelu_mueller_born_wolf(const double *jones, size_t jones_count, double *list,
+                                                    size_t list_count);
+
+/* A bare surface met head-on, its two indices known as ranges, low to high, within 1 to 4. Writes a low and a high
+ * reflectance, 2 doubles, and returns 2; refuses with 13, 8. For every pair of doubles within the ranges the exact
+ * (n1 - n2)^2 / (n1 + n2)^2 lies between the two; their gap exceeds the true spread by at most 18 2^-53, and
+ * 0 <= low <= high <= 1. Where the ranges overlap low is 0. */
+DIHKELU_MUST_USE uint64_t dihkelu_reflectance_range(double n1_low, double n1_high, double n2_low, double n2_high,
+                                                    double *list, size_t list_count);
+
+/* A film in quarter waves: p, which is n times the thickness, rounded once, in quarters q of the wavelength. Writes what
+ * is over to *remainder_nm and returns the count, 16,000 at most: p is count·q + remainder exactly, the remainder from 0
+ * (+0) and below q. Refuses with 14, and leaves *remainder_nm. */
+DIHKELU_MUST_USE uint64_t dihkelu_quarter_waves(double n, double thickness_nm, double wavelength_nm,
+                                                double *remainder_nm);
+
+#ifdef __cplusplus
+}
+#endif
+
+#endif
