@@ -23,9 +23,10 @@
 #error "operations on doubles are rounded twice here, as 32-bit x86 does without SSE2: the answers would be others"
 #endif
 
-// No a * b + c is worked out with one rounding. (GCC does not know the standard's pragma, and has its own.)
+// No a * b + c is worked out with one rounding. GCC does not know the standard's pragma. Where the machine has a fused
+// multiply-add, GCC 12 makes one of two products even with -ffp-contract=off, when it joins them to a vector: not here.
 #if defined(__GNUC__) && !defined(__clang__)
-#pragma GCC optimize("fp-contract=off")
+#pragma GCC optimize("fp-contract=off", "no-tree-slp-vectorize")
 #else
 #pragma STDC FP_CONTRACT OFF
 #endif

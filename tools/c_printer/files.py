@@ -30,9 +30,10 @@ PRELUDE = """//
 #error "operations on doubles are rounded twice here, as 32-bit x86 does without SSE2: the answers would be others"
 #endif
 
-// No a * b + c is worked out with one rounding. (GCC does not know the standard's pragma, and has its own.)
+// No a * b + c is worked out with one rounding. GCC does not know the standard's pragma. Where the machine has a fused
+// multiply-add, GCC 12 makes one of two products even with -ffp-contract=off, when it joins them to a vector: not here.
 #if defined(__GNUC__) && !defined(__clang__)
-#pragma GCC optimize("fp-contract=off")
+#pragma GCC optimize("fp-contract=off", "no-tree-slp-vectorize")
 #else
 #pragma STDC FP_CONTRACT OFF
 #endif
@@ -73,6 +74,33 @@ TRAIN_PRELUDE = """//
 #include "dihkelu.c"
 
 """
+
+
+def manual(header):
+    """The manual page dihkelu(3): the header's own comments and declarations."""
+    text = [line for line in header.split("\n") if not line.startswith(("#if", "#e", "#include"))]
+    begin = next(i for i, line in enumerate(text) if line.startswith("/* ---- the version"))
+    top = "\n".join(text[:begin])
+    intro = top[top.index("/*") : top.index("*/")].replace("/* ", "", 1).split("\n")
+    rest = "\n".join(text[begin:]).split("static inline int dihkelu_environment_ok")[1]
+    rest = rest[rest.index("/* ---- the calls") :].split("\n")
+    cut = len("DIHKELU_MUST_USE ")
+    rest = [line[cut:] if line.startswith(("DIHKELU_MUST_USE ", " " * 2 * cut)) else line for line in rest if line != "}"]
+
+    def roff(lines):
+        lines = [line.replace("\\", "\\e").replace("-", "\\-") for line in lines]
+        return "\n".join("\\&" + line if line[:1] in (".", "'") else line for line in lines)
+
+    intro = [line[3:] if line.startswith(" * ") else line.lstrip(" *") for line in intro]
+    return (
+        '.\\" Made by tools/c_source from the header.\n'
+        '.TH DIHKELU 3 "" "dihkelu"\n.SH NAME\ndihkelu \\- light through a train of coated windows\n.SH SYNOPSIS\n'
+        ".B #include <dihkelu.h>\n.PP\nLink with \\-ldihkelu \\-lm.\n.SH DESCRIPTION\n.nf\n"
+        + roff(intro).strip()
+        + "\n.fi\n.SH CALLS\n.nf\n"
+        + roff(rest).strip()
+        + "\n.fi\n.SH SEE ALSO\n.BR train (1)\n"
+    )
 
 
 def calls(e, found):
@@ -161,4 +189,4 @@ def made(root, library, text):
     body = train.print(types, lambda name: False)
     t = BANNER + TRAIN_PRELUDE + "\n\n".join(types.definitions[first:]) + "\n\n" + body
     header = (pathlib.Path(root) / "include" / "dihkelu.h").read_text()
-    return {"dihkelu.c": c, "train_text.c": t, "dihkelu.h": header}
+    return {"dihkelu.c": c, "train_text.c": t, "dihkelu.h": header, "dihkelu.3": manual(header)}
