@@ -1,0 +1,262 @@
+"""The calls, each with Python's own values. What each gives and refuses stands in dihkelu.h."""
+from __future__ import annotations
+
+import ctypes
+import itertools
+import struct
+import sys
+from dataclasses import dataclass
+from typing import Any, Iterable, Sequence, Union
+
+from .library import load
+from .refusals import answered
+from .sheet import Coating, Layer, Sheet
+
+_library = load()
+
+Matrix = tuple[tuple[complex, complex], tuple[complex, complex]]
+Mueller = tuple[tuple[float, ...], ...]
+SheetLike = Union[Sheet, bytes, bytearray, memoryview]
+
+IDEAL_AR, MGF2, BROADBAND_AR, MIRROR, LAYERS, IDEAL_BEAMSPLITTER, IDEAL_MIRROR, CUSTOM_IDEAL_AR = range(1, 9)
+"""The codes that `evaluate` takes; those up to 7 are also Coating's."""
+
+
+class WrongEnvironment(RuntimeError):
+    """Subnormal numbers are flushed to zero, or rounding is not to nearest: no answer would be right."""
+
+
+def environment_ok() -> bool:
+    """Whether this thread's floating-point environment is one that the answers are right in, as the header's own test finds out."""
+    least, tie = sys.float_info.min, sys.float_info.epsilon / 2
+    half = least * 0.5
+    found = [half, half + half, 1.0 + tie, -1.0 - tie, 1.0 + 3.0 * tie]
+    wanted = ["0008000000000000", "0010000000000000", "3ff0000000000000", "bff0000000000000", "3ff0000000000002"]
+    return [struct.pack(">d", x).hex() for x in found] == wanted
+
+
+if not environment_ok():
+    raise WrongEnvironment("subnormal numbers are flushed to zero or rounding is not to nearest: a library that was loaded has changed that")
+
+
+def _bytes(sheet: SheetLike) -> bytes:
+    return sheet.to_bytes() if isinstance(sheet, Sheet) else bytes(sheet)
+
+
+def _numbers(values: Iterable[float] = (), count: int | None = None) -> ctypes.Array[ctypes.c_double]:
+    values = [float(x) for x in values]
+    return (ctypes.c_double * (len(values) if count is None else count))(*values)
+
+
+def _pairs(x: Sequence[float]) -> list[complex]:
+    return [complex(x[i], x[i + 1]) for i in range(0, len(x), 2)]
+
+
+def _matrix(x: Sequence[float]) -> Matrix:
+    a, b, c, d = _pairs(x)
+    return (a, b), (c, d)
+
+
+def _mueller(x: Sequence[float]) -> Mueller:
+    return tuple(tuple(x[4 * i : 4 * i + 4]) for i in range(4))
+
+
+def version() -> tuple[int, int]:
+    """The library's version."""
+    number = _library.dihkelu_version()
+    return number >> 16, number & 0xFFFF
+
+
+# ---- the train
+
+
+def gate(sheet: SheetLike) -> int:
+    """The count of surfaces of a sheet that is admitted."""
+    data = _bytes(sheet)
+    return answered(_library.dihkelu_gate(data, len(data)), "gate")
+
+
+class Train:
+    """A train: what is done of its sheet, s and p after it, and the wavelength held. A call that is refused leaves all as it was."""
+
+    def __init__(self, sheet: SheetLike):
+        self._sheet = _bytes(sheet)
+        self._done, self._s, self._p, self._nm = ctypes.c_uint32(), ctypes.c_double(), ctypes.c_double(), ctypes.c_double()
+        self.surfaces = answered(_library.dihkelu_start(self._sheet, len(self._sheet), *self._state()), "start")
+
+    def _state(self) -> list[Any]:
+        return [ctypes.byref(x) for x in (self._done, self._s, self._p, self._nm)]
+
+    surfaces_done = property(lambda self: self._done.value)
+    s = property(lambda self: self._s.value)
+    p = property(lambda self: self._p.value)
+    wavelength_nm = property(lambda self: self._nm.value)
+    sum = property(lambda self: self._s.value + self._p.value)
+
+    def step(self) -> int:
+        """Takes the next surface; the surfaces done then."""
+        return answered(_library.dihkelu_step(self._sheet, len(self._sheet), *self._state()), "step")
+
+    def retune(self, wavelength_nm: float) -> int:
+        """Another wavelength for the surfaces not yet done; the surfaces done."""
+        returned = _library.dihkelu_retune(self._sheet, len(self._sheet), self._done, ctypes.byref(self._nm), wavelength_nm)
+        return answered(returned, "retune")
+
+    def __repr__(self) -> str:
+        return f"Train(surfaces_done={self.surfaces_done}, s={self.s!r}, p={self.p!r}, wavelength_nm={self.wavelength_nm!r})"
+
+
+def run(sheet: SheetLike) -> list[tuple[float, float]]:
+    """s and p after each surface."""
+    data = _bytes(sheet)
+    out = _numbers(count=128)
+    count = answered(_library.dihkelu_run(data, len(data), out, len(out)), "run")
+    return [(out[2 * i], out[2 * i + 1]) for i in range(count)]
+
+
+# ---- a surface
+
+
+@dataclass(frozen=True)
+class Response:
+    """What a coated surface does: amplitudes, powers, phases, and what stays in the glass. Over arrays each is an array."""
+
+    rs: Any
+    rp: Any
+    ts: Any
+    tp: Any
+    reflectance_s: Any
+    reflectance_p: Any
+    transmittance_s: Any
+    transmittance_p: Any
+    phase_rs_rad: Any
+    phase_rp_rad: Any
+    absorptance_s: Any
+    absorptance_p: Any
+
+
+def _response(x: Sequence[float]) -> Response:
+    return Response(*_pairs(x[:8]), *x[8:16])
+
+
+@dataclass(frozen=True)
+class Answers:
+    """A surface's powers, Jones and Mueller matrices; the response of a coated one."""
+
+    coated: bool
+    reflectance_s: float
+    reflectance_p: float
+    transmittance_s: float
+    transmittance_p: float
+    jones_reflected: Matrix
+    jones_transmitted: Matrix
+    mueller_reflected: Mueller
+    mueller_transmitted: Mueller
+    response: Response | None
+
+
+def answers(sheet: SheetLike, surface: int) -> Answers:
+    """Of a sheet's surface, counted from 0, at the wavelength that steps alone meet it with."""
+    data = _bytes(sheet)
+    out = _numbers(count=69)
+    count = answered(_library.dihkelu_answers(data, len(data), surface, out, len(out)), "answers")
+    x = out[:count]
+    matrices = _matrix(x[5:13]), _matrix(x[13:21]), _mueller(x[21:37]), _mueller(x[37:53])
+    return Answers(x[0] == 1.0, *x[1:5], *matrices, _response(x[53:]) if count > 53 else None)
+
+
+def _flat(layers: Iterable[Any]) -> list[float]:
+    out: list[float] = []
+    for x in layers:
+        out += [x.n, x.k, x.thickness_nm] if isinstance(x, Layer) else [float(v) for v in x]
+    return out
+
+
+def _listed(x: Any) -> tuple[list[float] | None, bool]:
+    """A list of numbers, or None for one number; and whether it was an array of numpy's."""
+    if hasattr(x, "tolist") and hasattr(x, "shape"):
+        if len(x.shape) > 1:
+            raise ValueError("an array of more than one dimension; take x.ravel()")
+        return (None, False) if x.shape == () else ([float(v) for v in x.tolist()], True)
+    return ([float(v) for v in x], False) if isinstance(x, Iterable) else (None, False)
+
+
+def evaluate(
+    code: int,
+    n_incident: float,
+    n_substrate: float,
+    angle_rad: Any,
+    wavelength_nm: Any,
+    layers: Iterable[Any] = (),
+    design_wavelength_nm: float = 550.0,
+) -> Response:
+    """One coated surface. The layers are Layer or (n, k, thickness in nm), from the side of the lower index.
+
+    Angle and wavelength are numbers, or lists or arrays of one dimension and one length; each field of the response is then a list,
+    or an array of numpy's where one was given. The first refusal is raised.
+    """
+    flat = _numbers(_flat(layers))
+    out = _numbers(count=16)
+
+    def one(angle: float, wavelength: float) -> Response:
+        returned = _library.dihkelu_evaluate(code, design_wavelength_nm, n_incident, n_substrate, angle, wavelength, flat, len(flat), out, len(out))
+        answered(returned, "evaluate")
+        return _response(out)
+
+    (angles, first), (wavelengths, second) = _listed(angle_rad), _listed(wavelength_nm)
+    if angles is None and wavelengths is None:
+        return one(float(angle_rad), float(wavelength_nm))
+    if angles is not None and wavelengths is not None and len(angles) != len(wavelengths):
+        raise ValueError(f"{len(angles)} angles and {len(wavelengths)} wavelengths")
+    of_angles: Iterable[float] = itertools.repeat(float(angle_rad)) if angles is None else angles
+    of_wavelengths: Iterable[float] = itertools.repeat(float(wavelength_nm)) if wavelengths is None else wavelengths
+    all_of = [one(a, w) for a, w in zip(of_angles, of_wavelengths)]
+    columns: list[Any] = [[getattr(r, name) for r in all_of] for name in Response.__dataclass_fields__]
+    if first or second:
+        import numpy
+
+        columns = [numpy.array(c) for c in columns]
+    return Response(*columns)
+
+
+# ---- the rest
+
+
+def stack(text: str | bytes, n_h: float, n_l: float, n_m: float | None = None, design_wavelength_nm: float = 550.0) -> list[Layer]:
+    """The layers of a text such as "(HL)^7 H". Where n_m is not given it is n_l: all three must be positive."""
+    data = text.encode() if isinstance(text, str) else text
+    out = _numbers(count=192)
+    returned = _library.dihkelu_stack(data, len(data), n_h, n_l, n_l if n_m is None else n_m, design_wavelength_nm, out, len(out))
+    count = answered(returned, "stack")
+    return [Layer(*out[i : i + 3]) for i in range(0, count, 3)]
+
+
+def _converted(call: Any, name: str, jones: Sequence[Sequence[complex]]) -> Mueller:
+    parts = [x for row in jones for z in row for x in (complex(z).real, complex(z).imag)]
+    given, out = _numbers(parts), _numbers(count=16)
+    answered(call(given, len(given), out, len(out)), name)
+    return _mueller(out)
+
+
+def to_mueller(jones: Sequence[Sequence[complex]]) -> Mueller:
+    """The Mueller matrix of a Jones matrix, with the signs of the Rust's to_mueller."""
+    return _converted(_library.dihkelu_to_mueller, "to_mueller", jones)
+
+
+def mueller_born_wolf(jones: Sequence[Sequence[complex]]) -> Mueller:
+    """The same over Stokes vectors with S3 = 2 Im(Ex* Ey), as Born and Wolf have them."""
+    return _converted(_library.dihkelu_mueller_born_wolf, "mueller_born_wolf", jones)
+
+
+def reflectance_range(n1: tuple[float, float], n2: tuple[float, float]) -> tuple[float, float]:
+    """A low and a high reflectance of a bare surface met head-on, both indices known as ranges."""
+    out = _numbers(count=2)
+    answered(_library.dihkelu_reflectance_range(*n1, *n2, out, len(out)), "reflectance_range")
+    return out[0], out[1]
+
+
+def quarter_waves(n: float, thickness_nm: float, wavelength_nm: float) -> tuple[int, float]:
+    """n times the thickness in quarters of the wavelength: how many, and the length that is over."""
+    over = ctypes.c_double()
+    count = answered(_library.dihkelu_quarter_waves(n, thickness_nm, wavelength_nm, ctypes.byref(over)), "quarter_waves")
+    return count, over.value

@@ -1,0 +1,81 @@
+"""The shared library: found, or built from its C source where there is a compiler.
+
+In order: the file that the environment variable DIHKELU_LIBRARY names; the one built into the package when it was installed; in the
+repository c/build/libdihkelu.so, which is built where it is missing or older than its source; the system's.
+"""
+from __future__ import annotations
+
+import ctypes
+import ctypes.util
+import os
+import pathlib
+import subprocess
+
+VERSION = 0x00000003  # of the header that these calls are of: major times 2^16 plus minor
+HERE = pathlib.Path(__file__).resolve().parent
+
+Bytes, Numbers = ctypes.c_char_p, ctypes.POINTER(ctypes.c_double)
+U32, U64, Size, Double = ctypes.c_uint32, ctypes.c_uint64, ctypes.c_size_t, ctypes.c_double
+Count = ctypes.POINTER(U32)
+SHEET = [Bytes, Size]
+LIST = [Numbers, Size]
+CALLS = {
+    "gate": SHEET,
+    "start": SHEET + [Count, Numbers, Numbers, Numbers],
+    "step": SHEET + [Count, Numbers, Numbers, Numbers],
+    "retune": SHEET + [U32, Numbers, Double],
+    "run": SHEET + LIST,
+    "answers": SHEET + [U32] + LIST,
+    "evaluate": [U32] + [Double] * 5 + LIST + LIST,
+    "stack": SHEET + [Double] * 4 + LIST,
+    "to_mueller": LIST + LIST,
+    "mueller_born_wolf": LIST + LIST,
+    "reflectance_range": [Double] * 4 + LIST,
+    "quarter_waves": [Double] * 3 + [Numbers],
+}
+
+
+class LibraryMissing(OSError):
+    """There is no library that can be loaded, or it is of another version."""
+
+
+def in_repository() -> pathlib.Path | None:
+    """The library of the repository that this file stands in, built anew where its source is newer."""
+    source = HERE.parent.parent / "c"
+    if not (source / "Makefile").exists():
+        return None
+    library = source / "build" / "libdihkelu.so"
+    newest = max((source / name).stat().st_mtime for name in ("dihkelu.c", "dihkelu.h"))
+    if not library.exists() or library.stat().st_mtime < newest:
+        done = subprocess.run(["make", "-s", "-C", str(source), "build/libdihkelu.so"], capture_output=True, text=True)
+        if done.returncode:
+            raise LibraryMissing(f"the library could not be built: {done.stderr.strip()}")
+    return library
+
+
+def found() -> str:
+    if named := os.environ.get("DIHKELU_LIBRARY"):
+        return named
+    for path in sorted(HERE.glob("_library*")):
+        return str(path)
+    if path := in_repository():
+        return str(path)
+    if system := ctypes.util.find_library("dihkelu"):
+        return system
+    raise LibraryMissing("there is no libdihkelu: install it, or say where it is in the environment variable DIHKELU_LIBRARY")
+
+
+def load() -> ctypes.CDLL:
+    path = found()
+    try:
+        library = ctypes.CDLL(path)
+    except OSError as e:
+        raise LibraryMissing(f"{path} cannot be loaded: {e}") from e
+    library.dihkelu_version.restype = U32
+    library.dihkelu_version.argtypes = []
+    if library.dihkelu_version() != VERSION:
+        raise LibraryMissing(f"{path} is of version {library.dihkelu_version():#010x}, these calls are of {VERSION:#010x}")
+    for name, arguments in CALLS.items():
+        call = getattr(library, "dihkelu_" + name)
+        call.restype, call.argtypes = U64, arguments
+    return library

@@ -1,0 +1,233 @@
+"""Tests of the package: python3 -m unittest discover -s python/tests (from the repository)."""
+import doctest
+import math
+import pathlib
+import random
+import struct
+import sys
+import types
+import unittest
+
+ROOT = pathlib.Path(__file__).resolve().parent.parent.parent
+try:
+    import dihkelu
+except ImportError:
+    sys.path.insert(0, str(ROOT / "python"))
+    import dihkelu
+from dihkelu import Coating, Glass, Layer, Sheet, Surface
+
+BARE = Sheet(500.0, 0.5, 0.5, (Surface(Coating.BARE, 1.0, 3.0, 0.0),))
+
+
+def bits(x):
+    return struct.pack(">d", x).hex().upper()
+
+
+def text_of(data):
+    """What the program `train` prints of a sheet, from the package's calls."""
+    try:
+        after = dihkelu.run(data)
+        start = dihkelu.Train(data)
+        surfaces = Sheet.from_bytes(data).surfaces
+    except dihkelu.Refused as e:
+        return f"refused {e.number} {e.place}\n"
+    lines = [f"{i} {'RT'[not s.reflected]} {bits(x)} {bits(y)}\n" for i, (s, (x, y)) in enumerate(zip(surfaces, after), 1)]
+    s, p = after[-1] if after else (start.s, start.p)
+    return "".join(lines) + f"sum {bits(s + p)}\n"
+
+
+class Examples(unittest.TestCase):
+    def test_every_sheet(self):
+        outs = sorted((ROOT / "examples").glob("*.out"))
+        self.assertGreater(len(outs), 50)
+        for out in outs:
+            with self.subTest(out.stem):
+                self.assertEqual(text_of(out.with_suffix(".sheet").read_bytes()), out.read_text())
+
+    def test_docstring(self):
+        self.assertEqual(doctest.testmod(dihkelu).failed, 0)
+
+
+class Sheets(unittest.TestCase):
+    def test_every_example_stays_bit_for_bit(self):
+        read = 0
+        for path in sorted((ROOT / "examples").glob("*.sheet")):
+            data = path.read_bytes()
+            try:
+                sheet = Sheet.from_bytes(data)
+            except dihkelu.NotASheet:
+                with self.assertRaises(dihkelu.Refused):
+                    dihkelu.gate(data)
+                continue
+            read += 1
+            self.assertEqual(sheet.to_bytes(), data)
+            self.assertEqual(Sheet.from_json(sheet.to_json()).to_bytes(), data)
+        self.assertGreater(read, 30)
+
+    def test_any_numbers(self):
+        rng = random.Random(1)
+
+        def any_float():
+            return struct.unpack(">d", rng.randbytes(8))[0]
+
+        for _ in range(500):
+            surfaces = []
+            for _ in range(rng.randrange(4)):
+                layers = [rng.choice([lambda: Layer(any_float(), any_float(), any_float()), lambda: Glass(*(any_float() for _ in range(4)))])() for _ in range(rng.randrange(4))]
+                surfaces.append(Surface(Coating(rng.randrange(8)), any_float(), any_float(), any_float(), rng.random() < 0.5, tuple(layers), rng.choice([None, any_float()])))
+            data = Sheet(any_float(), any_float(), any_float(), tuple(surfaces), rng.choice([None, 1, 2])).to_bytes()
+            self.assertEqual(Sheet.from_bytes(data).to_bytes(), data)
+            self.assertEqual(Sheet.from_json(Sheet.from_bytes(data).to_json()).to_bytes(), data)
+
+    def test_bytes_that_are_none(self):
+        data = BARE.to_bytes()
+        for wrong in (b"", data[:-1], data[:-4], data + bytes(4), b"\0" * 36, data[:-1] + b"\7"):
+            with self.assertRaises(dihkelu.NotASheet):
+                Sheet.from_bytes(wrong)
+        for wrong in ("", "[]", "{}", '{"surfaces": [{}]}'):
+            with self.assertRaises(dihkelu.NotASheet):
+                Sheet.from_json(wrong)
+
+    def test_edition(self):
+        self.assertEqual(BARE.to_bytes()[:4].hex(), "10000001")
+        glass = Surface(Coating.CUSTOM, 1.0, 1.5, 0.0, layers=(Glass(1.5, 0.0, 0.0, 100.0),))
+        self.assertEqual(Sheet(500.0, 1.0, 0.0, (glass,)).to_bytes()[:4].hex(), "10000002")
+
+
+class Trains(unittest.TestCase):
+    def test_steps_are_a_run(self):
+        for out in sorted((ROOT / "examples").glob("*.out")):
+            data = out.with_suffix(".sheet").read_bytes()
+            try:
+                after = dihkelu.run(data)
+            except dihkelu.Refused:
+                continue
+            train = dihkelu.Train(data)
+            self.assertEqual(train.surfaces, len(after))
+            for i, powers in enumerate(after):
+                self.assertEqual(train.step(), i + 1)
+                self.assertEqual((train.s, train.p), powers)
+            with self.assertRaises(dihkelu.NoSuchSurface):
+                train.step()
+
+    def test_retune(self):
+        train = dihkelu.Train(BARE)
+        self.assertEqual(train.retune(632.8), 0)
+        self.assertEqual(train.wavelength_nm, 632.8)
+        with self.assertRaises(dihkelu.WavelengthRefused) as caught:
+            train.retune(math.nan)
+        self.assertEqual((caught.exception.number, caught.exception.place), (11, 0))
+        self.assertEqual(train.wavelength_nm, 632.8)
+        self.assertIn("wavelength_nm=632.8", repr(train))
+
+
+class Refusals(unittest.TestCase):
+    def test_each(self):
+        out_of_grammar = BARE.to_bytes()[:32] + b"\xff" + BARE.to_bytes()[33:]
+        outside = Sheet(50.0, 0.5, 0.5)
+        cases = [
+            (dihkelu.InvalidParameter, 1, 0, lambda: dihkelu.evaluate(9, 1.0, 1.5, 0.0, 550.0)),
+            (dihkelu.TooManyLayers, 3, 0, lambda: dihkelu.evaluate(5, 1.0, 1.5, 0.0, 550.0, [(1.5, 0.0, 10.0)] * 65)),
+            (dihkelu.SheetLength, 4, 0, lambda: dihkelu.gate(b"")),
+            (dihkelu.OutOfGrammar, 5, 8, lambda: dihkelu.gate(out_of_grammar)),
+            (dihkelu.OutsideLimits, 6, 1, lambda: dihkelu.run(outside)),
+            (dihkelu.NoSuchSurface, 7, 0, lambda: dihkelu.answers(BARE, 1)),
+            (dihkelu.NoStack, 9, 3, lambda: dihkelu.stack("H^32H", 2.3, 1.46)),
+            (dihkelu.StackTooLong, 10, 0, lambda: dihkelu.stack("(H^31)^31", 2.3, 1.46)),
+            (dihkelu.NoRange, 13, 0, lambda: dihkelu.reflectance_range((2.0, 1.0), (1.0, 1.0))),
+            (dihkelu.NoFilm, 14, 0, lambda: dihkelu.quarter_waves(0.5, 1.0, 550.0)),
+        ]
+        for kind, number, place, call in cases:
+            with self.subTest(kind.__name__), self.assertRaises(kind) as caught:
+                call()
+            self.assertEqual((caught.exception.number, caught.exception.place), (number, place))
+            self.assertIsInstance(caught.exception, dihkelu.Refused)
+            self.assertIn(f"refused {number} {place}: ", str(caught.exception))
+
+    def test_one_for_each_number_of_the_header(self):
+        header = (ROOT / "c" / "dihkelu.h").read_text()
+        table = header[header.index(" A call returns one number") : header.index(" A call that refuses writes nothing")]
+        numbers = {int(line[3:6]) for line in table.split("\n") if line[3:6].strip().isdigit()}
+        self.assertEqual(set(dihkelu.refusals.BY_NUMBER), numbers)
+
+    def test_each_call_of_the_header(self):
+        header = (ROOT / "c" / "dihkelu.h").read_text()
+        for name in dihkelu.library.CALLS:
+            self.assertIn(f"uint64_t dihkelu_{name}(", header)
+        self.assertEqual(header.count("DIHKELU_MUST_USE uint64_t dihkelu_"), len(dihkelu.library.CALLS))
+        self.assertIn(f"DIHKELU_VERSION 0x{dihkelu.library.VERSION:08x}u", header)
+
+
+class Surfaces(unittest.TestCase):
+    def test_answers(self):
+        a = dihkelu.answers(BARE, 0)
+        self.assertFalse(a.coated)
+        self.assertEqual((a.reflectance_s, a.transmittance_p, a.response), (0.25, 0.75, None))
+        mirror = Sheet(550.0, 1.0, 0.0, (Surface(Coating.MIRROR, 1.0, 1.52, 0.3, True),))
+        a = dihkelu.answers(mirror, 0)
+        self.assertEqual(a.reflectance_s, a.response.reflectance_s)
+        self.assertEqual(a.jones_reflected[0][0], a.response.rs)
+        self.assertEqual(dihkelu.to_mueller(a.jones_reflected), a.mueller_reflected)
+
+    def test_lists(self):
+        angles = [0.0, 0.25, 0.5]
+        whole = dihkelu.evaluate(dihkelu.MGF2, 1.0, 1.52, angles, 550.0)
+        each = [dihkelu.evaluate(dihkelu.MGF2, 1.0, 1.52, a, 550.0) for a in angles]
+        self.assertEqual(whole.rs, [r.rs for r in each])
+        self.assertEqual(whole.absorptance_p, [r.absorptance_p for r in each])
+        both = dihkelu.evaluate(dihkelu.MGF2, 1.0, 1.52, angles, [500.0, 550.0, 600.0])
+        self.assertEqual(both.reflectance_s[1], whole.reflectance_s[1])
+        with self.assertRaises(ValueError):
+            dihkelu.evaluate(dihkelu.MGF2, 1.0, 1.52, angles, [500.0])
+        with self.assertRaises(dihkelu.InvalidParameter):
+            dihkelu.evaluate(dihkelu.MGF2, 1.0, 1.52, angles, [500.0, -1.0, 550.0])
+
+    def test_arrays(self):
+        try:
+            import numpy
+        except ImportError:
+            numpy = None
+        if numpy is None:  # a stand-in: what is asked of numpy is tolist, shape and array
+            stand_in = types.ModuleType("numpy")
+            stand_in.array = lambda x: Array(x)
+            sys.modules["numpy"] = stand_in
+            self.addCleanup(sys.modules.pop, "numpy")
+            numpy = stand_in
+        angles = numpy.array([0.0, 0.25, 0.5])
+        found = dihkelu.evaluate(dihkelu.MGF2, 1.0, 1.52, angles, 550.0).reflectance_s
+        self.assertEqual(found.shape, (3,))
+        self.assertEqual(found.tolist(), dihkelu.evaluate(dihkelu.MGF2, 1.0, 1.52, [0.0, 0.25, 0.5], 550.0).reflectance_s)
+
+    def test_stack(self):
+        layers = dihkelu.stack("(HL)^7 H", 2.3, 1.46, design_wavelength_nm=1064.0)
+        self.assertEqual(len(layers), 15)
+        self.assertEqual(layers[0], Layer(2.3, 0.0, 1064.0 / (4 * 2.3)))
+        self.assertGreater(dihkelu.evaluate(dihkelu.LAYERS, 1.0, 1.52, 0.0, 1064.0, layers).reflectance_s, 0.99)
+
+    def test_mueller(self):
+        empty = ((1, 0), (0, 1))
+        last = sys.float_info.epsilon  # the Rust's own rounding, which the answers have
+        self.assertEqual([row[i] for i, row in enumerate(dihkelu.to_mueller(empty))], [1.0, 1.0, 1.0 + last, -1.0 - last])
+        self.assertEqual([row[i] for i, row in enumerate(dihkelu.mueller_born_wolf(empty))], [1.0] * 4)
+
+    def test_the_rest(self):
+        low, high = dihkelu.reflectance_range((1.0, 1.0), (1.5, 1.5))
+        self.assertTrue(low <= 0.04 <= high)
+        self.assertEqual(dihkelu.quarter_waves(2.3, 250.0, 1064.0)[0], 2)
+        self.assertTrue(dihkelu.environment_ok())
+        self.assertEqual(dihkelu.version(), (dihkelu.library.VERSION >> 16, dihkelu.library.VERSION & 0xFFFF))
+
+
+class Array(list):
+    """A stand-in for an array of numpy's."""
+
+    @property
+    def shape(self):
+        return (len(self),)
+
+    def tolist(self):
+        return list(self)
+
+
+if __name__ == "__main__":
+    unittest.main()
