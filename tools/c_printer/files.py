@@ -1,7 +1,7 @@
-"""The files of c/ that are made."""
+"""The files of the release that are made."""
 import pathlib
 
-from . import emit, fold, program, source
+from . import emit, fold, header as headers, program, source
 
 BANNER = """// Made by tools/c_source from the checked program; a change is made in crates/ and this file written anew.
 // SPDX-License-Identifier: MIT OR Apache-2.0
@@ -76,33 +76,6 @@ TRAIN_PRELUDE = """//
 """
 
 
-def manual(header):
-    """The manual page dihkelu(3): the header's own comments and declarations."""
-    text = [line for line in header.split("\n") if not line.startswith(("#if", "#e", "#include"))]
-    begin = next(i for i, line in enumerate(text) if line.startswith("/* ---- the version"))
-    top = "\n".join(text[:begin])
-    intro = top[top.index("/*") : top.index("*/")].replace("/* ", "", 1).split("\n")
-    rest = "\n".join(text[begin:]).split("static inline int dihkelu_environment_ok")[1]
-    rest = rest[rest.index("/* ---- the calls") :].split("\n")
-    cut = len("DIHKELU_MUST_USE ")
-    rest = [line[cut:] if line.startswith(("DIHKELU_MUST_USE ", " " * 2 * cut)) else line for line in rest if line != "}"]
-
-    def roff(lines):
-        lines = [line.replace("\\", "\\e").replace("-", "\\-") for line in lines]
-        return "\n".join("\\&" + line if line[:1] in (".", "'") else line for line in lines)
-
-    intro = [line[3:] if line.startswith(" * ") else line.lstrip(" *") for line in intro]
-    return (
-        '.\\" Made by tools/c_source from the header.\n'
-        '.TH DIHKELU 3 "" "dihkelu"\n.SH NAME\ndihkelu \\- light through a train of coated windows\n.SH SYNOPSIS\n'
-        ".B #include <dihkelu.h>\n.PP\nLink with \\-ldihkelu \\-lm.\n.SH DESCRIPTION\n.nf\n"
-        + roff(intro).strip()
-        + "\n.fi\n.SH CALLS\n.nf\n"
-        + roff(rest).strip()
-        + "\n.fi\n.SH SEE ALSO\n.BR train (1)\n"
-    )
-
-
 def calls(e, found):
     if e[0] == "call":
         found.append(e[1])
@@ -172,7 +145,7 @@ class Unit:
 
 
 def made(root, library, text):
-    """Each file's name and what is in it."""
+    """Each file's path and what is in it."""
     items, heads = source.sources(root)
 
     def exports(functions):
@@ -189,4 +162,12 @@ def made(root, library, text):
     body = train.print(types, lambda name: False)
     t = BANNER + TRAIN_PRELUDE + "\n\n".join(types.definitions[first:]) + "\n\n" + body
     header = (pathlib.Path(root) / "include" / "dihkelu.h").read_text()
-    return {"dihkelu.c": c, "train_text.c": t, "dihkelu.h": header, "dihkelu.3": manual(header)}
+    return {
+        "c/dihkelu.c": c,
+        "c/train_text.c": t,
+        "c/dihkelu.h": header,
+        "c/dihkelu.3": headers.manual(header),
+        "fortran/dihkelu.f90": headers.fortran(header),
+        "rust/dihkelu-sys/src/raw.rs": headers.rust(header),
+        "rust/dihkelu-sys/Cargo.toml": headers.cargo(header),
+    }

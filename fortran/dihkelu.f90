@@ -1,0 +1,232 @@
+! Made by tools/c_source from include/dihkelu.h, which says what each call does.
+! SPDX-License-Identifier: MIT OR Apache-2.0
+!
+! A call returns 64 bits: test dihkelu_refusal of them first. A list is passed with its count of elements behind it.
+! Fortran has no unsigned numbers: counts and codes are below 2**31, and dihkelu_place gives 64 bits.
+module dihkelu
+    use, intrinsic :: iso_c_binding, only: c_double, c_int8_t, c_int32_t, c_int64_t, c_size_t
+    implicit none
+    private
+
+    integer(c_int32_t), parameter, public :: dihkelu_header_version = 3
+    integer(c_int32_t), parameter, public :: dihkelu_response_count = 16
+    integer(c_int32_t), parameter, public :: dihkelu_bare_count = 53
+    integer(c_int32_t), parameter, public :: dihkelu_coated_count = 69
+    integer(c_int32_t), parameter, public :: dihkelu_stack_count = 192
+    integer(c_int32_t), parameter, public :: dihkelu_mueller_count = 16
+
+    public :: dihkelu_version, dihkelu_gate, dihkelu_start, dihkelu_step, dihkelu_retune, dihkelu_run, dihkelu_answers, &
+        dihkelu_evaluate, dihkelu_stack, dihkelu_to_mueller, dihkelu_mueller_born_wolf, dihkelu_reflectance_range, &
+        dihkelu_quarter_waves, dihkelu_refusal, dihkelu_place, dihkelu_value
+
+    interface
+        function dihkelu_version() bind(c, name='dihkelu_version') result(returned)
+            import :: c_int32_t
+            integer(c_int32_t) :: returned
+        end function dihkelu_version
+
+        ! The gate. A sheet is of edition 1, or of edition 2, in which a layer may be of kind 6, a glass whose index changes with
+        ! colour, and a kind 7 may stand before a surface: the wavelength from there on. Returns the count of surfaces; refuses
+        ! with 4, 5, 6.
+        function dihkelu_gate(sheet, sheet_count) bind(c, name='dihkelu_gate') result(returned)
+            import :: c_int64_t, c_int8_t, c_size_t
+            integer(c_int8_t), intent(in) :: sheet(*)
+            integer(c_size_t), value :: sheet_count
+            integer(c_int64_t) :: returned
+        end function dihkelu_gate
+
+        ! A train's state is four numbers: surfaces done, s, p and the wavelength held in nm. The calls take any state, also one
+        ! that no train has been in. Up to version 0.2 a state had no wavelength, and start and step wrote s and p to a list.
+        !
+        ! A fresh train: no surface done, the BEAM's s, p and wavelength. Returns the count of surfaces; refuses with 4, 5, 6.
+        function dihkelu_start(sheet, sheet_count, surfaces_done, s, p, wavelength_nm) bind(c, name='dihkelu_start') &
+            result(returned)
+            import :: c_double, c_int32_t, c_int64_t, c_int8_t, c_size_t
+            integer(c_int8_t), intent(in) :: sheet(*)
+            integer(c_size_t), value :: sheet_count
+            integer(c_int32_t), intent(inout) :: surfaces_done
+            real(c_double), intent(inout) :: s
+            real(c_double), intent(inout) :: p
+            real(c_double), intent(inout) :: wavelength_nm
+            integer(c_int64_t) :: returned
+        end function dihkelu_start
+
+        ! A step: takes the surface after those done, at the wavelength of the kind 7 before it or else at the one held, which is
+        ! held then. Returns the surfaces done then; refuses with 4, 5, 6, 7, 11, and the state is as before.
+        function dihkelu_step(sheet, sheet_count, surfaces_done, s, p, wavelength_nm) bind(c, name='dihkelu_step') &
+            result(returned)
+            import :: c_double, c_int32_t, c_int64_t, c_int8_t, c_size_t
+            integer(c_int8_t), intent(in) :: sheet(*)
+            integer(c_size_t), value :: sheet_count
+            integer(c_int32_t), intent(inout) :: surfaces_done
+            real(c_double), intent(inout) :: s
+            real(c_double), intent(inout) :: p
+            real(c_double), intent(inout) :: wavelength_nm
+            integer(c_int64_t) :: returned
+        end function dihkelu_step
+
+        ! A retune: another wavelength for the surfaces not yet done; those done keep their powers. Returns the surfaces done;
+        ! refuses with 4, 5, 6, 11, and the wavelength held is as before.
+        function dihkelu_retune(sheet, sheet_count, surfaces_done, wavelength_nm, new_wavelength_nm) &
+            bind(c, name='dihkelu_retune') result(returned)
+            import :: c_double, c_int32_t, c_int64_t, c_int8_t, c_size_t
+            integer(c_int8_t), intent(in) :: sheet(*)
+            integer(c_size_t), value :: sheet_count
+            integer(c_int32_t), value :: surfaces_done
+            real(c_double), intent(inout) :: wavelength_nm
+            real(c_double), value :: new_wavelength_nm
+            integer(c_int64_t) :: returned
+        end function dihkelu_retune
+
+        ! A whole run from the start. Writes s, p after each surface, 2 doubles for each, and returns the count of surfaces;
+        ! refuses with 4, 5, 6, 8.
+        function dihkelu_run(sheet, sheet_count, list, list_count) bind(c, name='dihkelu_run') result(returned)
+            import :: c_double, c_int64_t, c_int8_t, c_size_t
+            integer(c_int8_t), intent(in) :: sheet(*)
+            integer(c_size_t), value :: sheet_count
+            real(c_double), intent(inout) :: list(*)
+            integer(c_size_t), value :: list_count
+            integer(c_int64_t) :: returned
+        end function dihkelu_run
+
+        ! The answers of a surface, counted from 0, at the wavelength that steps alone meet it with: that of the last kind 7 up
+        ! to it, or else the BEAM's. Returns how many doubles it wrote; refuses with 4, 5, 6, 7, 8. In order:
+        ! 0        1 for a coated surface, 0 for a bare one
+        ! 1 to 4   the powers R_s, R_p, T_s, T_p
+        ! 5 to 12  the Jones matrix of the reflected light: m00 (s), m01, m10, m11 (p), each re, im
+        ! 13 to 20  the same of the transmitted light
+        ! 21 to 36  the Mueller matrix of the reflected light, row after row
+        ! 37 to 52  the same of the transmitted light
+        ! 53 to 68  of a coated surface alone: its response, as dihkelu_evaluate writes it
+        function dihkelu_answers(sheet, sheet_count, surface, list, list_count) bind(c, name='dihkelu_answers') &
+            result(returned)
+            import :: c_double, c_int32_t, c_int64_t, c_int8_t, c_size_t
+            integer(c_int8_t), intent(in) :: sheet(*)
+            integer(c_size_t), value :: sheet_count
+            integer(c_int32_t), value :: surface
+            real(c_double), intent(inout) :: list(*)
+            integer(c_size_t), value :: list_count
+            integer(c_int64_t) :: returned
+        end function dihkelu_answers
+
+        ! SurfaceCoating::evaluate. Codes: 1 IdealAr, 2 MgF2 (at the design wavelength), 3 BroadbandAr,
+        ! 4 HighReflectanceMirror, 5 Custom layers, 6 Custom beamsplitter, 7 Custom mirror, 8 Custom IdealAr. The layers are
+        ! n, k, thickness in nm of one after the other, from the side of the lower index (from the incident side where both are
+        ! equal). Returns how many doubles it wrote; refuses with 1, 3, 8. In order:
+        ! 0 to 7   rs, rp, ts, tp, each re, im
+        ! 8 to 11  R_s, R_p, T_s, T_p
+        ! 12, 13    the phases of rs and rp in radians
+        ! 14, 15    what stays in the glass of s and of p: (1 - R) - T, from 0 to 1
+        function dihkelu_evaluate(code, design_wavelength_nm, n_incident, n_substrate, angle_incident_rad, wavelength_nm, &
+            layers, layers_count, list, list_count) bind(c, name='dihkelu_evaluate') result(returned)
+            import :: c_double, c_int32_t, c_int64_t, c_size_t
+            integer(c_int32_t), value :: code
+            real(c_double), value :: design_wavelength_nm
+            real(c_double), value :: n_incident
+            real(c_double), value :: n_substrate
+            real(c_double), value :: angle_incident_rad
+            real(c_double), value :: wavelength_nm
+            real(c_double), intent(in) :: layers(*)
+            integer(c_size_t), value :: layers_count
+            real(c_double), intent(inout) :: list(*)
+            integer(c_size_t), value :: list_count
+            integer(c_int64_t) :: returned
+        end function dihkelu_evaluate
+
+        ! A stack in the coating makers' shorthand, such as "(HL)^7 H", of text_count bytes (no byte 0 ends it). H, L and M
+        ! are quarter waves of n_h, n_l, n_m at the design wavelength: thickness design / (4 n), k 0. A whole number 1 to 99
+        ! before a letter multiplies its thickness; a power ^1 to ^31 repeats the letter or bracket before it; brackets nest at
+        ! most four deep; spaces are skipped, but not inside a number. Writes n, k, thickness in nm of one layer after the
+        ! other, as dihkelu_evaluate takes them, and returns how many doubles these are; refuses with 1, 9, 10, 8. All three
+        ! indices must be positive and finite, also those of letters that do not occur.
+        function dihkelu_stack(text, text_count, n_h, n_l, n_m, design_wavelength_nm, list, list_count) &
+            bind(c, name='dihkelu_stack') result(returned)
+            import :: c_double, c_int64_t, c_int8_t, c_size_t
+            integer(c_int8_t), intent(in) :: text(*)
+            integer(c_size_t), value :: text_count
+            real(c_double), value :: n_h
+            real(c_double), value :: n_l
+            real(c_double), value :: n_m
+            real(c_double), value :: design_wavelength_nm
+            real(c_double), intent(inout) :: list(*)
+            integer(c_size_t), value :: list_count
+            integer(c_int64_t) :: returned
+        end function dihkelu_stack
+
+        ! The Mueller matrix of a Jones matrix of 8 doubles: m00, m01, m10, m11, each re, im. Writes it row after row, 16
+        ! doubles, and returns 16; refuses with 1, 8. The first is the Rust's JonesMatrix::to_mueller, as dihkelu_answers has it:
+        ! its fourth column is the response to circular_right, (1, -i), so that empty space has -1 in its last place. The second
+        ! is over Stokes vectors with S3 = 2 Im(Ex* Ey), as Born and Wolf have them, and empty space has the identity.
+        function dihkelu_to_mueller(jones, jones_count, list, list_count) bind(c, name='dihkelu_to_mueller') &
+            result(returned)
+            import :: c_double, c_int64_t, c_size_t
+            real(c_double), intent(in) :: jones(*)
+            integer(c_size_t), value :: jones_count
+            real(c_double), intent(inout) :: list(*)
+            integer(c_size_t), value :: list_count
+            integer(c_int64_t) :: returned
+        end function dihkelu_to_mueller
+
+        function dihkelu_mueller_born_wolf(jones, jones_count, list, list_count) &
+            bind(c, name='dihkelu_mueller_born_wolf') result(returned)
+            import :: c_double, c_int64_t, c_size_t
+            real(c_double), intent(in) :: jones(*)
+            integer(c_size_t), value :: jones_count
+            real(c_double), intent(inout) :: list(*)
+            integer(c_size_t), value :: list_count
+            integer(c_int64_t) :: returned
+        end function dihkelu_mueller_born_wolf
+
+        ! A bare surface met head-on, its two indices known as ranges, low to high, within 1 to 4. Writes a low and a high
+        ! reflectance, 2 doubles, and returns 2; refuses with 13, 8. For every pair of doubles within the ranges the exact
+        ! (n1 - n2)^2 / (n1 + n2)^2 lies between the two; their gap exceeds the true spread by at most 18 2^-53, and
+        ! 0 <= low <= high <= 1. Where the ranges overlap low is 0.
+        function dihkelu_reflectance_range(n1_low, n1_high, n2_low, n2_high, list, list_count) &
+            bind(c, name='dihkelu_reflectance_range') result(returned)
+            import :: c_double, c_int64_t, c_size_t
+            real(c_double), value :: n1_low
+            real(c_double), value :: n1_high
+            real(c_double), value :: n2_low
+            real(c_double), value :: n2_high
+            real(c_double), intent(inout) :: list(*)
+            integer(c_size_t), value :: list_count
+            integer(c_int64_t) :: returned
+        end function dihkelu_reflectance_range
+
+        ! A film in quarter waves: p, which is n times the thickness, rounded once, in quarters q of the wavelength. Writes what
+        ! is over to *remainder_nm and returns the count, 16,000 at most: p is count·q + remainder exactly, the remainder from 0
+        ! (+0) and below q. Refuses with 14, and leaves *remainder_nm.
+        function dihkelu_quarter_waves(n, thickness_nm, wavelength_nm, remainder_nm) &
+            bind(c, name='dihkelu_quarter_waves') result(returned)
+            import :: c_double, c_int64_t
+            real(c_double), value :: n
+            real(c_double), value :: thickness_nm
+            real(c_double), value :: wavelength_nm
+            real(c_double), intent(inout) :: remainder_nm
+            integer(c_int64_t) :: returned
+        end function dihkelu_quarter_waves
+    end interface
+
+contains
+
+    ! The refusal's number; 0 for an answer.
+    elemental function dihkelu_refusal(returned) result(number)
+        integer(c_int64_t), intent(in) :: returned
+        integer(c_int32_t) :: number
+        number = int(ishft(returned, -32), c_int32_t)
+    end function dihkelu_refusal
+
+    ! The place of a refusal; 0 for an answer.
+    elemental function dihkelu_place(returned) result(place)
+        integer(c_int64_t), intent(in) :: returned
+        integer(c_int64_t) :: place
+        place = merge(ibits(returned, 0, 32), 0_c_int64_t, dihkelu_refusal(returned) /= 0)
+    end function dihkelu_place
+
+    ! The call's own number; 0 for a refusal.
+    elemental function dihkelu_value(returned) result(number)
+        integer(c_int64_t), intent(in) :: returned
+        integer(c_int32_t) :: number
+        number = int(merge(ibits(returned, 0, 32), 0_c_int64_t, dihkelu_refusal(returned) == 0), c_int32_t)
+    end function dihkelu_value
+end module dihkelu

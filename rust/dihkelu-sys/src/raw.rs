@@ -1,0 +1,138 @@
+//! Made by tools/c_source from include/dihkelu.h, which says what each call does.
+//! They are unsafe: what a caller owes stands there under "WHAT THE CALLER OWES".
+
+extern "C" {
+    pub fn dihkelu_version() -> u32;
+    /// The gate. A sheet is of edition 1, or of edition 2, in which a layer may be of kind 6, a glass whose index changes with
+    /// colour, and a kind 7 may stand before a surface: the wavelength from there on. Returns the count of surfaces; refuses
+    /// with 4, 5, 6.
+    pub fn dihkelu_gate(sheet: *const u8, sheet_count: usize) -> u64;
+    /// A train's state is four numbers: surfaces done, s, p and the wavelength held in nm. The calls take any state, also one
+    /// that no train has been in. Up to version 0.2 a state had no wavelength, and start and step wrote s and p to a list.
+    ///
+    /// A fresh train: no surface done, the BEAM's s, p and wavelength. Returns the count of surfaces; refuses with 4, 5, 6.
+    pub fn dihkelu_start(
+        sheet: *const u8,
+        sheet_count: usize,
+        surfaces_done: *mut u32,
+        s: *mut f64,
+        p: *mut f64,
+        wavelength_nm: *mut f64,
+    ) -> u64;
+    /// A step: takes the surface after those done, at the wavelength of the kind 7 before it or else at the one held, which is
+    /// held then. Returns the surfaces done then; refuses with 4, 5, 6, 7, 11, and the state is as before.
+    pub fn dihkelu_step(
+        sheet: *const u8,
+        sheet_count: usize,
+        surfaces_done: *mut u32,
+        s: *mut f64,
+        p: *mut f64,
+        wavelength_nm: *mut f64,
+    ) -> u64;
+    /// A retune: another wavelength for the surfaces not yet done; those done keep their powers. Returns the surfaces done;
+    /// refuses with 4, 5, 6, 11, and the wavelength held is as before.
+    pub fn dihkelu_retune(
+        sheet: *const u8,
+        sheet_count: usize,
+        surfaces_done: u32,
+        wavelength_nm: *mut f64,
+        new_wavelength_nm: f64,
+    ) -> u64;
+    /// A whole run from the start. Writes s, p after each surface, 2 doubles for each, and returns the count of surfaces;
+    /// refuses with 4, 5, 6, 8.
+    pub fn dihkelu_run(
+        sheet: *const u8,
+        sheet_count: usize,
+        list: *mut f64,
+        list_count: usize,
+    ) -> u64;
+    /// The answers of a surface, counted from 0, at the wavelength that steps alone meet it with: that of the last kind 7 up
+    /// to it, or else the BEAM's. Returns how many doubles it wrote; refuses with 4, 5, 6, 7, 8. In order:
+    /// 0        1 for a coated surface, 0 for a bare one
+    /// 1 to 4   the powers R_s, R_p, T_s, T_p
+    /// 5 to 12  the Jones matrix of the reflected light: m00 (s), m01, m10, m11 (p), each re, im
+    /// 13 to 20  the same of the transmitted light
+    /// 21 to 36  the Mueller matrix of the reflected light, row after row
+    /// 37 to 52  the same of the transmitted light
+    /// 53 to 68  of a coated surface alone: its response, as dihkelu_evaluate writes it
+    pub fn dihkelu_answers(
+        sheet: *const u8,
+        sheet_count: usize,
+        surface: u32,
+        list: *mut f64,
+        list_count: usize,
+    ) -> u64;
+    /// SurfaceCoating::evaluate. Codes: 1 IdealAr, 2 MgF2 (at the design wavelength), 3 BroadbandAr,
+    /// 4 HighReflectanceMirror, 5 Custom layers, 6 Custom beamsplitter, 7 Custom mirror, 8 Custom IdealAr. The layers are
+    /// n, k, thickness in nm of one after the other, from the side of the lower index (from the incident side where both are
+    /// equal). Returns how many doubles it wrote; refuses with 1, 3, 8. In order:
+    /// 0 to 7   rs, rp, ts, tp, each re, im
+    /// 8 to 11  R_s, R_p, T_s, T_p
+    /// 12, 13    the phases of rs and rp in radians
+    /// 14, 15    what stays in the glass of s and of p: (1 - R) - T, from 0 to 1
+    pub fn dihkelu_evaluate(
+        code: u32,
+        design_wavelength_nm: f64,
+        n_incident: f64,
+        n_substrate: f64,
+        angle_incident_rad: f64,
+        wavelength_nm: f64,
+        layers: *const f64,
+        layers_count: usize,
+        list: *mut f64,
+        list_count: usize,
+    ) -> u64;
+    /// A stack in the coating makers' shorthand, such as "(HL)^7 H", of text_count bytes (no byte 0 ends it). H, L and M
+    /// are quarter waves of n_h, n_l, n_m at the design wavelength: thickness design / (4 n), k 0. A whole number 1 to 99
+    /// before a letter multiplies its thickness; a power ^1 to ^31 repeats the letter or bracket before it; brackets nest at
+    /// most four deep; spaces are skipped, but not inside a number. Writes n, k, thickness in nm of one layer after the
+    /// other, as dihkelu_evaluate takes them, and returns how many doubles these are; refuses with 1, 9, 10, 8. All three
+    /// indices must be positive and finite, also those of letters that do not occur.
+    pub fn dihkelu_stack(
+        text: *const u8,
+        text_count: usize,
+        n_h: f64,
+        n_l: f64,
+        n_m: f64,
+        design_wavelength_nm: f64,
+        list: *mut f64,
+        list_count: usize,
+    ) -> u64;
+    /// The Mueller matrix of a Jones matrix of 8 doubles: m00, m01, m10, m11, each re, im. Writes it row after row, 16
+    /// doubles, and returns 16; refuses with 1, 8. The first is the Rust's JonesMatrix::to_mueller, as dihkelu_answers has it:
+    /// its fourth column is the response to circular_right, (1, -i), so that empty space has -1 in its last place. The second
+    /// is over Stokes vectors with S3 = 2 Im(Ex* Ey), as Born and Wolf have them, and empty space has the identity.
+    pub fn dihkelu_to_mueller(
+        jones: *const f64,
+        jones_count: usize,
+        list: *mut f64,
+        list_count: usize,
+    ) -> u64;
+    pub fn dihkelu_mueller_born_wolf(
+        jones: *const f64,
+        jones_count: usize,
+        list: *mut f64,
+        list_count: usize,
+    ) -> u64;
+    /// A bare surface met head-on, its two indices known as ranges, low to high, within 1 to 4. Writes a low and a high
+    /// reflectance, 2 doubles, and returns 2; refuses with 13, 8. For every pair of doubles within the ranges the exact
+    /// (n1 - n2)^2 / (n1 + n2)^2 lies between the two; their gap exceeds the true spread by at most 18 2^-53, and
+    /// 0 <= low <= high <= 1. Where the ranges overlap low is 0.
+    pub fn dihkelu_reflectance_range(
+        n1_low: f64,
+        n1_high: f64,
+        n2_low: f64,
+        n2_high: f64,
+        list: *mut f64,
+        list_count: usize,
+    ) -> u64;
+    /// A film in quarter waves: p, which is n times the thickness, rounded once, in quarters q of the wavelength. Writes what
+    /// is over to *remainder_nm and returns the count, 16,000 at most: p is count·q + remainder exactly, the remainder from 0
+    /// (+0) and below q. Refuses with 14, and leaves *remainder_nm.
+    pub fn dihkelu_quarter_waves(
+        n: f64,
+        thickness_nm: f64,
+        wavelength_nm: f64,
+        remainder_nm: *mut f64,
+    ) -> u64;
+}
