@@ -196,7 +196,8 @@ class Printer:
     def made(self, e):
         kind = e[0]
         if kind == "lit":
-            return self.literal(e), 20
+            text = self.literal(e)
+            return text, UNARY if text.startswith("-") else 20
         if kind in ("true", "false"):
             return kind, 20
         if kind == "var":
@@ -248,7 +249,7 @@ class Printer:
     def unary(self, e):
         op, x, t = e[1], e[2], e[3]
         if op == "floatNeg":
-            return f"-{self.text(x, UNARY + (x[0] == 'un'))}", UNARY
+            return f"-{self.text(x, UNARY + 1)}", UNARY
         if op == "not" and t == ("bool",):
             return f"!{self.text(x, UNARY)}", UNARY
         if op == "cast":
