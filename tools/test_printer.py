@@ -76,6 +76,14 @@ class Moved(unittest.TestCase):
         c = printed([F64, F64, F64, F64, F64], 3, assign("4", op2("floatSub", copy(1), copy(2))), assign("0", op2("floatSub", copy(4), copy(3))), "return")
         self.assertIn("return a - b - c;", c)
 
+    def test_bits(self):
+        c = printed([U64, U64, U64, U64, U64], 2, assign("3", op2("shl", copy(1), ONE)), assign("4", op2("(shr unsigned)", copy(1), "(int 64 63)")),
+                    assign("3", op2("or", copy(3), copy(4))), assign("0", op2("xor", copy(3), copy(2))), "return")  # fmt: skip
+        self.assertIn("return ((a << 1) | (a >> 63)) ^ b;", c)
+        byte = "(tyInt 8)"
+        c = printed([byte, byte, byte], 1, assign("2", op2("(shr unsigned)", copy(1), "(int 8 3)")), assign("0", f"(op1 not {copy(2)})"), "return")
+        self.assertIn("return (uint8_t)~(uint8_t)(a >> 3);", c)
+
     def test_signs(self):
         minus_zero = f"(float 64 {1 << 63})"
         c = printed([F64, F64], 1, assign("1", f"(op1 floatNeg {minus_zero})"), assign("0", op2("floatMul", copy(1), minus_zero)), "return")
@@ -88,7 +96,7 @@ class Refused(unittest.TestCase):
             printed(list(locals_), 1, *steps)
 
     def test_unknown(self):
-        self.refused(assign("0", op2("(shr unsigned)", copy(1), ONE)), "return")
+        self.refused(assign("0", op2("(rotateLeft unsigned)", copy(1), ONE)), "return")
         self.refused(assign("0", op2("(div signed)", copy(1), ONE)), "return")
         self.refused(assign("0", f"(op1 bitReverse {copy(1)})"), "return")
         self.refused("(goto 3)", "return")

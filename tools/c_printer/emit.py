@@ -11,11 +11,12 @@ KEYWORDS = set(
 WIDTH = 118
 INFIX = {  # operator, binding strength
     "mul": ("*", 12), "div": ("/", 12), "rem": ("%", 12), "floatMul": ("*", 12), "floatDiv": ("/", 12),
-    "add": ("+", 11), "sub": ("-", 11), "floatAdd": ("+", 11), "floatSub": ("-", 11), "shl": ("<<", 10),
+    "add": ("+", 11), "sub": ("-", 11), "floatAdd": ("+", 11), "floatSub": ("-", 11), "shl": ("<<", 10), "shr": (">>", 10), "and": ("&", 7), "xor": ("^", 6), "or": ("|", 5),
     "lt": ("<", 9), "le": ("<=", 9), "floatLt": ("<", 9), "floatLe": ("<=", 9),
     "eq": ("==", 8), "ne": ("!=", 8), "floatEq": ("==", 8), "floatNe": ("!=", 8),
 }  # fmt: skip
-ARITHMETIC = {"mul", "div", "rem", "add", "sub", "shl"}
+ARITHMETIC = {"mul", "div", "rem", "add", "sub", "shl", "shr", "and", "xor", "or"}
+BITWISE = {"shl", "shr", "and", "xor", "or"}
 UNARY, AND, OR, CHOICE = 14, 4, 3, 2
 
 
@@ -252,6 +253,9 @@ class Printer:
             return f"-{self.text(x, UNARY + 1)}", UNARY
         if op == "not" and t == ("bool",):
             return f"!{self.text(x, UNARY)}", UNARY
+        if op == "not" and t[0] == "int":
+            made = f"~{self.text(x, UNARY)}"
+            return (made if t[1] >= 32 else f"({self.types.name(t)}){made}"), UNARY
         if op == "cast":
             return f"({self.types.name(t)}){self.text(x, UNARY)}", UNARY
         if op == "intToFloat":
@@ -272,11 +276,11 @@ class Printer:
             raise Unknown(e)
         sign, strength = INFIX[op]
         left, right = self.text(a, strength), self.text(b, strength + 1)
+        if op in BITWISE and t != ("bool",):  # what mixes with these has brackets; nobody knows how strongly they bind
+            left, right = (x if same == (op,) else self.text(e, UNARY) for x, same, e in ((left, a[1:2], a), (right, None, b)))
         if op in ARITHMETIC and a[0] == "lit" and (b[0] == "lit" or op == "shl"):
             left = f"UINT{t[1]}_C({a[2]})"
-        if op == "shl":
-            left, right = self.text(a, UNARY) if a[0] != "lit" else left, self.text(b, UNARY)
-        if op in ARITHMETIC and t[1] < 32:
+        if op in ARITHMETIC and t[0] == "int" and t[1] < 32:
             return f"({self.types.name(t)})({left} {sign} {right})", UNARY
         return f"{left} {sign} {right}", strength
 

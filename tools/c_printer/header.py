@@ -1,5 +1,6 @@
 """The calls that include/dihkelu.h declares, and what is made of them: the manual page, and the declarations for Fortran and Rust."""
 import re
+import textwrap
 
 MADE = "Made by tools/c_source from include/dihkelu.h, which says what each call does."
 
@@ -8,11 +9,11 @@ class Call:
     def __init__(self, comment, returns, name, arguments):
         self.comment = comment  # lines; empty where the one before speaks of both
         self.returns, self.name = returns, name
-        self.arguments = []  # name, C's type without *, whether it is lent, whether it is written, whether it is a list
-        names = [a.split()[-1].lstrip("*") for a in arguments]
-        for a, n in zip(arguments, names):
+        self.arguments = []  # name, C's type without *, whether it is lent, whether it is written, whether it is a list, whose count is the next
+        for a, after in zip(arguments, arguments[1:] + [""]):
+            n = a.split()[-1].lstrip("*")
             kind = re.sub(r"\bconst\b|\*|\b" + n + r"\b", "", a).strip()
-            self.arguments.append((n, kind, "*" in a, "*" in a and "const" not in a, n + "_count" in names))
+            self.arguments.append((n, kind, "*" in a, "*" in a and "const" not in a, "*" in a and after.startswith("size_t ")))
         for n, kind, *_ in self.arguments:
             if kind not in ("uint8_t", "uint32_t", "uint64_t", "size_t", "double"):
                 raise ValueError(f"{name}: the type {kind} of {n} is not known")
@@ -96,7 +97,8 @@ def fortran(header):
     public = [c.name for c in calls(header)] + ["dihkelu_refusal", "dihkelu_place", "dihkelu_value"]
     out += [""] + continued(["public ::"] + [n + ("," if n != public[-1] else "") for n in public], "    ") + ["", "    interface"]
     for c in calls(header):
-        out += [f"        ! {line}".rstrip() for line in c.comment]
+        for line in c.comment:  # Fortran's lines have 132 characters at most
+            out += [f"        ! {part}" for part in textwrap.wrap(line, 120)] or ["        !"]
         arguments = [a[0] for a in c.arguments]
         listed = [n + ("," if n != arguments[-1] else ")") for n in arguments] or [")"]
         head = [f"function {c.name}(" + listed[0]] + listed[1:] + [f"bind(c, name='{c.name}')", "result(returned)"]
