@@ -45,9 +45,9 @@ class Run(Folder):
         self.assertEqual(run(self.folder / "tools/test_train"), (1, "", "tools/test_train: train is not built yet; run: rt check train\n"))
 
     def test_no_toolchain(self):
-        for tool, words in [("run", ["train"]), ("hostile", []), ("examples", []), ("compare", []), ("bench", []), ("library", []), ("test", []), ("test_header", [])]:
+        for tool, words in [("run", ["train"]), ("hostile", []), ("examples", []), ("compare", []), ("bench", []), ("library", []), ("test", []), ("test_header", []), ("test_release", [])]:
             # commands that the tool may look for before rt, but no rt
-            for name in ["cc", "valgrind", "cargo", "rustc", "python3"]:
+            for name in ["cc", "valgrind", "cargo", "rustc", "python3", "objcopy"]:
                 self.write(f"bin/{name}", "#!/bin/sh\n")
             status, out, said = run("/bin/bash", self.folder / "tools" / tool, *words, PATH=f"{self.folder}/bin:/usr/bin:/bin")
             self.assertEqual((status, out + said), (1, f"tools/{tool}: the Rattle toolchain is needed: put its bin/, where rt is, on the PATH\n"))
