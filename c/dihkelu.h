@@ -39,7 +39,7 @@
  * and any number of threads may call at once. Where an answer is not a number its bits may be those of any NaN.
  *
  * Link with libdihkelu.a and the C library's mathematics (-lm): its fmod is called. The proved library is for x86-64; the
- * one that is built from C (c/) is for any machine of 64 bits.
+ * one that is built from C (c/) is for machines of 64 bits.
  *
  * WHAT THE CALLER OWES, since no callee can check it:
  *   - A sheet, a text, a list of layers, a Jones matrix and a list that is written are each passed as a pointer and a
