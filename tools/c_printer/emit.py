@@ -11,13 +11,14 @@ KEYWORDS = set(
 WIDTH = 118
 INFIX = {  # operator, binding strength
     "mul": ("*", 12), "div": ("/", 12), "rem": ("%", 12), "floatMul": ("*", 12), "floatDiv": ("/", 12),
-    "add": ("+", 11), "sub": ("-", 11), "floatAdd": ("+", 11), "floatSub": ("-", 11), "shl": ("<<", 10), "shr": (">>", 10), "and": ("&", 7), "xor": ("^", 6), "or": ("|", 5),
+    "add": ("+", 11), "sub": ("-", 11), "floatAdd": ("+", 11), "floatSub": ("-", 11),
+    "shl": ("<<", 10), "shr": (">>", 10), "and": ("&", 7), "xor": ("^", 6), "or": ("|", 5),
     "lt": ("<", 9), "le": ("<=", 9), "floatLt": ("<", 9), "floatLe": ("<=", 9),
     "eq": ("==", 8), "ne": ("!=", 8), "floatEq": ("==", 8), "floatNe": ("!=", 8),
 }  # fmt: skip
 ARITHMETIC = {"mul", "div", "rem", "add", "sub", "shl", "shr", "and", "xor", "or"}
 BITWISE = {"shl", "shr", "and", "xor", "or"}
-UNARY, AND, OR, CHOICE = 14, 4, 3, 2
+UNARY, AND, OR = 14, 4, 3
 
 
 def identifier(name):
@@ -57,7 +58,9 @@ class Types:
         return f"as.{label}.{names[i] if names else 'part%d' % i}"
 
     def short(self, t):
-        return {"int": lambda: f"u{t[1]}", "float": lambda: "f64", "bool": lambda: "bool"}.get(t[0], lambda: self.name(t))()
+        if t[0] == "int":
+            return f"u{t[1]}"
+        return "f64" if t[0] == "float" else self.name(t)
 
     def name(self, t):
         if t in self.names:
@@ -505,8 +508,7 @@ class Printer:
         else:
             note = ""
         if of and len(arms) == 1 and len(arms[0][0]) == 1:
-            as_if = ["if", ("is", s[1], self.types.tag(of, arms[0][0][0])), arms[0][1], last]
-            return self.choice(as_if, depth, declare, note)
+            return self.choice(f"{self.text(s[1])} == {self.types.tag(of, arms[0][0][0])}", arms[0][1], last, depth, declare, note)
         out = [f"{pad}switch ({self.text(s[1])}) {{"]
         for i, (values, body) in enumerate(arms):
             for v in values:
@@ -526,10 +528,9 @@ class Printer:
             inner = [f"{pad[4:]}{{"] + inner + [f"{pad[4:]}}}"]
         return inner
 
-    def choice(self, s, depth, declare, note):
+    def choice(self, condition, then, other, depth, declare, note):
+        """One of two arms."""
         pad = "    " * depth
-        _, test, then, other = s
-        condition = f"{self.text(test[1])} == {test[2]}"
         out = [f"{pad}if ({condition}) {{"] + self.lines(then, depth + 1, declare)
         if fold.leaves(then):
             return out + [f"{pad}}}"] + self.lines(other, depth, declare)

@@ -21,8 +21,6 @@ def parts(e):
         return (e[1], e[2])
     if kind == "bin":
         return (e[2], e[3])
-    if kind == "cond":
-        return e[1:]
     if kind in ("aggregate", "call"):
         return e[2]
     raise Unknown(e)
@@ -39,7 +37,7 @@ def rebuilt(e, new):
         return (kind, e[1], new[0]) + e[3:]
     if kind == "deref":
         return (kind, e[1], new[0])
-    if kind in ("index", "offset", "and", "or", "cond"):
+    if kind in ("index", "offset", "and", "or"):
         return (kind,) + tuple(new)
     if kind == "bin":
         return (kind, e[1], new[0], new[1], e[4])
@@ -234,7 +232,7 @@ class Folder:
             if reads or n in self.mentioned(s):
                 if s[0] in ("loop", "while") or reads == 0:
                     return None
-                if reads > 1 and has(e, ("bin", "un", "call", "aggregate", "repeat", "cond", "and", "or", "deref")):
+                if reads > 1 and has(e, ("bin", "un", "call", "aggregate", "repeat", "and", "or", "deref")):
                     return None
                 rest = self.live(statements[j + 1 :], after, left)
                 if s[0] == "set" and s[1] == ("var", n):
@@ -334,7 +332,7 @@ class Folder:
         return None
 
     def as_value(self, s):
-        """A branch that only says whether: && and ||. Any other choice of two short values: ?:."""
+        """A branch that only says whether: && and ||."""
         if s[0] != "if" or len(s[2]) != 1 or len(s[3]) != 1:
             return None
         (a, b), c = (s[2][0], s[3][0]), s[1]

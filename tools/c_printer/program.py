@@ -9,7 +9,7 @@ Expressions are tuples, each with what it takes:
     ('deref', type, pointer)  ('addr', place)  ('offset', pointer, bytes)
     ('un', op, e, type)  ('bin', op, a, b, type)
     ('aggregate', type, [e..])  ('repeat', type, e, count)  ('call', function, [e..])
-    ('and', a, b)  ('or', a, b)  ('cond', c, a, b): made by fold.py alone
+    ('and', a, b)  ('or', a, b): made by fold.py alone
 
 Statements are lists:
     ['set', place, e]  ['do', call]  ['if', c, then, else]  ['switch', e, [(values, body)..], default or None]
@@ -116,8 +116,6 @@ class Function:
             return e[1]
         if kind == "call":
             return self.returns[e[1]]
-        if kind == "cond":
-            return self.type_of(e[2])
         raise Unknown(e)
 
     # ---- expressions
