@@ -70,6 +70,12 @@ class Moved(unittest.TestCase):
         c = printed([U64, U64, U64, "tyBool"], 1, assign("2", op2("(mul unsigned)", copy(1), copy(1))), f"(block (loop {body}))", assign("0", f"(rvOpd {copy(1)})"), "return")
         self.assertIn("uint64_t value = a * a;\n    while (a < value) {\n        a = a + 1;\n    }\n    return a;", c)
 
+    def test_continue_and_break_within_a_switch(self):
+        step = assign("1", op2("(sub unsigned)", copy(1), ONE))
+        arms = f"(arm {listed(['5'])} (exit 1) (arm {listed(['6', '7'])} {seq(step, '(exit 0)')} (default {step})))"
+        c = printed([U64, U64, U64], 1, f"(block (loop {seq(f'(switch {copy(1)} {arms})', assign('1', op2('(div unsigned)', copy(1), '(int 64 2)')))}))", assign("0", f"(rvOpd {copy(1)})"), "return")
+        self.assertIn("        if (a == 5) {\n            break;\n        } else if (a == 6 || a == 7) {\n            a = a - 1;\n            continue;\n        } else {\n            a = a - 1;\n        }\n        a = a / 2;\n", c)
+
     def test_order_of_operations_stays(self):
         c = printed([F64, F64, F64, F64, F64], 3, assign("4", op2("floatAdd", copy(2), copy(3))), assign("0", op2("floatAdd", copy(1), copy(4))), "return")
         self.assertIn("return a + (b + c);", c)
@@ -100,7 +106,8 @@ class Refused(unittest.TestCase):
         self.refused(assign("0", op2("(div signed)", copy(1), ONE)), "return")
         self.refused(assign("0", f"(op1 bitReverse {copy(1)})"), "return")
         self.refused("(goto 3)", "return")
-        self.refused("(block (loop (exit 0)))", "return")
+        self.refused("(block (loop (exit 2)))", "return")
+        self.refused("(block (exit 0))", "return")
         self.refused(assign("0", "(rvOpd (float 32 0))"), "return")
 
     def test_no_number(self):

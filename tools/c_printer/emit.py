@@ -137,7 +137,7 @@ class Printer:
         first = f.count + 1
         kept = set(range(1, first)) | f.memory | self.bound
         temporaries = {n for n in range(len(f.types)) if n not in kept}
-        self.body = fold.Folder(f, temporaries, writers).fold(f.body, set(), set())
+        self.body = fold.Folder(f, temporaries, writers).fold(f.body, set(), (set(), set()))
 
     # ---- names
 
@@ -436,7 +436,7 @@ class Printer:
     def carried(self, s, n):
         """Whether a variable is read in a branch or a round before it is set there."""
         folder = fold.Folder(self.f, set(), set())
-        return any(n in folder.live(inner, set(), set()) for inner in fold.lists(s))
+        return any(n in folder.live(inner, set(), (set(), set())) for inner in fold.lists(s))
 
     def statement(self, s, depth, declare, first):
         pad, kind = "    " * depth, s[0]
@@ -454,8 +454,8 @@ class Printer:
             if s[1] is None:
                 return [f"{pad}return;"]
             return wrapped(f"{pad}return {self.text(s[1])};")
-        if kind == "break":
-            return [f"{pad}break;"]
+        if kind in ("break", "continue"):
+            return [f"{pad}{kind};"]
         if kind == "while":
             return wrapped(f"{pad}while ({self.text(s[1])}) {{") + self.lines(s[2], depth + 1, declare) + [f"{pad}}}"]
         if kind == "loop":
@@ -509,6 +509,12 @@ class Printer:
             note = ""
         if of and len(arms) == 1 and len(arms[0][0]) == 1:
             return self.choice(f"{self.text(s[1])} == {self.types.tag(of, arms[0][0][0])}", arms[0][1], last, depth, declare, note)
+        if any(breaks(body) for _, body in arms) or breaks(last):  # C's switch would take the loop's break for its own
+            out = []
+            for values, body in arms:
+                test = " || ".join(f"{self.text(s[1], 9)} == {self.types.tag(of, v) if of else v}" for v in values)
+                out += wrapped(f"{pad}{'} else ' if out else ''}if ({test}) {{") + self.lines(body, depth + 1, declare)
+            return out + [f"{pad}}} else {{{note}"] + self.lines(last, depth + 1, declare) + [f"{pad}}}"]
         out = [f"{pad}switch ({self.text(s[1])}) {{"]
         for i, (values, body) in enumerate(arms):
             for v in values:
@@ -569,6 +575,11 @@ class Printer:
                 given.append(f"    (void){self.names[n]};")
         comment = list(self.item.comment) if self.item else [f"// {self.f.name}, of the language's own library."]
         return "\n".join(comment + wrapped(head + " {") + given + inner + ["}"])
+
+
+def breaks(statements):
+    """Whether a list has a break of the loop around it."""
+    return any(s[0] == "break" or s[0] in ("if", "switch") and any(breaks(inner) for inner in fold.lists(s)) for s in statements)
 
 
 def mentions(s):

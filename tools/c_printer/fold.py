@@ -5,6 +5,8 @@ writes what it reads. Calls that may write memory stay where they are. What is n
 """
 from .program import Unknown
 
+LEAVING = ("return", "break", "continue")
+
 # ---- what is read and written
 
 
@@ -143,7 +145,7 @@ class Folder:
     # ---- liveness
 
     def live(self, statements, after, left):
-        """The variables that are read from here on; `left` are those read where the loop around is left."""
+        """The variables that are read from here on; `left` are those read where the loop around is left, and where its next round begins."""
         for s in reversed(statements):
             after = self.live_before(s, after, left)
         return after
@@ -161,8 +163,8 @@ class Folder:
             return after | variables(s[1])
         if kind == "return":
             return variables(s[1]) if s[1] is not None else set()
-        if kind == "break":
-            return set(left)
+        if kind in ("break", "continue"):
+            return set(left[kind == "continue"])
         if kind == "if":
             return variables(s[1]) | self.live(s[2], after, left) | self.live(s[3], after, left)
         if kind == "switch":
@@ -172,7 +174,7 @@ class Folder:
             return found
         found = set(after) if kind == "while" else set()
         while True:
-            more = self.live(s[-1], found, after) | (variables(s[1]) if kind == "while" else set())
+            more = self.live(s[-1], found, (after, found)) | (variables(s[1]) if kind == "while" else set())
             if more <= found:
                 return found
             found |= more
@@ -199,7 +201,7 @@ class Folder:
                 s = ["switch", s[1], [(v, self.fold(b, after, left)) for v, b in s[2]], s[3] if s[3] is None else self.fold(s[3], after, left)]
             elif kind in ("loop", "while"):
                 again = self.live_before(s, after, left)
-                s = s[:-1] + [self.fold(s[-1], again, after)]
+                s = s[:-1] + [self.fold(s[-1], again, (after, again))]
                 if kind == "loop" and s[1] and s[1][0][0] == "if" and s[1][0][2:] == [[["break"]], []]:
                     s = ["while", negated(s[1][0][1]), s[1][1:]]
             after = self.live_before(s, after, left)
@@ -310,7 +312,7 @@ class Folder:
                     continue
                 s = ["if", negated(s[1]), s[3], []]
             new.append(s)
-            if s[0] in ("return", "break"):
+            if s[0] in LEAVING:
                 break
         return new
 
@@ -363,7 +365,7 @@ class Folder:
             last = inner[-1] if inner else None
             if last is None:
                 return False
-            if last[0] in ("return", "break") or (last[0] == "set" and last[1] == ("var", n)):
+            if last[0] in LEAVING or (last[0] == "set" and last[1] == ("var", n)):
                 continue
             if not self.ends(last, n):
                 return False
@@ -372,7 +374,7 @@ class Folder:
     def pushed(self, s, n, to):
         def push(inner):
             last = inner[-1]
-            if last[0] in ("return", "break"):
+            if last[0] in LEAVING:
                 return inner
             if last[0] == "set":
                 return inner[:-1] + [to(last[2])]
@@ -398,7 +400,7 @@ def leaves(statements):
     if not statements:
         return False
     last = statements[-1]
-    if last[0] in ("return", "break"):
+    if last[0] in LEAVING:
         return True
     if last[0] == "if":
         return leaves(last[2]) and leaves(last[3])

@@ -13,7 +13,7 @@ Expressions are tuples, each with what it takes:
 
 Statements are lists:
     ['set', place, e]  ['do', call]  ['if', c, then, else]  ['switch', e, [(values, body)..], default or None]
-    ['loop', body]  ['while', c, body]  ['break']  ['return', e or None]
+    ['loop', body]  ['while', c, body]  ['break']  ['continue']  ['return', e or None]
 
 Whatever is not known here is refused with an exception: nothing is passed over.
 """
@@ -200,21 +200,21 @@ class Function:
         elif kind == "if":
             found.append(["if", self.operand(x[1]), self.statements(x[2], around), self.statements(x[3], around)])
         elif kind == "switch":
-            arms, rest, inner = [], x[2], ["switch"] + around
+            arms, rest = [], x[2]
             while rest != "noDefault" and rest[0] == "arm":
-                arms.append((tuple(int(v) for v in items(rest[1])), self.statements(rest[2], inner)))
+                arms.append((tuple(int(v) for v in items(rest[1])), self.statements(rest[2], around)))
                 rest = rest[3]
-            last = None if rest == "noDefault" else self.statements(rest[1], inner)
+            last = None if rest == "noDefault" else self.statements(rest[1], around)
             found.append(["switch", self.operand(x[1]), arms, last])
         elif kind == "block":
-            # a block holds one loop, and what leaves it is a break of that loop
+            # a block holds one loop: what leaves the block is a break of that loop, what leaves the round alone a continue
             if isinstance(x[1], str) or x[1][0] != "loop":
                 raise Unknown(x)
             found.append(["loop", self.statements(x[1][1], ["loop", "block"] + around)])
         elif kind == "exit":
-            if x[1] != "1" or around[:2] != ["loop", "block"]:
+            if x[1] not in ("0", "1") or around[:2] != ["loop", "block"]:
                 raise Unknown(x)
-            found.append(["break"])
+            found.append(["break"] if x[1] == "1" else ["continue"])
         else:
             raise Unknown(x)
         return found
