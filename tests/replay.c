@@ -96,10 +96,30 @@ static size_t call(unsigned function) {
         found[1] = bits(over);
         return 2;
     }
-    if (function < 183 || function > 189) return 0;
+    if (function == 198) {
+        bytes = bytes_of(a + 1, &count);
+        uint8_t *output = block(list_count);
+        for (size_t i = 0; i < list_count; i++) output[i] = 0xA5;
+        found[0] = dihkelu_edition_1(bytes, count, output, list_count);
+        found[1] = 0;
+        for (size_t i = 0; i < list_count; i++) found[1] = (found[1] << 1 | found[1] >> 63) ^ output[i];
+        free(output);
+        free(bytes);
+        return 2;
+    }
+    if (function != 205 && (function < 183 || function > 189)) return 0;
     double *list = block(8 * list_count);
     for (size_t i = 0; i < list_count; i++) list[i] = -7.25;
     if (function == 183) found[0] = dihkelu_run(bytes, count, list, list_count);
+    if (function == 205) {
+        size_t lines = (size_t)a[1], weighed = (size_t)a[2];
+        numbers = numbers_of(a + 3, lines);
+        uint32_t *weights = block(4 * weighed);
+        for (size_t i = 0; i < weighed; i++) weights[i] = (uint32_t)a[3 + lines + i];
+        bytes = bytes_of(a + 3 + lines + weighed, &count);
+        found[0] = dihkelu_band(bytes, count, numbers, lines, weights, weighed, list, list_count);
+        free(weights);
+    }
     if (function == 184) found[0] = dihkelu_answers(bytes, count, (uint32_t)a[1], list, list_count);
     if (function == 185)
         found[0] = dihkelu_evaluate((uint32_t)a[1], number(a[2]), number(a[3]), number(a[4]), number(a[5]), number(a[6]),

@@ -21,6 +21,8 @@ from .calls import (
     Train,
     WrongEnvironment,
     answers,
+    band,
+    edition_1,
     environment_ok,
     evaluate,
     gate,
@@ -35,7 +37,9 @@ from .calls import (
 from .library import LibraryMissing
 from .refusals import (
     InvalidParameter,
+    LineRefused,
     ListTooShort,
+    NoBand,
     NoFilm,
     NoRange,
     NoStack,
@@ -43,6 +47,7 @@ from .refusals import (
     OutOfGrammar,
     OutsideLimits,
     Refused,
+    Retuned,
     SheetLength,
     StackTooLong,
     TooManyLayers,

@@ -3,6 +3,7 @@ from __future__ import annotations
 
 import ctypes
 import itertools
+import operator
 import struct
 import sys
 from dataclasses import dataclass
@@ -112,6 +113,29 @@ def run(sheet: SheetLike) -> list[tuple[float, float]]:
     out = _numbers(count=128)
     count = answered(_library.dihkelu_run(data, len(data), out, len(out)), "run")
     return [(out[2 * i], out[2 * i + 1]) for i in range(count)]
+
+
+def edition_1(sheet: SheetLike) -> bytes:
+    """The sheet for programs that read edition 1 only: each glass a layer with its index at the BEAM's wavelength."""
+    data = _bytes(sheet)
+    out = (ctypes.c_uint8 * 30500)()
+    count = answered(_library.dihkelu_edition_1(data, len(data), out, len(out)), "edition_1")
+    return bytes(out[:count])
+
+
+def band(sheet: SheetLike, lines: Iterable[tuple[float, int]]) -> tuple[float, float]:
+    """The means of s and of p over lines, each a wavelength in nm and a whole weight from 1 to 1,000."""
+    data, lines = _bytes(sheet), list(lines)
+    wavelengths = _numbers(w for w, _ in lines)
+    weights = (ctypes.c_uint32 * len(lines))(*(_weight(w) for _, w in lines))
+    out = _numbers(count=2)
+    answered(_library.dihkelu_band(data, len(data), wavelengths, len(wavelengths), weights, len(weights), out, len(out)), "band")
+    return out[0], out[1]
+
+
+def _weight(x: int) -> int:
+    """A weight as the library has it; 0, which is refused, for what it cannot hold."""
+    return operator.index(x) if 0 <= x < 1 << 32 else 0
 
 
 # ---- a surface

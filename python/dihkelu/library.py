@@ -25,6 +25,8 @@ CALLS = {
     "step": SHEET + [Count, Numbers, Numbers, Numbers],
     "retune": SHEET + [U32, Numbers, Double],
     "run": SHEET + LIST,
+    "edition_1": SHEET + [ctypes.POINTER(ctypes.c_uint8), Size],
+    "band": SHEET + LIST + [Count, Size] + LIST,
     "answers": SHEET + [U32] + LIST,
     "evaluate": [U32] + [Double] * 5 + LIST + LIST,
     "stack": SHEET + [Double] * 4 + LIST,

@@ -69,6 +69,11 @@ class WavelengthRefused(Refused):
     of = 11
 
 
+class Retuned(Refused):
+    sentence = "a kind 7 stands in the sheet, the first at word {place}"
+    of = 12
+
+
 class NoRange(Refused):
     sentence = "a low end is above its high end, or an end is no number from 1 to 4"
     of = 13
@@ -77,6 +82,21 @@ class NoRange(Refused):
 class NoFilm(Refused):
     sentence = "the index is outside 1 to 4, the thickness outside 0 to 100,000 nm or the wavelength outside 100 to 10,000 nm"
     of = 14
+
+
+class NoBand(Refused):
+    of = 15
+
+    @property
+    def sentence(self) -> str:  # type: ignore[override]
+        if self.place == 64:
+            return "there are no lines, more than 64, or not as many weights as wavelengths"
+        return "the weight of line {place} is no whole number from 1 to 1,000"
+
+
+class LineRefused(Refused):
+    sentence = "the wavelength of line {place} is outside 100 to 10,000 nm, or a layer of the sheet fails at it"
+    of = 16
 
 
 BY_NUMBER: dict[int, type[Refused]] = {c.of: c for c in Refused.__subclasses__()}

@@ -17,6 +17,7 @@ except ImportError:
 from dihkelu import Coating, Glass, Layer, Sheet, Surface
 
 BARE = Sheet(500.0, 0.5, 0.5, (Surface(Coating.BARE, 1.0, 3.0, 0.0),))
+RETUNED = Sheet(500.0, 0.5, 0.5, (Surface(Coating.BARE, 1.0, 3.0, 0.0, retune_nm=600.0),))
 
 
 def bits(x):
@@ -121,6 +122,25 @@ class Trains(unittest.TestCase):
         self.assertIn("wavelength_nm=632.8", repr(train))
 
 
+class Wholes(unittest.TestCase):
+    def test_edition_1(self):
+        layers = (Glass(1.5, 0.004, 0.0, 100.0), Layer(1.38, 0.0, 99.6))
+        sheet = Sheet(500.0, 0.5, 0.5, (Surface(Coating.CUSTOM, 1.0, 1.52, 0.25, layers=layers),))
+        plain = Sheet.from_bytes(dihkelu.edition_1(sheet))
+        self.assertEqual((plain.edition, plain.surfaces[0].layers[1]), (1, layers[1]))
+        self.assertEqual(plain.surfaces[0].layers[0], Layer(1.5 + 0.004 / 0.25, 0.0, 100.0))
+        self.assertEqual(dihkelu.run(plain), dihkelu.run(sheet))
+        self.assertEqual(dihkelu.edition_1(BARE), BARE.to_bytes())
+
+    def test_band(self):
+        sheet = Sheet(500.0, 1.0, 0.5, (Surface(Coating.MGF2, 1.0, 1.52, 0.25),))
+        self.assertEqual(dihkelu.band(sheet, [(500.0, 7)]), dihkelu.run(sheet)[-1])
+        s, p = dihkelu.band(sheet, [(450.0, 1), (550.0, 2)])
+        each = [dihkelu.run(Sheet(w, 1.0, 0.5, sheet.surfaces))[-1] for w in (450.0, 550.0)]
+        self.assertEqual(s, (0.0 + each[0][0] + 2.0 * each[1][0]) / 3.0)
+        self.assertEqual(p, (0.0 + each[0][1] + 2.0 * each[1][1]) / 3.0)
+
+
 class Refusals(unittest.TestCase):
     def test_each(self):
         out_of_grammar = BARE.to_bytes()[:32] + b"\xff" + BARE.to_bytes()[33:]
@@ -134,6 +154,11 @@ class Refusals(unittest.TestCase):
             (dihkelu.NoSuchSurface, 7, 0, lambda: dihkelu.answers(BARE, 1)),
             (dihkelu.NoStack, 9, 3, lambda: dihkelu.stack("H^32H", 2.3, 1.46)),
             (dihkelu.StackTooLong, 10, 0, lambda: dihkelu.stack("(H^31)^31", 2.3, 1.46)),
+            (dihkelu.Retuned, 12, 8, lambda: dihkelu.edition_1(RETUNED)),
+            (dihkelu.Retuned, 12, 8, lambda: dihkelu.band(RETUNED, [(500.0, 1)])),
+            (dihkelu.NoBand, 15, 64, lambda: dihkelu.band(BARE, [])),
+            (dihkelu.NoBand, 15, 1, lambda: dihkelu.band(BARE, [(500.0, 1), (500.0, -1)])),
+            (dihkelu.LineRefused, 16, 1, lambda: dihkelu.band(BARE, [(500.0, 1), (99.0, 1)])),
             (dihkelu.NoRange, 13, 0, lambda: dihkelu.reflectance_range((2.0, 1.0), (1.0, 1.0))),
             (dihkelu.NoFilm, 14, 0, lambda: dihkelu.quarter_waves(0.5, 1.0, 550.0)),
         ]
