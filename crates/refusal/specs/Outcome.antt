@@ -4,7 +4,8 @@ use Rattle.refusal.specs.declared.Refusal.{Refusal}
 
 -- The numbers of the table: 1 the Rust's InvalidParameter; 2 a name over 32 bytes or not ASCII; 3 over 64 explicit layers or 31 pairs; 4 a
 -- sheet's length; 5 its grammar; 6 its limits; 7 no surface left; 8 a list that is too short. Of document 02: 9 a stack's text; 10 more
--- than 64 layers of a stack; 13 no ranges of indices; 14 a film outside the limits.
+-- than 64 layers of a stack; 11 a wavelength that is refused; 12 a kind 7 where none is taken; 13 no ranges of indices; 14 a film outside
+-- the limits; 15 a band's lines or weights; 16 a line's wavelength.
 pub data Outcome (A : Type 0) : Type 0 where
   answer : A → Outcome A
   refusal : ℕ → ℕ → Outcome A
