@@ -471,6 +471,47 @@ typedef struct {
     surface_Answers answers;
 } surface_AnswersReply;
 
+// A film's matrices for s and for p.
+typedef struct {
+    double cos;
+    double y_s;
+    double z_s;
+    double y_p;
+    double z_p;
+} surface_real_Film;
+
+// [[a, i b], [i c, d]]
+typedef struct {
+    double a;
+    double b;
+    double c;
+    double d;
+} surface_real_Product;
+
+// The products for s and for p.
+typedef struct {
+    surface_real_Product s;
+    surface_real_Product p;
+} surface_real_Stack;
+
+// What is reflected and what is transmitted, before they are clamped.
+typedef struct {
+    double r;
+    double t;
+} surface_real_Shares;
+
+// Powers, and whether they are known.
+typedef struct {
+    bool known;
+    surface_Powers powers;
+} surface_real_Known;
+
+// A layer and its film.
+typedef struct {
+    thin_film_solver_ThinFilmLayer layer;
+    surface_real_Film film;
+} surface_real_Met;
+
 // A BEAM: its wavelength, its s and its p power.
 typedef struct {
     double wavelength_nm;
@@ -527,11 +568,36 @@ typedef struct {
     } as;
 } gate_Gated;
 
+// Whether a block is within the limits, and what the layers after it are judged with: n_incident * abs(sin) of their
+// SURFACE, and its place.
+typedef struct {
+    bool passes;
+    double snell;
+    uint64_t surface;
+} gate_Passage;
+
 // The answers of a surface, and a refusal, whose number is 0 where there is none.
 typedef struct {
     refusal_Refusal refusal;
     surface_Answers answers;
 } sheet_surfaces_SurfaceReply;
+
+typedef struct {
+    uint8_t *at;
+    uint64_t count;
+} slice_mut_u8;
+
+// The new sheet's length in bytes, or a refusal.
+typedef struct {
+    enum {
+        sheet_edition_1_Rewritten_Length,
+        sheet_edition_1_Rewritten_Refused,
+    } tag;
+    union {
+        uint64_t Length;
+        refusal_Refusal Refused;
+    } as;
+} sheet_edition_1_Rewritten;
 
 // The powers of a surface that s and p are multiplied by.
 typedef struct {
@@ -558,6 +624,30 @@ typedef struct {
         refusal_Refusal Refused;
     } as;
 } train_steps_TrainReply;
+
+typedef struct {
+    const uint32_t *at;
+    uint64_t count;
+} slice_u32;
+
+// The means of s and of p over a band, and how many lines it has.
+typedef struct {
+    uint32_t lines;
+    double s;
+    double p;
+} band_BandPowers;
+
+// The powers of a band, or a refusal.
+typedef struct {
+    enum {
+        band_BandReply_Powers,
+        band_BandReply_Refused,
+    } tag;
+    union {
+        band_BandPowers Powers;
+        refusal_Refusal Refused;
+    } as;
+} band_BandReply;
 
 // ==== std
 
@@ -1165,11 +1255,24 @@ static double math_exp_exp(double x) {
 
 // ==== math_trig
 //
-// sin and cos as document 01's section 2 gives them, each for every f64.
+// sin and cos as document 01's section 2 gives them, with the first line of document 02, slip 7; each for every f64.
+
+// The first line of sin and of cos: x less whole turns. Up to π there is none, and zeros are taken off.
+static double math_trig_first_line(double x) {
+    double size = ieee_abs(x);
+    if (size <= 3.141592653589793) {
+        return x - 0.0;
+    }
+    if (size <= 1048576.0) {
+        double k = x / 6.283185307179586 + 6755399441055744.0 - 6755399441055744.0;
+        return x - k * 6.283185243606567 - k * 6.357301884918343e-08 - k * 2.4492935982947064e-16;
+    }
+    return fmod(x, 6.283185307179586);
+}
 
 // The first fold, of sin and of cos: to -π..π.
 static double math_trig_fold(double x) {
-    double r = fmod(x, 6.283185307179586);
+    double r = math_trig_first_line(x);
     if (3.141592653589793 < r) {
         return r - 6.283185307179586;
     }
@@ -3061,7 +3164,7 @@ static thin_film_shorthand_Stacked thin_film_shorthand_stack(slice_u8 text, doub
 
 // ==== gate_limits
 //
-// One surface of a train: its coating by code, and the limits of document 01's section 3.
+// One surface of a train: its coating by code, and the limits of document 01's section 3 and of document 02's slip 12.
 
 // From a code to a coating. Code 5 is made of layers of its own.
 static gate_limits_Interface gate_limits_coded(uint32_t code, double design_wavelength_nm) {
@@ -3157,6 +3260,22 @@ static gate_limits_Judgement gate_limits_judge_surface(gate_limits_Surface surfa
     math_trig_SinCos theta = math_trig_sin_cos(surface.angle_rad);
     double snell = surface.n_incident * ieee_abs(theta.sin);
     return (gate_limits_Judgement){.passes = gate_limits_surface_within(snell, theta.cos, surface), .snell = snell};
+}
+
+// A layer.
+static bool gate_limits_metal_within(thin_film_solver_ThinFilmLayer layer) {
+    return gate_limits_within(0.0625, 4.0, layer.n) && gate_limits_within(0.0, 8.0, layer.k)
+            && gate_limits_within(0.0, 100000.0, layer.thickness_nm);
+}
+
+// What a layer adds to the sum that is limited.
+static double gate_limits_absorption(double wavelength_nm, thin_film_solver_ThinFilmLayer layer) {
+    return 2.0 * 3.141592653589793 * layer.thickness_nm / wavelength_nm * layer.k;
+}
+
+// A custom surface at angle zero that has 1 to 4 layers.
+static bool gate_limits_may_be_metal(gate_limits_Surface surface, uint64_t count) {
+    return surface.coating == 5 && surface.angle_rad == 0.0 && 1 <= count && count <= 4;
 }
 
 // ==== quarter_waves
@@ -3331,6 +3450,176 @@ static surface_AnswersReply surface_bare_answers(gate_limits_Surface surface) {
         return (surface_AnswersReply){.refusal = 0, .answers = answers};
     }
     return surface_refused(jones.refusal);
+}
+
+// ==== surface_real
+//
+// The powers of a coated surface over real numbers, for a run: the quick way where no film absorbs. Each film is
+// [[cos, i y], [i z, cos]] then, and so is each product. What the quick way does not cover makes a NaN, and a NaN or an
+// infinity stays to the end: the powers are known where the last numbers are finite, and are those of thin_film_solver.
+
+// x / y as Complex::div divides.
+static double surface_real_over(double x, double y) {
+    double denom = y * y;
+    if (denom < 1e-28) {
+        return 0.0 / 0.0;
+    }
+    return x * y / denom;
+}
+
+// A number whose imaginary part is a zero.
+static double surface_real_real_part(thin_film_complex_Complex z) {
+    if (z.im == 0.0) {
+        return z.re;
+    }
+    return 0.0 / 0.0;
+}
+
+// x, where y is finite.
+static double surface_real_if_finite(double y, double x) {
+    if (ieee_is_finite(y)) {
+        return x;
+    }
+    return 0.0 / 0.0;
+}
+
+// The root of a number from 2^-10 to 2^10, as Complex::sqrt takes it.
+static double surface_real_root(double x) {
+    if (0.0009765625 <= x) {
+        if (x <= 1024.0) {
+            return math_sqrt_sqrt(ieee_max((x + x) / 2.0, 0.0));
+        }
+        return 0.0 / 0.0;
+    }
+    return 0.0 / 0.0;
+}
+
+// cos(theta) in a film that does not absorb.
+static double surface_real_cos_theta(double snell, thin_film_solver_ThinFilmLayer layer) {
+    double sin = surface_real_over(snell, layer.n);
+    if (layer.k == 0.0) {
+        return surface_real_root(1.0 - sin * sin);
+    }
+    return 0.0 / 0.0;
+}
+
+static surface_real_Film surface_real_film_of(thin_film_solver_Incidence light,
+        thin_film_solver_ThinFilmLayer layer) {
+    double cos = surface_real_cos_theta(light.snell, layer);
+    double eta_s = layer.n * cos;
+    double eta_p = surface_real_over(layer.n, cos);
+    double factor = 2.0 * 3.141592653589793 * layer.thickness_nm / light.wavelength_nm;
+    double delta = eta_s * factor;
+    thin_film_matrix_Phase phase = thin_film_matrix_phase_of(thin_film_complex_Complex_real(delta));
+    thin_film_complex_Complex cos_delta = phase.cos;
+    thin_film_complex_Complex i_sin = phase.i_sin;
+    double sin = i_sin.im;
+    return (surface_real_Film){.cos = surface_real_if_finite(delta, cos_delta.re),
+            .y_s = surface_real_over(sin, eta_s), .z_s = sin * eta_s, .y_p = surface_real_over(sin, eta_p),
+            .z_p = sin * eta_p};
+}
+
+// A product, times a film.
+static surface_real_Product surface_real_times(surface_real_Product m, double cos, double y, double z) {
+    return (surface_real_Product){.a = m.a * cos - m.b * z, .b = m.a * y + m.b * cos, .c = m.c * cos + m.d * z,
+            .d = m.d * cos - m.c * y};
+}
+
+// One film more.
+static surface_real_Stack surface_real_join(surface_real_Stack stack, surface_real_Film film) {
+    surface_real_Product s = stack.s;
+    surface_real_Product p = stack.p;
+    surface_real_Product next_s = surface_real_times(s, film.cos, film.y_s, film.z_s);
+    surface_real_Product next_p = surface_real_times(p, film.cos, film.y_p, film.z_p);
+    return (surface_real_Stack){.s = next_s, .p = next_p};
+}
+
+// Before the first film.
+static surface_real_Stack surface_real_no_films(void) {
+    surface_real_Product one = {.a = 1.0, .b = 0.0, .c = 0.0, .d = 1.0};
+    return (surface_real_Stack){.s = one, .p = one};
+}
+
+// Those of a product, between the admittances eta0 and eta.
+static surface_real_Shares surface_real_power(surface_real_Product m, double eta0, double eta) {
+    double b_re = eta0 * m.a;
+    double b_im = eta0 * (m.b * eta);
+    double c_re = m.d * eta;
+    double num_re = b_re - c_re;
+    double num_im = b_im - m.c;
+    double den_re = b_re + c_re;
+    double den_im = b_im + m.c;
+    double denom = den_re * den_re + den_im * den_im;
+    if (denom < 1e-28) {
+        return (surface_real_Shares){.r = 0.0 / 0.0, .t = 0.0 / 0.0};
+    }
+    double r_re = (num_re * den_re + num_im * den_im) / denom;
+    double r_im = (num_im * den_re - num_re * den_im) / denom;
+    double t_re = eta0 * 2.0 * den_re / denom;
+    double t_im = -(eta0 * 2.0 * den_im) / denom;
+    return (surface_real_Shares){.r = r_re * r_re + r_im * r_im, .t = eta / eta0 * (t_re * t_re + t_im * t_im)};
+}
+
+// cos(theta) in the substrate, up to a sine of 1.
+static double surface_real_cos_theta_sub(double sin_theta_sub) {
+    if (ieee_abs(sin_theta_sub) <= 1.0) {
+        return math_sqrt_sqrt(ieee_max(1.0 - sin_theta_sub * sin_theta_sub, 0.0));
+    }
+    return 0.0 / 0.0;
+}
+
+// The powers, from the products of all films.
+static surface_real_Known surface_real_finish(thin_film_solver_Incidence light, surface_real_Stack stack) {
+    thin_film_complex_Complex cos = thin_film_complex_Complex_real(
+            surface_real_cos_theta_sub(light.snell / light.n_substrate));
+    thin_film_complex_Complex n_sub = thin_film_complex_Complex_real(light.n_substrate);
+    double eta_s = surface_real_real_part(thin_film_complex_Complex_mul(n_sub, cos));
+    double eta_p = surface_real_real_part(thin_film_complex_Complex_div(n_sub, cos));
+    double eta0_s = light.n_incident * light.cos_theta0;
+    double eta0_p = light.n_incident / ieee_max(light.cos_theta0, 1e-12);
+    surface_real_Product ms = stack.s;
+    surface_real_Product mp = stack.p;
+    surface_real_Shares s = surface_real_power(ms, eta0_s, eta_s);
+    surface_real_Shares p = surface_real_power(mp, eta0_p, eta_p);
+    surface_Powers powers = {.reflectance_s = ieee_clamp(s.r, 0.0, 1.0), .reflectance_p = ieee_clamp(p.r, 0.0, 1.0),
+            .transmittance_s = ieee_clamp(s.t, 0.0, 1.0), .transmittance_p = ieee_clamp(p.t, 0.0, 1.0)};
+    bool known = ieee_is_finite(s.r + s.t + (p.r + p.t));
+    return (surface_real_Known){.known = known, .powers = powers};
+}
+
+// Whether two numbers are one, above zero.
+static bool surface_real_same_number(double x, double y) {
+    return 0.0 < x && x == y;
+}
+
+// Whether both numbers are zeros.
+static bool surface_real_both_zero(double x, double y) {
+    return x == 0.0 && y == 0.0;
+}
+
+// Whether two layers that do not absorb have one index and one thickness.
+static bool surface_real_same_film(thin_film_solver_ThinFilmLayer a, thin_film_solver_ThinFilmLayer b) {
+    return surface_real_same_number(a.n, b.n) && surface_real_same_number(a.thickness_nm, b.thickness_nm)
+            && surface_real_both_zero(a.k, b.k);
+}
+
+// A layer with its film, which is that of an earlier one where they are the same.
+static surface_real_Met surface_real_meet(thin_film_solver_Incidence light, thin_film_solver_ThinFilmLayer layer,
+        surface_real_Met earlier) {
+    thin_film_solver_ThinFilmLayer before = earlier.layer;
+    if (surface_real_same_film(layer, before)) {
+        surface_real_Film film = earlier.film;
+        return (surface_real_Met){.layer = layer, .film = film};
+    }
+    surface_real_Film film_2 = surface_real_film_of(light, layer);
+    return (surface_real_Met){.layer = layer, .film = film_2};
+}
+
+// Before the first layer: a NaN is the same as no number.
+static surface_real_Met surface_real_none_met(void) {
+    thin_film_solver_ThinFilmLayer layer = {.n = 0.0 / 0.0, .k = 0.0, .thickness_nm = 0.0};
+    surface_real_Film film = {.cos = 0.0, .y_s = 0.0, .z_s = 0.0, .y_p = 0.0, .z_p = 0.0};
+    return (surface_real_Met){.layer = layer, .film = film};
 }
 
 // ==== sheet_values
@@ -3692,6 +3981,65 @@ static thin_film_layers_Evaluation sheet_answers_evaluate_at(slice_u8 src, uint6
             .as.Response = sheet_answers_solve(src, at, n, reversed, wavelength_nm, light)};
 }
 
+// The products of the n films after the block at a place, in their order or reversed, at a wavelength. Films that take
+// turns, as in H L H L, are worked out once.
+static surface_real_Stack sheet_answers_quick_stack_at(slice_u8 src, uint64_t at, uint64_t n, bool reversed,
+        double wavelength_nm, thin_film_solver_Incidence light) {
+    surface_real_Stack stack = surface_real_no_films();
+    surface_real_Met older = surface_real_none_met();
+    surface_real_Met newer = surface_real_none_met();
+    uint64_t i = 0;
+    while (i < n) {
+        uint64_t j = thin_film_layers_nth_index(reversed, n, i);
+        thin_film_solver_ThinFilmLayer layer = sheet_answers_layer_after(src, at, j, wavelength_nm);
+        surface_real_Met met = surface_real_meet(light, layer, older);
+        surface_real_Film film = met.film;
+        stack = surface_real_join(stack, film);
+        older = newer;
+        newer = met;
+        i = i + 1;
+    }
+    return stack;
+}
+
+// The powers with these films.
+static surface_Powers sheet_answers_quick_powers_with(slice_u8 src, uint64_t at, uint64_t n, bool reversed,
+        double wavelength_nm, thin_film_solver_Incidence light) {
+    surface_real_Known quick = surface_real_finish(light,
+            sheet_answers_quick_stack_at(src, at, n, reversed, wavelength_nm, light));
+    if (quick.known) {
+        surface_Powers powers = quick.powers;
+        return powers;
+    }
+    return surface_coated_powers(sheet_answers_solve(src, at, n, reversed, wavelength_nm, light));
+}
+
+// The powers of an evaluation that needs no layer after the block.
+static sheet_answers_PowersReply sheet_answers_quick_answered(thin_film_layers_Evaluation answer) {
+    if (answer.tag == thin_film_layers_Evaluation_Response) {
+        thin_film_solver_CoatingResponse r = answer.as.Response;
+        return (sheet_answers_PowersReply){.tag = sheet_answers_PowersReply_Powers,
+                .as.Powers = surface_coated_powers(r)};
+    }
+    refusal_Refusal r_2 = answer.as.Refused;
+    return (sheet_answers_PowersReply){.tag = sheet_answers_PowersReply_Refused, .as.Refused = r_2};
+}
+
+// The powers of a coated surface at a place with the n layers after it.
+static sheet_answers_PowersReply sheet_answers_quick_coated_powers(slice_u8 src, uint64_t at, uint64_t n,
+        gate_limits_Surface surface, thin_film_SurfaceCoating coating, double wavelength_nm) {
+    thin_film_layers_Prepared value = thin_film_reading_prepare_surface(coating, n, surface.n_incident,
+            surface.n_substrate, surface.angle_rad, wavelength_nm);
+    if (value.tag == thin_film_layers_Prepared_Answered) {
+        thin_film_layers_Evaluation answer = value.as.Answered;
+        return sheet_answers_quick_answered(answer);
+    }
+    bool reversed = value.as.Layers.reversed;
+    thin_film_solver_Incidence light = value.as.Layers.light;
+    return (sheet_answers_PowersReply){.tag = sheet_answers_PowersReply_Powers,
+            .as.Powers = sheet_answers_quick_powers_with(src, at, n, reversed, wavelength_nm, light)};
+}
+
 // The powers of the surface at a place with the n layers after it.
 static sheet_answers_PowersReply sheet_answers_powers_at(slice_u8 src, uint64_t at, uint64_t n,
         gate_limits_Surface surface, double wavelength_nm) {
@@ -3701,14 +4049,7 @@ static sheet_answers_PowersReply sheet_answers_powers_at(slice_u8 src, uint64_t 
                 .as.Powers = surface_bare_powers(surface)};
     }
     thin_film_SurfaceCoating coating = value.as.Coated;
-    thin_film_layers_Evaluation value_2 = sheet_answers_evaluate_at(src, at, n, surface, coating, wavelength_nm);
-    if (value_2.tag == thin_film_layers_Evaluation_Response) {
-        thin_film_solver_CoatingResponse r = value_2.as.Response;
-        return (sheet_answers_PowersReply){.tag = sheet_answers_PowersReply_Powers,
-                .as.Powers = surface_coated_powers(r)};
-    }
-    refusal_Refusal r_2 = value_2.as.Refused;
-    return (sheet_answers_PowersReply){.tag = sheet_answers_PowersReply_Refused, .as.Refused = r_2};
+    return sheet_answers_quick_coated_powers(src, at, n, surface, coating, wavelength_nm);
 }
 
 // The answers of the surface at a place with the n layers after it.
@@ -3753,35 +4094,96 @@ static gate_Gated gate_outside(uint64_t place) {
     return (gate_Gated){.tag = gate_Gated_Refused, .as.Refused = {.number = 6, .place = place}};
 }
 
+// The coefficients of a kind 6 are finite.
+static bool gate_glass_finite(sheet_values_Cauchy glass) {
+    return ieee_is_finite(glass.a) && ieee_is_finite(glass.b) && ieee_is_finite(glass.c);
+}
+
+// The layer of either kind at a place: a kind 6's coefficients are finite.
+static bool gate_coefficients_finite(slice_u8 src, uint64_t at) {
+    if (sheet_kind_at(src, at) == 6) {
+        return gate_glass_finite(sheet_values_cauchy_at(src, at));
+    }
+    return true;
+}
+
 // A kind 6 at a wavelength: its coefficients are finite, and its index is tested as a layer's n.
 static bool gate_cauchy_passes(double wavelength_nm, double snell, sheet_values_Cauchy glass) {
-    return ieee_is_finite(glass.a) && ieee_is_finite(glass.b) && ieee_is_finite(glass.c)
+    return gate_glass_finite(glass)
             && gate_limits_layer_within(snell, sheet_values_cauchy_film(wavelength_nm, glass));
 }
 
-// Whether the block at a place is within the limits at a wavelength, and n_incident * abs(sin) after it.
-static gate_limits_Judgement gate_judge(slice_u8 src, uint64_t at, double wavelength_nm, double snell) {
+// The layer of either kind at a place, at a wavelength.
+static bool gate_metal_layer(slice_u8 src, uint64_t at, double wavelength_nm) {
+    if (!gate_coefficients_finite(src, at)) {
+        return false;
+    }
+    return gate_limits_metal_within(sheet_values_layer_at(src, at, wavelength_nm));
+}
+
+// The n layers from a place on, and the sum of what they absorb, in their order.
+static bool gate_metal_layers(slice_u8 src, uint64_t at, uint64_t n, double wavelength_nm) {
+    uint64_t place = at;
+    double sum = 0.0;
+    uint64_t i = 0;
+    while (i < n) {
+        if (!gate_metal_layer(src, place, wavelength_nm)) {
+            return false;
+        }
+        thin_film_solver_ThinFilmLayer layer = sheet_values_layer_at(src, place, wavelength_nm);
+        sum = sum + gate_limits_absorption(wavelength_nm, layer);
+        place = sheet_next_place(src, place);
+        i = i + 1;
+    }
+    return sum <= 16.0;
+}
+
+// The SURFACE at a place with its layers.
+static bool gate_metal_holds(slice_u8 src, uint64_t at, double wavelength_nm) {
+    uint64_t n = sheet_layer_run(src, at);
+    if (!gate_limits_may_be_metal(sheet_values_surface_at(src, at), n)) {
+        return false;
+    }
+    return gate_metal_layers(src, sheet_next_place(src, at), n, wavelength_nm);
+}
+
+// A LAYER, or else its SURFACE under the limits of metal films.
+static bool gate_plain_stands(slice_u8 src, uint64_t at, uint64_t surface, double wavelength_nm, double snell) {
+    return gate_limits_layer_within(snell, sheet_values_plain_at(src, at))
+            || gate_metal_holds(src, surface, wavelength_nm);
+}
+
+// The same of a kind 6.
+static bool gate_cauchy_stands(slice_u8 src, uint64_t at, uint64_t surface, double wavelength_nm, double snell) {
+    return gate_cauchy_passes(wavelength_nm, snell, sheet_values_cauchy_at(src, at))
+            || gate_metal_holds(src, surface, wavelength_nm);
+}
+
+// The block at a place, at a wavelength and after the SURFACE at another.
+static gate_Passage gate_judge(slice_u8 src, uint64_t at, uint64_t surface, double wavelength_nm, double snell) {
     uint32_t kind = sheet_kind_at(src, at);
     if (kind == 2) {
         sheet_values_Beam beam = sheet_values_beam_at(src, at);
-        return (gate_limits_Judgement){.passes = gate_limits_beam_passes(beam.wavelength_nm, beam.s, beam.p),
-                .snell = snell};
+        return (gate_Passage){.passes = gate_limits_beam_passes(beam.wavelength_nm, beam.s, beam.p), .snell = snell,
+                .surface = surface};
     }
     if (kind == 3) {
-        return gate_limits_judge_surface(sheet_values_surface_at(src, at));
+        gate_limits_Judgement judgement = gate_limits_judge_surface(sheet_values_surface_at(src, at));
+        return (gate_Passage){.passes = judgement.passes, .snell = judgement.snell, .surface = at};
     }
     if (kind == 4) {
-        return (gate_limits_Judgement){.passes = gate_limits_layer_within(snell, sheet_values_plain_at(src, at)),
-                .snell = snell};
+        return (gate_Passage){.passes = gate_plain_stands(src, at, surface, wavelength_nm, snell), .snell = snell,
+                .surface = surface};
     }
     if (kind == 6) {
-        return (gate_limits_Judgement){.passes = gate_cauchy_passes(wavelength_nm, snell,
-                sheet_values_cauchy_at(src, at)), .snell = snell};
+        return (gate_Passage){.passes = gate_cauchy_stands(src, at, surface, wavelength_nm, snell), .snell = snell,
+                .surface = surface};
     }
     if (kind == 7) {
-        return (gate_limits_Judgement){.passes = gate_limits_wavelength_passes(wavelength_nm), .snell = snell};
+        return (gate_Passage){.passes = gate_limits_wavelength_passes(wavelength_nm), .snell = snell,
+                .surface = surface};
     }
-    return (gate_limits_Judgement){.passes = true, .snell = snell};
+    return (gate_Passage){.passes = true, .snell = snell, .surface = surface};
 }
 
 // The limits of a sheet that is in grammar, block after block, each layer at the wavelength that its SURFACE is met with.
@@ -3790,14 +4192,16 @@ static gate_Gated gate_limits(slice_u8 src, uint32_t count) {
     sheet_values_Beam beam = sheet_values_beam_of(src);
     double wavelength_nm = beam.wavelength_nm;
     uint64_t at = 0;
+    uint64_t surface = 0;
     double snell = 0.0;
     while (at < total) {
         wavelength_nm = sheet_values_met_with(src, at, wavelength_nm);
-        gate_limits_Judgement judgement = gate_judge(src, at, wavelength_nm, snell);
-        if (!judgement.passes) {
+        gate_Passage passage = gate_judge(src, at, surface, wavelength_nm, snell);
+        if (!passage.passes) {
             return gate_outside(at);
         }
-        snell = judgement.snell;
+        snell = passage.snell;
+        surface = passage.surface;
         at = sheet_next_place(src, at);
     }
     return (gate_Gated){.tag = gate_Gated_Admitted, .as.Admitted = count};
@@ -3839,11 +4243,13 @@ static bool gate_layers_pass(slice_u8 src, uint64_t at, uint64_t n, double wavel
     return true;
 }
 
-// The layers of the SURFACE at a place.
+// The layers of the SURFACE at a place, under either set of limits.
 static bool gate_surface_holds(slice_u8 src, uint64_t at, double wavelength_nm) {
     gate_limits_Judgement judgement = gate_limits_judge_surface(sheet_values_surface_at(src, at));
     uint64_t n = sheet_layer_run(src, at);
-    return gate_layers_pass(src, sheet_next_place(src, at), n, wavelength_nm, judgement.snell);
+    uint64_t place = sheet_next_place(src, at);
+    return gate_layers_pass(src, place, n, wavelength_nm, judgement.snell)
+            || gate_metal_holds(src, at, wavelength_nm);
 }
 
 // The layers of n SURFACEs, the first of which begins at a place, up to the next kind 7.
@@ -3905,6 +4311,167 @@ static sheet_surfaces_SurfaceReply sheet_surfaces_surface_answers(slice_u8 src, 
     return sheet_surfaces_refused(r);
 }
 
+// ==== sheet_untuned
+//
+// A sheet without kind 7 (document 02, slips 6 and 14): the gate, then 12 with the word of the first kind 7.
+
+// The place of the first kind 7; past the last word where there is none.
+static uint64_t sheet_untuned_first_tuning(slice_u8 src) {
+    uint64_t total = src.count / 4;
+    uint64_t at = 0;
+    while (at < total) {
+        if (sheet_kind_at(src, at) == 7) {
+            return at;
+        }
+        at = sheet_next_place(src, at);
+    }
+    return at;
+}
+
+// The count of surfaces of a sheet that is admitted and has no kind 7; or a refusal: 4, 5, 6, then 12.
+static gate_Gated sheet_untuned_without_tuning(slice_u8 src) {
+    gate_Gated value = gate_gate(src);
+    if (value.tag == gate_Gated_Admitted) {
+        uint32_t count = value.as.Admitted;
+        uint64_t place = sheet_untuned_first_tuning(src);
+        if (place < src.count / 4) {
+            return (gate_Gated){.tag = gate_Gated_Refused, .as.Refused = {.number = 12, .place = place}};
+        }
+        return (gate_Gated){.tag = gate_Gated_Admitted, .as.Admitted = count};
+    }
+    refusal_Refusal r = value.as.Refused;
+    return (gate_Gated){.tag = gate_Gated_Refused, .as.Refused = r};
+}
+
+// ==== sheet_edition_1
+//
+// Sheets for the old reduction program, which reads edition 1 only (document 02, slip 6): an edition 1
+// sheet is written from an edition 2 sheet.
+
+// The pattern of a float; every NaN has the same. No index of an admitted sheet is a NaN.
+static uint64_t sheet_edition_1_pattern(double x) {
+    if (x != x) {
+        return 0x7ff8000000000000u;
+    }
+    return to_bits(x);
+}
+
+// Its high word.
+static uint32_t sheet_edition_1_high_word(double x) {
+    return (uint32_t)(sheet_edition_1_pattern(x) / 0x100000000u);
+}
+
+// Its low word.
+static uint32_t sheet_edition_1_low_word(double x) {
+    return (uint32_t)(sheet_edition_1_pattern(x) % 0x100000000u);
+}
+
+// A word at a place of the output, high byte first.
+static void sheet_edition_1_put_word(slice_mut_u8 output, uint64_t to, uint32_t w) {
+    uint64_t i = 4 * to;
+    output.at[i] = (uint8_t)(w / 0x1000000);
+    output.at[i + 1] = (uint8_t)(w / 0x10000 % 256);
+    output.at[i + 2] = (uint8_t)(w / 256 % 256);
+    output.at[i + 3] = (uint8_t)(w % 256);
+}
+
+// How many words the block at a place becomes: a kind 6 becomes a LAYER, and all else keeps its words.
+static uint64_t sheet_edition_1_new_size(slice_u8 src, uint64_t at) {
+    if (sheet_kind_at(src, at) == 6) {
+        return 7;
+    }
+    return sheet_next_place(src, at) - at;
+}
+
+// The j-th word of the LAYER that the kind 6 at a place becomes: its index at a wavelength, k +0, its thickness.
+static uint32_t sheet_edition_1_layer_word(slice_u8 src, uint64_t at, double wavelength_nm, uint64_t j) {
+    thin_film_solver_ThinFilmLayer film = sheet_values_cauchy_film(wavelength_nm, sheet_values_cauchy_at(src, at));
+    if (j == 0) {
+        return 0x40000000;
+    }
+    if (j == 1) {
+        return sheet_edition_1_high_word(film.n);
+    }
+    if (j == 2) {
+        return sheet_edition_1_low_word(film.n);
+    }
+    if (j == 3) {
+        return sheet_edition_1_high_word(film.k);
+    }
+    if (j == 4) {
+        return sheet_edition_1_low_word(film.k);
+    }
+    return sheet_word_from(src, at + j + 2);
+}
+
+// The j-th word of what the block at a place becomes: OPEN's payload is 1, a kind 6 is a LAYER, all else is as it was.
+static uint32_t sheet_edition_1_new_word(slice_u8 src, uint64_t at, double wavelength_nm, uint64_t j) {
+    uint32_t kind = sheet_kind_at(src, at);
+    if (kind == 1) {
+        return 0x10000001;
+    }
+    if (kind == 6) {
+        return sheet_edition_1_layer_word(src, at, wavelength_nm, j);
+    }
+    return sheet_word_from(src, at + j);
+}
+
+// What the block at a place becomes, at a place of the output; the place after it.
+static uint64_t sheet_edition_1_put_block(slice_u8 src, uint64_t at, double wavelength_nm, uint64_t to,
+        slice_mut_u8 output) {
+    uint64_t n = sheet_edition_1_new_size(src, at);
+    uint64_t j = 0;
+    while (j < n) {
+        sheet_edition_1_put_word(output, to + j, sheet_edition_1_new_word(src, at, wavelength_nm, j));
+        j = j + 1;
+    }
+    return to + n;
+}
+
+// How many bytes the new sheet has.
+static uint64_t sheet_edition_1_new_length(slice_u8 src) {
+    uint64_t total = src.count / 4;
+    uint64_t at = 0;
+    uint64_t n = 0;
+    while (at < total) {
+        n = n + sheet_edition_1_new_size(src, at);
+        at = sheet_next_place(src, at);
+    }
+    return 4 * n;
+}
+
+// The new sheet at the front of an output that has room for it, block after block.
+static void sheet_edition_1_write(slice_u8 src, slice_mut_u8 output) {
+    uint64_t total = src.count / 4;
+    sheet_values_Beam beam = sheet_values_beam_of(src);
+    double wavelength_nm = beam.wavelength_nm;
+    uint64_t at = 0;
+    uint64_t to = 0;
+    while (at < total) {
+        to = sheet_edition_1_put_block(src, at, wavelength_nm, to, output);
+        at = sheet_next_place(src, at);
+    }
+}
+
+// An edition 1 sheet for a sheet of either edition: each kind 6 becomes a LAYER with the index computed at
+// the BEAM's wavelength and k +0, OPEN's payload is 1, all else is unchanged. It is written to the front of
+// output, whose bytes past it keep what they held. Refusals: 4, 5, 6, 12 with the word of the first kind 7,
+// then 8 for an output that is too short; each leaves the output untouched.
+static sheet_edition_1_Rewritten sheet_edition_1_to_edition_1(slice_u8 src, slice_mut_u8 output) {
+    gate_Gated value = sheet_untuned_without_tuning(src);
+    if (value.tag == gate_Gated_Admitted) {
+        uint64_t length = sheet_edition_1_new_length(src);
+        if (output.count < length) {
+            return (sheet_edition_1_Rewritten){.tag = sheet_edition_1_Rewritten_Refused,
+                    .as.Refused = {.number = 8, .place = 0}};
+        }
+        sheet_edition_1_write(src, output);
+        return (sheet_edition_1_Rewritten){.tag = sheet_edition_1_Rewritten_Length, .as.Length = length};
+    }
+    refusal_Refusal r = value.as.Refused;
+    return (sheet_edition_1_Rewritten){.tag = sheet_edition_1_Rewritten_Refused, .as.Refused = r};
+}
+
 // ==== train_steps
 //
 // The train of document 01, section 7, and of document 02, slip 5: start, step, retune and whole run. Each is
@@ -3929,13 +4496,19 @@ static train_steps_Chosen train_steps_chosen_at(slice_u8 src, uint64_t at, uint6
     return (train_steps_Chosen){.s = 0.0 / 0.0, .p = 0.0 / 0.0};
 }
 
+// The state after the surface at a place with the n layers after it, met with a wavelength.
+static train_steps_State train_steps_moved_from(slice_u8 src, uint64_t at, uint64_t n, double wavelength_nm,
+        train_steps_State state) {
+    train_steps_Chosen c = train_steps_chosen_at(src, at, n, wavelength_nm);
+    return (train_steps_State){.done = state.done + 1, .s = state.s * c.s, .p = state.p * c.p,
+            .wavelength_nm = wavelength_nm};
+}
+
 // The state after the surface that begins at a place, which is met with its own kind 7's wavelength or the one held.
 static train_steps_State train_steps_moved_at(slice_u8 src, uint64_t begin, train_steps_State state) {
     double wavelength_nm = sheet_values_met_with(src, begin, state.wavelength_nm);
     uint64_t at = sheet_onto(src, begin);
-    train_steps_Chosen c = train_steps_chosen_at(src, at, sheet_layer_run(src, at), wavelength_nm);
-    return (train_steps_State){.done = state.done + 1, .s = state.s * c.s, .p = state.p * c.p,
-            .wavelength_nm = wavelength_nm};
+    return train_steps_moved_from(src, at, sheet_layer_run(src, at), wavelength_nm, state);
 }
 
 // One surface on from any state; a refusal leaves the state as it was.
@@ -3997,6 +4570,23 @@ static void train_steps_write_each(slice_u8 src, uint64_t count, slice_mut_f64 l
     }
 }
 
+// The state after count surfaces from the start, with a wavelength in place of the BEAM's; it gates nothing.
+static train_steps_State train_steps_run_at(slice_u8 src, uint32_t count, double wavelength_nm) {
+    sheet_values_Beam beam = sheet_values_beam_of(src);
+    train_steps_State state = {.done = 0, .s = beam.s, .p = beam.p, .wavelength_nm = wavelength_nm};
+    uint64_t begin = sheet_begin_of(src, 0);
+    uint32_t i = 0;
+    while (i < count) {
+        double met_nm = sheet_values_met_with(src, begin, state.wavelength_nm);
+        uint64_t at = sheet_onto(src, begin);
+        uint64_t n = sheet_layer_run(src, at);
+        state = train_steps_moved_from(src, at, n, met_nm, state);
+        begin = sheet_place_on(src, at, n + 1);
+        i = i + 1;
+    }
+    return state;
+}
+
 // A run over the whole sheet from its start: s, p after each surface go to the lent list.
 static gate_Gated train_steps_run(slice_u8 src, slice_mut_f64 list) {
     gate_Gated value = gate_gate(src);
@@ -4011,6 +4601,95 @@ static gate_Gated train_steps_run(slice_u8 src, slice_mut_f64 list) {
     }
     refusal_Refusal r = value.as.Refused;
     return (gate_Gated){.tag = gate_Gated_Refused, .as.Refused = r};
+}
+
+// ==== band
+//
+// A whole band (document 02, slip 14): a sheet's train at each of 1 to 64 lines from its start, and the
+// weighed means of s and of p.
+
+// 1 to 64 lines, a weight for each.
+static bool band_lines_fit(slice_f64 wavelengths, slice_u32 weights) {
+    uint64_t n = wavelengths.count;
+    return 1 <= n && n <= 64 && n == weights.count;
+}
+
+// A whole weight, 1 to 1,000.
+static bool band_weight_passes(uint32_t weight) {
+    return 1 <= weight && weight <= 1000;
+}
+
+// The first line whose weight is outside; their count where there is none.
+static uint64_t band_first_weight_outside(slice_u32 weights) {
+    uint64_t i = 0;
+    while (i < weights.count) {
+        if (!band_weight_passes(weights.at[i])) {
+            return i;
+        }
+        i = i + 1;
+    }
+    return i;
+}
+
+// The first line whose wavelength the gate refuses; their count where there is none.
+static uint64_t band_first_wavelength_outside(slice_u8 src, uint32_t count, slice_f64 wavelengths) {
+    uint64_t i = 0;
+    while (i < wavelengths.count) {
+        if (!gate_holds(src, 0, count, wavelengths.at[i])) {
+            return i;
+        }
+        i = i + 1;
+    }
+    return i;
+}
+
+// The train at a line, from its start to its last surface.
+static train_steps_State band_at_line(slice_u8 src, uint32_t count, double wavelength_nm) {
+    return train_steps_run_at(src, count, wavelength_nm);
+}
+
+// Each weight times each power is added up in the order of the lines, onto +0; the totals are divided by
+// the sum of the weights.
+static band_BandPowers band_weighed(slice_u8 src, uint32_t count, slice_f64 wavelengths, slice_u32 weights) {
+    uint64_t n = wavelengths.count;
+    double s = 0.0;
+    double p = 0.0;
+    uint32_t whole = 0;
+    uint64_t i = 0;
+    while (i < n) {
+        train_steps_State line = band_at_line(src, count, wavelengths.at[i]);
+        uint32_t weight = weights.at[i];
+        s = s + (double)weight * line.s;
+        p = p + (double)weight * line.p;
+        whole = whole + weight;
+        i = i + 1;
+    }
+    return (band_BandPowers){.lines = (uint32_t)n, .s = s / (double)whole, .p = p / (double)whole};
+}
+
+// The means of s and of p over the lines of a band, each a wavelength and a weight. Refusals: 4, 5, 6, 12
+// with the word of the first kind 7; 15 with 64 for no lines, more than 64 or lists of unequal length, else
+// with the first line whose weight is outside; 16 with the first line whose wavelength the gate refuses.
+static band_BandReply band_band(slice_u8 src, slice_f64 wavelengths, slice_u32 weights) {
+    gate_Gated value = sheet_untuned_without_tuning(src);
+    if (value.tag == gate_Gated_Admitted) {
+        uint32_t count = value.as.Admitted;
+        if (!band_lines_fit(wavelengths, weights)) {
+            return (band_BandReply){.tag = band_BandReply_Refused, .as.Refused = {.number = 15, .place = 64}};
+        }
+        uint64_t weight = band_first_weight_outside(weights);
+        if (weight < weights.count) {
+            return (band_BandReply){.tag = band_BandReply_Refused, .as.Refused = {.number = 15, .place = weight}};
+        }
+        uint64_t wavelength = band_first_wavelength_outside(src, count, wavelengths);
+        if (wavelength < wavelengths.count) {
+            return (band_BandReply){.tag = band_BandReply_Refused, .as.Refused = {.number = 16, .place = wavelength}};
+        }
+        return (band_BandReply){.tag = band_BandReply_Powers,
+                .as.Powers = band_weighed(src, count, wavelengths, weights)};
+    }
+    refusal_Refusal r = value.as.Refused;
+    return (band_BandReply){.tag = band_BandReply_Refused, .as.Refused = r};
 }
 
 // ==== dihkelu
@@ -4158,6 +4837,39 @@ uint64_t dihkelu_run(const uint8_t *sheet_at, size_t sheet_count, double *list_a
     slice_mut_f64 list = {list_at, list_count};
     gate_Gated value = train_steps_run(sheet, list);
     return dihkelu_number_of(value);
+}
+
+// An edition 1 sheet for a sheet of either edition, which runs alike: writes it to the front of the output
+// and returns its length in bytes; or a refusal: 4, 5, 6, 12 at the first kind 7, then 8 for an output that
+// is too short.
+uint64_t dihkelu_edition_1(const uint8_t *sheet_at, size_t sheet_count, uint8_t *output_at, size_t output_count) {
+    slice_u8 sheet = {sheet_at, sheet_count};
+    slice_mut_u8 output = {output_at, output_count};
+    sheet_edition_1_Rewritten value = sheet_edition_1_to_edition_1(sheet, output);
+    if (value.tag == sheet_edition_1_Rewritten_Length) {
+        uint64_t n = value.as.Length;
+        return n;
+    }
+    refusal_Refusal r = value.as.Refused;
+    return c_call_packed(r);
+}
+
+// The means of s and of p over the lines of a band, each a wavelength and a weight: writes s, p and returns
+// the count of lines; or a refusal: 4, 5, 6, 12, 15, 16, then 8.
+uint64_t dihkelu_band(const uint8_t *sheet_at, size_t sheet_count, const double *wavelengths_nm_at,
+        size_t wavelengths_nm_count, const uint32_t *weights_at, size_t weights_count, double *list_at,
+        size_t list_count) {
+    slice_u8 sheet = {sheet_at, sheet_count};
+    slice_f64 wavelengths_nm = {wavelengths_nm_at, wavelengths_nm_count};
+    slice_u32 weights = {weights_at, weights_count};
+    slice_mut_f64 list = {list_at, list_count};
+    band_BandReply value = band_band(sheet, wavelengths_nm, weights);
+    if (value.tag == band_BandReply_Powers) {
+        band_BandPowers b = value.as.Powers;
+        return c_call_put_both((uint64_t)b.lines, b.s, b.p, list);
+    }
+    refusal_Refusal r = value.as.Refused;
+    return c_call_packed(r);
 }
 
 // Of a sheet's surface, counted from 0: writes its answers and returns the count of their numbers; or

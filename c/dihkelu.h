@@ -13,7 +13,7 @@
  *
  * A call returns one number. Its high 32 bits are 0 where the call answers; the low 32 bits are then what the call
  * says below. Where it refuses, the high 32 bits are the documents' number of the refusal and the low 32 bits its
- * place, a word of the sheet or a byte of the text counted from 0; the place is 0 where the documents give none.
+ * place, a word of the sheet, a byte of the text or a line of the band counted from 0; the place is 0 where the documents give none.
  *
  *   1  evaluate: the Rust's InvalidParameter, an unknown code, or a count of layers that is no multiple of 3;
  *      stack: an index or the design wavelength is not positive and finite; to_mueller, mueller_born_wolf: there are
@@ -23,15 +23,19 @@
  *   5  the word at this place is out of grammar
  *   6  the BEAM, SURFACE, layer or kind 7 at this place is outside the limits
  *   7  there is no such surface: it is the sheet's count or more
- *   8  the list is too short; after all other refusals
+ *   8  the list or the output is too short; after all other refusals
  *   9  stack: no text can have the byte at this place; the place is the count of bytes where the text stops early, and
  *      255 for a text over 255 bytes
  *  10  stack: more than 64 layers
  *  11  step, retune: the wavelength is NaN or outside 100 to 10,000 nm, or a layer still to come fails at it, of those up
  *      to the next kind 7
+ *  12  edition_1, band: the kind 7 at this place, the first of the sheet
  *  13  reflectance_range: a low end is above its high end, or an end is NaN or outside 1 to 4
  *  14  quarter_waves: n is outside 1 to 4, the thickness outside 0 to 100,000 or the wavelength outside 100 to 10,000, or
  *      one of them is no number
+ *  15  band: the place is 64 for no lines, more than 64 or lists of unequal length, else the first line, counted from 0,
+ *      whose weight is outside 1 to 1,000
+ *  16  band: the first line whose wavelength is NaN or outside 100 to 10,000 nm, or at which a layer of the sheet fails
  *
  * A call that refuses writes nothing. (That is proved of the numbers that are lent, so up to the bits of a NaN that
  * stands there; the tests look at every bit.) A call that answers writes the front of the list and leaves the rest of
@@ -42,13 +46,15 @@
  * one that is built from C (c/) is for machines of 64 bits.
  *
  * WHAT THE CALLER OWES, since no callee can check it:
- *   - A sheet, a text, a list of layers, a Jones matrix and a list that is written are each passed as a pointer and a
- *     count of elements (bytes or doubles), two arguments one after the other. So many elements are there, readable, and
- *     writable in the list; a pointer to doubles is aligned for them. Where the count is 0 the pointer may be anything,
- *     null too: nothing is read or written through it.
+ *   - A sheet, a text, a list of layers, a Jones matrix, a band's wavelengths and weights and a list or an output that is
+ *     written are each passed as a pointer and a count of elements (bytes, doubles or uint32_t), two arguments one after
+ *     the other. So many elements are there, readable, and writable in the list and the output; a pointer to doubles or
+ *     weights is aligned for them. Where the count is 0 the pointer may be anything, null too: nothing is read or written
+ *     through it.
  *   - A number that is written, such as a state's s, is passed as a pointer to it, which is never null. The numbers of a
  *     state are apart from each other and from the sheet.
- *   - The list overlaps neither the sheet nor the text nor the layers nor the Jones matrix, and no other thread writes
+ *   - The list or the output overlaps neither the sheet nor the text nor the layers nor the Jones matrix nor the band, and
+ *     no other thread writes
  *     any of them meanwhile.
  *   - One double that is written, remainder_nm, is a pointer that is not null, to a double that is there, aligned and writable.
  *   - The floating-point environment is the one that a C program starts with: rounding to nearest, subnormal numbers
@@ -144,8 +150,8 @@ DIHKELU_MUST_USE static inline int dihkelu_environment_ok(void) {
 #define DIHKELU_COATED 69
 
 /* The gate. A sheet is of edition 1, or of edition 2, in which a layer may be of kind 6, a glass whose index changes with
- * colour, and a kind 7 may stand before a surface: the wavelength from there on. Returns the count of surfaces; refuses
- * with 4, 5, 6. */
+ * colour, and a kind 7 may stand before a surface: the wavelength from there on. In either edition the 1 to 4 layers of a
+ * custom surface at angle zero may be metal films. Returns the count of surfaces; refuses with 4, 5, 6. */
 DIHKELU_MUST_USE uint64_t dihkelu_gate(const uint8_t *sheet, size_t sheet_count);
 
 /* A train's state is four numbers: surfaces done, s, p and the wavelength held in nm. The calls take any state, also one
@@ -168,6 +174,28 @@ DIHKELU_MUST_USE uint64_t dihkelu_retune(const uint8_t *sheet, size_t sheet_coun
 /* A whole run from the start. Writes s, p after each surface, 2 doubles for each, and returns the count of surfaces;
  * refuses with 4, 5, 6, 8. */
 DIHKELU_MUST_USE uint64_t dihkelu_run(const uint8_t *sheet, size_t sheet_count, double *list, size_t list_count);
+
+/* The most bytes that dihkelu_edition_1 writes: the longest sheet of edition 1. */
+#define DIHKELU_EDITION_1 30500
+
+/* A sheet for programs that read edition 1 only, from a sheet of either edition: each kind 6 becomes a LAYER with its
+ * index at the BEAM's wavelength and k +0, OPEN's payload is 1, and all else is as it was; a sheet of edition 1 comes out
+ * as itself. Whole runs, steps and answers of both are the same, bit for bit; after a retune they are not, since a kind 6
+ * changes with colour and a LAYER does not. Writes the new sheet to the front of the output and returns its length in
+ * bytes, which is never more than the old one's; refuses with 4, 5, 6, 12, 8. */
+DIHKELU_MUST_USE uint64_t dihkelu_edition_1(const uint8_t *sheet, size_t sheet_count, uint8_t *output,
+                                            size_t output_count);
+
+/* The most lines of a band. */
+#define DIHKELU_LINES 64
+
+/* A whole band: 1 to 64 lines, each a wavelength in nm and a whole weight 1 to 1,000. The train is run at each line from
+ * its start, the line's wavelength in place of the BEAM's; each weight times s is added up in the order of the lines, onto
+ * +0, and the total is divided by the sum of the weights; likewise p. Writes s and p, 2 doubles from 0 to 1, and returns
+ * the count of lines; refuses with 4, 5, 6, 12, 15, 16, 8. The sheet has no kind 7. */
+DIHKELU_MUST_USE uint64_t dihkelu_band(const uint8_t *sheet, size_t sheet_count, const double *wavelengths_nm,
+                                       size_t wavelengths_count, const uint32_t *weights, size_t weights_count,
+                                       double *list, size_t list_count);
 
 /* The answers of a surface, counted from 0, at the wavelength that steps alone meet it with: that of the last kind 7 up
  * to it, or else the BEAM's. Returns how many doubles it wrote; refuses with 4, 5, 6, 7, 8. In order:

@@ -36,11 +36,6 @@ typedef struct {
 } train_text_Digits;
 
 typedef struct {
-    uint8_t *at;
-    uint64_t count;
-} slice_mut_u8;
-
-typedef struct {
     uint8_t at[3];
 } u8_x3;
 

@@ -12,12 +12,14 @@ module dihkelu
     integer(c_int32_t), parameter, public :: dihkelu_response_count = 16
     integer(c_int32_t), parameter, public :: dihkelu_bare_count = 53
     integer(c_int32_t), parameter, public :: dihkelu_coated_count = 69
+    integer(c_int32_t), parameter, public :: dihkelu_edition_1_count = 30500
+    integer(c_int32_t), parameter, public :: dihkelu_lines_count = 64
     integer(c_int32_t), parameter, public :: dihkelu_stack_count = 192
     integer(c_int32_t), parameter, public :: dihkelu_mueller_count = 16
 
-    public :: dihkelu_version, dihkelu_gate, dihkelu_start, dihkelu_step, dihkelu_retune, dihkelu_run, dihkelu_answers, &
-        dihkelu_evaluate, dihkelu_stack, dihkelu_to_mueller, dihkelu_mueller_born_wolf, dihkelu_reflectance_range, &
-        dihkelu_quarter_waves, dihkelu_refusal, dihkelu_place, dihkelu_value
+    public :: dihkelu_version, dihkelu_gate, dihkelu_start, dihkelu_step, dihkelu_retune, dihkelu_run, dihkelu_edition_1, &
+        dihkelu_band, dihkelu_answers, dihkelu_evaluate, dihkelu_stack, dihkelu_to_mueller, dihkelu_mueller_born_wolf, &
+        dihkelu_reflectance_range, dihkelu_quarter_waves, dihkelu_refusal, dihkelu_place, dihkelu_value
 
     interface
         function dihkelu_version() bind(c, name='dihkelu_version') result(returned)
@@ -26,8 +28,8 @@ module dihkelu
         end function dihkelu_version
 
         ! The gate. A sheet is of edition 1, or of edition 2, in which a layer may be of kind 6, a glass whose index changes with
-        ! colour, and a kind 7 may stand before a surface: the wavelength from there on. Returns the count of surfaces; refuses
-        ! with 4, 5, 6.
+        ! colour, and a kind 7 may stand before a surface: the wavelength from there on. In either edition the 1 to 4 layers of a
+        ! custom surface at angle zero may be metal films. Returns the count of surfaces; refuses with 4, 5, 6.
         function dihkelu_gate(sheet, sheet_count) bind(c, name='dihkelu_gate') result(returned)
             import :: c_int64_t, c_int8_t, c_size_t
             integer(c_int8_t), intent(in) :: sheet(*)
@@ -88,6 +90,39 @@ module dihkelu
             integer(c_size_t), value :: list_count
             integer(c_int64_t) :: returned
         end function dihkelu_run
+
+        ! A sheet for programs that read edition 1 only, from a sheet of either edition: each kind 6 becomes a LAYER with its
+        ! index at the BEAM's wavelength and k +0, OPEN's payload is 1, and all else is as it was; a sheet of edition 1 comes out
+        ! as itself. Whole runs, steps and answers of both are the same, bit for bit; after a retune they are not, since a kind 6
+        ! changes with colour and a LAYER does not. Writes the new sheet to the front of the output and returns its length in
+        ! bytes, which is never more than the old one's; refuses with 4, 5, 6, 12, 8.
+        function dihkelu_edition_1(sheet, sheet_count, output, output_count) bind(c, name='dihkelu_edition_1') &
+            result(returned)
+            import :: c_int64_t, c_int8_t, c_size_t
+            integer(c_int8_t), intent(in) :: sheet(*)
+            integer(c_size_t), value :: sheet_count
+            integer(c_int8_t), intent(inout) :: output(*)
+            integer(c_size_t), value :: output_count
+            integer(c_int64_t) :: returned
+        end function dihkelu_edition_1
+
+        ! A whole band: 1 to 64 lines, each a wavelength in nm and a whole weight 1 to 1,000. The train is run at each line from
+        ! its start, the line's wavelength in place of the BEAM's; each weight times s is added up in the order of the lines, onto
+        ! +0, and the total is divided by the sum of the weights; likewise p. Writes s and p, 2 doubles from 0 to 1, and returns
+        ! the count of lines; refuses with 4, 5, 6, 12, 15, 16, 8. The sheet has no kind 7.
+        function dihkelu_band(sheet, sheet_count, wavelengths_nm, wavelengths_count, weights, weights_count, list, &
+            list_count) bind(c, name='dihkelu_band') result(returned)
+            import :: c_double, c_int32_t, c_int64_t, c_int8_t, c_size_t
+            integer(c_int8_t), intent(in) :: sheet(*)
+            integer(c_size_t), value :: sheet_count
+            real(c_double), intent(in) :: wavelengths_nm(*)
+            integer(c_size_t), value :: wavelengths_count
+            integer(c_int32_t), intent(in) :: weights(*)
+            integer(c_size_t), value :: weights_count
+            real(c_double), intent(inout) :: list(*)
+            integer(c_size_t), value :: list_count
+            integer(c_int64_t) :: returned
+        end function dihkelu_band
 
         ! The answers of a surface, counted from 0, at the wavelength that steps alone meet it with: that of the last kind 7 up
         ! to it, or else the BEAM's. Returns how many doubles it wrote; refuses with 4, 5, 6, 7, 8. In order:

@@ -4,8 +4,8 @@
 extern "C" {
     pub fn dihkelu_version() -> u32;
     /// The gate. A sheet is of edition 1, or of edition 2, in which a layer may be of kind 6, a glass whose index changes with
-    /// colour, and a kind 7 may stand before a surface: the wavelength from there on. Returns the count of surfaces; refuses
-    /// with 4, 5, 6.
+    /// colour, and a kind 7 may stand before a surface: the wavelength from there on. In either edition the 1 to 4 layers of a
+    /// custom surface at angle zero may be metal films. Returns the count of surfaces; refuses with 4, 5, 6.
     pub fn dihkelu_gate(sheet: *const u8, sheet_count: usize) -> u64;
     /// A train's state is four numbers: surfaces done, s, p and the wavelength held in nm. The calls take any state, also one
     /// that no train has been in. Up to version 0.2 a state had no wavelength, and start and step wrote s and p to a list.
@@ -43,6 +43,31 @@ extern "C" {
     pub fn dihkelu_run(
         sheet: *const u8,
         sheet_count: usize,
+        list: *mut f64,
+        list_count: usize,
+    ) -> u64;
+    /// A sheet for programs that read edition 1 only, from a sheet of either edition: each kind 6 becomes a LAYER with its
+    /// index at the BEAM's wavelength and k +0, OPEN's payload is 1, and all else is as it was; a sheet of edition 1 comes out
+    /// as itself. Whole runs, steps and answers of both are the same, bit for bit; after a retune they are not, since a kind 6
+    /// changes with colour and a LAYER does not. Writes the new sheet to the front of the output and returns its length in
+    /// bytes, which is never more than the old one's; refuses with 4, 5, 6, 12, 8.
+    pub fn dihkelu_edition_1(
+        sheet: *const u8,
+        sheet_count: usize,
+        output: *mut u8,
+        output_count: usize,
+    ) -> u64;
+    /// A whole band: 1 to 64 lines, each a wavelength in nm and a whole weight 1 to 1,000. The train is run at each line from
+    /// its start, the line's wavelength in place of the BEAM's; each weight times s is added up in the order of the lines, onto
+    /// +0, and the total is divided by the sum of the weights; likewise p. Writes s and p, 2 doubles from 0 to 1, and returns
+    /// the count of lines; refuses with 4, 5, 6, 12, 15, 16, 8. The sheet has no kind 7.
+    pub fn dihkelu_band(
+        sheet: *const u8,
+        sheet_count: usize,
+        wavelengths_nm: *const f64,
+        wavelengths_count: usize,
+        weights: *const u32,
+        weights_count: usize,
         list: *mut f64,
         list_count: usize,
     ) -> u64;
