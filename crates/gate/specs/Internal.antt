@@ -39,7 +39,8 @@ metal-layer wavelength l = coefficients-finite l && metal-within (film wavelengt
 
 unfoldable pub metal-layers : Float → Float → List SheetLayer → Bool
 metal-layers wavelength sum [] = le sum sixteen
-metal-layers wavelength sum (l ∷ ls) = metal-layer wavelength l && metal-layers wavelength (sum ⊕ absorption wavelength (film wavelength l)) ls
+metal-layers wavelength sum (l ∷ ls) =
+    metal-layer wavelength l && metal-layers wavelength (sum ⊕ absorption wavelength (film wavelength l)) ls
 
 -- whether a block passes at a wavelength, with a SURFACE before it and an n_incident·abs(sin) of b; and those of the layers after it
 unfoldable pub passage-at : List ℕ → ℕ → ℕ → Float → Float → Passage
