@@ -59,8 +59,8 @@
  *   - One double that is written, remainder_nm, is a pointer that is not null, to a double that is there, aligned and writable.
  *   - The floating-point environment is the one that a C program starts with: rounding to nearest, subnormal numbers
  *     kept, no exception trapped. A program LINKED WITH -ffast-math or -Ofast starts with subnormals flushed to zero, and
- *     the gate then admits k = 2^-1074 and a power of -2^-1074; another rounding mode changes the last bits of every
- *     answer. dihkelu_environment_ok() says whether subnormals and rounding are as they should be: call it once in
+ *     the gate then admits k = 2^-1074 at any angle and a power of -2^-1074; another rounding mode changes the last bits
+ *     of every answer. dihkelu_environment_ok() says whether subnormals and rounding are as they should be: call it once in
  *     each thread that calls the library.
  *
  * s AND p: row and column 0 of a Jones matrix are s, row and column 1 are p. A surface's Jones matrices are zero off the

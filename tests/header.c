@@ -24,13 +24,13 @@ static size_t put_bits(uint8_t *bytes, size_t at, uint64_t bits) {
     return put(bytes, put(bytes, at, (uint32_t)(bits >> 32)), (uint32_t)(bits & 0xFFFFFFFFu));
 }
 
-/* A beam of 500 nm whose s power has these bits, and a surface from 1 to 1.5 with one layer whose k has those. */
+/* A beam of 500 nm whose s power has these bits, and a surface from 1 to 1.5, at 0.5 rad, where no metal film may be, with one layer whose k has those. */
 static uint64_t gate_of(uint64_t s, uint64_t k) {
-    const uint64_t one = 0x3FF0000000000000u, index = 0x3FF8000000000000u;
+    const uint64_t one = 0x3FF0000000000000u, index = 0x3FF8000000000000u, angle = 0x3FE0000000000000u;
     uint8_t sheet[100];
     size_t size = put_bits(sheet, put(sheet, put(sheet, 0, 0x10000001), 0x20000000), 0x407F400000000000u);
     size = put_bits(sheet, put_bits(sheet, size, s), 0);
-    size = put_bits(sheet, put_bits(sheet, put_bits(sheet, put(sheet, size, 0x3000000A), one), index), 0);
+    size = put_bits(sheet, put_bits(sheet, put_bits(sheet, put(sheet, size, 0x3000000A), one), index), angle);
     size = put_bits(sheet, put_bits(sheet, put_bits(sheet, put(sheet, size, 0x40000000), index), k), 0);
     return dihkelu_gate(sheet, put(sheet, size, 0x50000001));
 }

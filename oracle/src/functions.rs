@@ -41,7 +41,7 @@ pub const SAMPLE_RANDOM: usize = 10_000;
 pub const SAMPLE_BYTES: usize = 4 << 20;
 
 /// The most bytes of a sample of all groups together.
-pub const WHOLE_SAMPLE_BYTES: usize = 7 << 20;
+pub const WHOLE_SAMPLE_BYTES: usize = 8 << 20;
 
 pub struct Function {
     pub number: u16,
@@ -87,6 +87,7 @@ pub fn table() -> Vec<Function> {
     all.extend(train::table());
     all.extend(exports::table());
     all.extend(edition_1::table());
+    all.sort_by_key(|f| f.number);
     all
 }
 
