@@ -117,6 +117,14 @@ macro_rules! side {
                 coated(&custom(layers.iter()), &place)
             }
 
+            pub fn run_of(sheet: Vec<u8>) -> Work {
+                Box::new(move || run(&sheet))
+            }
+
+            pub fn band_of((sheet, wavelengths, weights): (Vec<u8>, Vec<f64>, Vec<u32>)) -> Work {
+                Box::new(move || band(&sheet, &wavelengths, &weights))
+            }
+
             pub fn works() -> Vec<Option<Work>> {
                 let layers = super::layers();
                 let places = super::places();
@@ -127,9 +135,7 @@ macro_rules! side {
                     over(custom(layers.iter().take(16)), super::places()),
                     over(custom(layers.iter()), super::places()),
                 ];
-                for sheet in super::run_sheets() {
-                    works.push(Box::new(move || run(&sheet)));
-                }
+                works.extend(super::run_sheets().into_iter().map(run_of));
                 for sheet in super::gate_sheets() {
                     works.push(Box::new(move || gate(&sheet).map_or(0.0, |x| x.s)));
                 }
@@ -139,8 +145,7 @@ macro_rules! side {
                 for text in super::stack_texts() {
                     works.push(Box::new(move || super::read_stack(text)));
                 }
-                let (sheet, wavelengths, weights) = super::longest_band();
-                works.push(Box::new(move || band(&sheet, &wavelengths, &weights)));
+                works.push(band_of(super::longest_band()));
                 works.into_iter().map(Some).collect()
             }
         }
@@ -203,10 +208,14 @@ pub fn step_sheets() -> Vec<Vec<u8>> {
         .to_vec()
 }
 
-/// 64 lines and the longest sheet of LAYERs.
+/// So many lines and the longest sheet of LAYERs.
+fn band_sheet(lines: u32) -> (Vec<u8>, Vec<f64>, Vec<u32>) {
+    let wavelengths = (0..lines).map(|i| 400.0 + 5.0 * f64::from(i)).collect();
+    (even(64, 16).bytes(), wavelengths, (1..=lines).collect())
+}
+
 pub fn longest_band() -> (Vec<u8>, Vec<f64>, Vec<u32>) {
-    let lines = (0..64).map(|i| 400.0 + 5.0 * f64::from(i)).collect();
-    (even(64, 16).bytes(), lines, (1..=64).collect())
+    band_sheet(64)
 }
 
 /// The indices of H, L and M.
@@ -334,16 +343,49 @@ fn latency(runs: usize, f: Scalar, arguments: &[(f64, f64)]) -> f64 {
     })
 }
 
-/// A row: the sides' times, then the ratios reference/authors and, if it is there, proved/reference.
+/// A row: the sides' times, then the ratios of the last one to each of those before it.
 fn row(name: &str, times: &[f64]) {
     let mut line = format!("{name:<52}");
     for time in times {
         line += &format!(" {time:>11.1}");
     }
-    for i in 1..times.len() {
-        line += &format!(" {:>18.2}", times[i] / times[i - 1]);
+    let (last, others) = times.split_last().expect("a side");
+    for other in others {
+        line += &format!(" {:>18.2}", last / other);
     }
     println!("{line}");
+}
+
+/// Command scaling: microseconds of whole runs over surfaces and over layers, and of bands over lines, a line
+/// `what,count,authors,reference,proved` for each.
+pub fn scaling(runs: usize) {
+    println!("what,count,authors,reference,proved");
+    let print = |what: &str, count: usize, works: &[Work]| {
+        let sides: Vec<&Work> = works.iter().collect();
+        let times = turns(runs, 1, &sides);
+        let texts: Vec<String> = times.iter().map(|t| format!("{:.2}", t / 1e3)).collect();
+        println!("{what},{count},{}", texts.join(","));
+    };
+    let run = |what: &str, count: usize, sheet: Vec<u8>| {
+        let mut works = vec![
+            authors::run_of(sheet.clone()),
+            reference::run_of(sheet.clone()),
+        ];
+        works.extend(crate::proved::run_of(sheet));
+        print(what, count, &works);
+    };
+    for count in (0..=64).step_by(4).map(|n| n.max(1)) {
+        run("surfaces", count, even(count, 16).bytes());
+    }
+    for count in 0..=16 {
+        run("layers", count, even(64, count).bytes());
+    }
+    for count in (0..=64).step_by(8).map(|n| n.max(1)) {
+        let band = || band_sheet(count);
+        let mut works = vec![authors::band_of(band()), reference::band_of(band())];
+        works.extend(crate::proved::band_of(band()));
+        print("lines", count as usize, &works);
+    }
 }
 
 pub fn bench(runs: usize) {
@@ -353,10 +395,11 @@ pub fn bench(runs: usize) {
     for name in ["authors", "reference", "proved"].iter().take(sides.len()) {
         heading += &format!(" {name:>11}");
     }
-    for name in ["reference/authors", "proved/reference"]
-        .iter()
-        .take(sides.len() - 1)
-    {
+    let ratios: &[&str] = match sides.len() {
+        3 => &["proved/authors", "proved/reference"],
+        _ => &["reference/authors"],
+    };
+    for name in ratios {
         heading += &format!(" {name:>18}");
     }
     println!("{heading}");

@@ -20,6 +20,7 @@ oracle sheets DIRECTORY [--seed S] [--count N]
 oracle examples DIRECTORY
 oracle findings
 oracle bench [--runs N]
+oracle scaling [--runs N]
 oracle compare [--seed S] [--count N] [--spoil I]
 oracle measure [--seed S] [--count N]
 oracle metal [--seed S] [--count N]
@@ -155,6 +156,10 @@ fn execute(command: &str, options: &Options) -> Result<bool, String> {
         "findings" => Ok(findings::print()),
         "bench" => {
             bench::bench(options.runs.unwrap_or(9) as usize);
+            Ok(true)
+        }
+        "scaling" => {
+            bench::scaling(options.runs.unwrap_or(9) as usize);
             Ok(true)
         }
         "measure" | "metal" => {

@@ -53,6 +53,31 @@ pub fn works() -> Option<Vec<Option<Work>>> {
     None
 }
 
+/// A whole run of a sheet.
+pub fn run_of(_sheet: Vec<u8>) -> Option<Work> {
+    #[cfg(feature = "proved")]
+    return Some(Box::new(move || {
+        let mut list = [0.0; 128];
+        let count = crate::exports::linked_run(&_sheet, &mut list) as usize;
+        list[2 * count - 2] + list[2 * count - 1]
+    }));
+    #[cfg(not(feature = "proved"))]
+    None
+}
+
+/// A band of a sheet.
+pub fn band_of(_band: (Vec<u8>, Vec<f64>, Vec<u32>)) -> Option<Work> {
+    #[cfg(feature = "proved")]
+    return Some(Box::new(move || {
+        let (sheet, wavelengths, weights) = &_band;
+        let mut list = [0.0; 2];
+        crate::exports::linked_band(sheet, wavelengths, weights, &mut list);
+        list[0] + list[1]
+    }));
+    #[cfg(not(feature = "proved"))]
+    None
+}
+
 #[cfg(feature = "proved")]
 fn evaluations() -> Vec<Option<Work>> {
     use crate::bench::{layers, places, STACK_INDICES};
@@ -69,15 +94,8 @@ fn evaluations() -> Vec<Option<Work>> {
             places.iter().map(transmitted).sum()
         }))
     };
-    let run = |sheet: Vec<u8>| -> Option<Work> {
-        Some(Box::new(move || {
-            let mut list = [0.0; 128];
-            let count = crate::exports::linked_run(&sheet, &mut list) as usize;
-            list[2 * count - 2] + list[2 * count - 1]
-        }))
-    };
     let mut works = vec![None, over(2, 0), over(4, 0), over(5, 16), over(5, 64)];
-    works.extend(crate::bench::run_sheets().into_iter().map(run));
+    works.extend(crate::bench::run_sheets().into_iter().map(run_of));
     let gate = |sheet: Vec<u8>| -> Option<Work> {
         Some(Box::new(move || crate::exports::linked_gate(&sheet) as f64))
     };
@@ -106,12 +124,7 @@ fn evaluations() -> Vec<Option<Work>> {
         }))
     };
     works.extend(crate::bench::stack_texts().into_iter().map(stack));
-    let (sheet, wavelengths, weights) = crate::bench::longest_band();
-    works.push(Some(Box::new(move || {
-        let mut list = [0.0; 2];
-        crate::exports::linked_band(&sheet, &wavelengths, &weights, &mut list);
-        list[0] + list[1]
-    })));
+    works.push(band_of(crate::bench::longest_band()));
     works
 }
 
