@@ -26,7 +26,8 @@ PRELUDE = """//
 #if defined(__NO_SIGNED_ZEROS__) || defined(__ASSOCIATIVE_MATH__) || defined(__RECIPROCAL_MATH__)
 #error "compile this without the options that -ffast-math is made of: the answers would be others"
 #endif
-#if !defined(FLT_EVAL_METHOD) || FLT_EVAL_METHOD != 0
+// 0 and 1 leave doubles as they are, and so do 16, 32, 33 and 64, which speak of narrower numbers; 2 and 65 do not.
+#if !defined(FLT_EVAL_METHOD) || FLT_EVAL_METHOD < 0 || FLT_EVAL_METHOD == 2 || FLT_EVAL_METHOD > 64
 #error "operations on doubles are rounded twice here, as 32-bit x86 does without SSE2: the answers would be others"
 #endif
 
