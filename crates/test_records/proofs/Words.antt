@@ -16,7 +16,7 @@ use Rattle.thin_film_complex.specs.Complex.{zero}
 use Rattle.polarization_mueller.specs.declared.JonesMatrix.{JonesMatrix}
 use Rattle.test_records.specs.declared.Four.{Four}
 use Rattle.test_records.specs.Parts.{four, matrix, jones}
-use Rattle.test_records.specs.Words.{word, small, behind, header, pattern, written, agree}
+use Rattle.test_records.specs.Words.{word, small, behind, header, words-of, pattern, written, agree}
 
 -- ---- past the last word
 sheet-past : (src : List ℕ) (at : ℕ) → Sheet.count src ≤ at → Sheet.word src at ≡ 0
@@ -72,6 +72,21 @@ module _ (src : List ℕ) (i : ℕ) where
     pub all-there : n ≤ length src - (8 * i + 8) → take (8 * i + 8 + n - (8 * i + 8)) (drop (8 * i + 8) src) ≡ behind src i
     unfolding behind
     all-there l = rw (lt-ltb i (length src / 8) h, ← e, le-ltb (length src - (8 * i + 8)) n l, add-sub-cancel-left (8 * i + 8) n)
+
+-- ---- the words of a record
+module _ (body : List ℕ) (first n : ℕ) where
+  pub none-first : length body / 8 < first → [] ≡ words-of body first n
+  unfolding words-of
+  none-first h = rw (lt-ltb (length body / 8) first h)
+
+  module _ (h : first ≤ length body / 8) where
+    pub none-behind : length body / 8 - first < n → [] ≡ words-of body first n
+    unfolding words-of
+    none-behind l = rw (le-ltb (length body / 8) first h, lt-ltb (length body / 8 - first) n l)
+
+    pub words-there : n ≤ length body / 8 - first → take (8 * first + 8 * n - 8 * first) (drop (8 * first) body) ≡ words-of body first n
+    unfolding words-of
+    words-there l = rw (le-ltb (length body / 8) first h, le-ltb (length body / 8 - first) n l, add-sub-cancel-left (8 * first) (8 * n))
 
 -- ---- an answer that is written up to its i-th float
 pub begun : (out : List ℕ) (at : ℕ) (x : List Float) → written out (at + 0) x ≡ written out at x

@@ -28,6 +28,18 @@ behind src i =
 abbrev pub header : List ℕ → Header
 header src = record { function = Sheet.word src 0 / 2 ^ 16; args = Sheet.word src 0 % 2 ^ 16; results = Sheet.word src 1 / 2 ^ 16 }
 
+-- the n words behind the first so many; none where they do not all stand there
+unfoldable pub words-of : List ℕ → ℕ → ℕ → List ℕ
+words-of body first n =
+    cond (ltb (length body / 8) first) [] (cond (ltb (length body / 8 - first) n) [] (take (8 * n) (drop (8 * first) body)))
+
+-- a record's argument words, and its result words behind those
+abbrev pub arguments : Header → List ℕ → List ℕ
+arguments h body = words-of body 0 (h .args)
+
+abbrev pub results : Header → List ℕ → List ℕ
+results h body = words-of body (h .args) (h .results)
+
 -- ---- an answer
 -- the pattern of a float; every NaN, which alone does not equal itself, has the same
 unfoldable pub pattern : Float → ℕ

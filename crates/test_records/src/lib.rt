@@ -3,7 +3,7 @@
 ghost use mathlib.Core.Path.{_≡_};
 ghost use lib.Ieee.{binary64, ofBits};
 ghost use Rattle.test_records.specs.Parts.{four, jones, response, of-jones, of-response};
-ghost use Rattle.test_records.specs.Words.{word, small, behind, header, pattern, written, agree, recorded};
+ghost use Rattle.test_records.specs.Words.{word, small, behind, header, words-of, arguments, results, pattern, written, agree, recorded};
 use polarization_mueller::JonesMatrix;
 use polarization_mueller::MuellerMatrix;
 use thin_film_complex::Complex;
@@ -150,6 +150,35 @@ pub fn header_of(b: &[u8]) -> Header
         args: w % 0x1_0000,
         results,
     }
+}
+
+// The n words behind the first so many; none where they do not all stand there.
+fn words_of(body: &[u8], first: usize, n: usize) -> &[u8]
+    ensures { λ r. ⌜ now r ≡ words-of (now (body .entry)) first n ⌝ }
+{
+    if first > body.len() / 8 {
+        return &body[..0];
+    }
+    if n > body.len() / 8 - first {
+        return &body[..0];
+    }
+    let start = 8 * first;
+    let end = start + 8 * n;
+    &body[start..end]
+}
+
+// A record's argument words.
+pub fn arguments(h: Header, body: &[u8]) -> &[u8]
+    ensures { λ r. ⌜ now r ≡ arguments h (now (body .entry)) ⌝ }
+{
+    words_of(body, 0, h.args)
+}
+
+// A record's result words, behind those.
+pub fn results(h: Header, body: &[u8]) -> &[u8]
+    ensures { λ r. ⌜ now r ≡ results h (now (body .entry)) ⌝ }
+{
+    words_of(body, h.args, h.results)
 }
 
 // ---- an answer

@@ -1,0 +1,2 @@
+-- Facts on the records of a replay.
+pub mod Counts
