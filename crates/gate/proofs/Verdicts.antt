@@ -9,7 +9,7 @@ use lib.Dec.{T}
 use lib.ListN.{length, getD}
 use lib.Ieee.{Float}
 use Rattle.ieee.proofs.Signs.{of-true}
-use Rattle.ieee.proofs.Range.Falls.{or-l}
+use Rattle.ieee.proofs.Range.Falls.{or-l, or-r}
 use Rattle.refusal.specs.Outcome.{Outcome, answer, refusal}
 use Rattle.gate_limits.specs.Limits.{wavelength-passes, beam-passes, surface-passes}
 use Rattle.sheet.specs.Blocks.{Block, All}
@@ -21,7 +21,7 @@ use Rattle.sheet_values.specs.Values.{value, surface-value, met-with}
 use Rattle.gate.specs.Gate.{layer-admitted, metal-admitted, snell-of, verdict, old, spared, either, tuned, leading, carried, walked, verdicts-by, verdicts, judged}
 use Rattle.gate.specs.Wavelength.{layers-admitted, surface-admitted}
 use Rattle.gate.specs.Claim.{untuned, WithinLimits, FirstOutside, AsBefore}
-use Rattle.gate.proofs.Wavelengths.{both, and, one-of, or-r, tuning-passes, AllMet, all-met, met-within}
+use Rattle.gate.proofs.Wavelengths.{both, and, one-of, tuning-passes, AllMet, all-met, met-within}
 
 abbrev pub Passed : List Bool → Type 0
 Passed ts = All T ts

@@ -8,7 +8,7 @@ use native.Mathlib.Omega.{arith}
 use lib.Dec.{T}
 use lib.ListN.{length}
 use lib.Ieee.{Float}
-use Rattle.ieee.proofs.Range.Falls.{or-l}
+use Rattle.ieee.proofs.Range.Falls.{or-l, or-r}
 use Rattle.gate_limits.specs.Limits.{wavelength-passes, power-passes, beam-passes, layer-within, layers-within, surface-passes, metal-passes, passes}
 use Rattle.sheet.specs.Blocks.{All}
 use Rattle.sheet.specs.Sheet.{SheetLayer, Tuning, keeps, tunes, SheetSurface, nth, Sheet}
@@ -28,10 +28,6 @@ and false b s t = absurd s
 pub one-of : (a b : Bool) → T (a || b) → T a ⊎ T b
 one-of true b t = inl tt
 one-of false b t = inr t
-
-pub or-r : (a b : Bool) → T b → T (a || b)
-or-r true b t = tt
-or-r false b t = t
 
 abbrev pub tuning-passes : Tuning → Bool
 tuning-passes keeps = true

@@ -1,6 +1,5 @@
 // The small functions on f64 that document 01's section 2 gives a meaning to, each for every f64.
 ghost use mathlib.Core.Path.{_≡_};
-ghost use lib.Ieee.{binary64, rem};
 ghost use lib.Ieee.Scale.{finite};
 ghost use Rattle.ieee.specs.Functions.{abs, max, clamp, powi2, powi5, finite-positive, ofWords};
 
@@ -60,13 +59,6 @@ pub fn powi5(x: f64) -> f64
     ensures { λ r. ⌜ r ≡ powi5 x ⌝ }
 {
     x * ((x * x) * (x * x))
-}
-
-// The remainder with the dividend's sign, C's fmod.
-pub fn rem(x: f64, y: f64) -> f64
-    ensures { λ r. ⌜ r ≡ rem binary64 x y ⌝ }
-{
-    x % y
 }
 
 // The number with these bits, the high word first. A NaN's pattern gives the one NaN, whatever its payload.

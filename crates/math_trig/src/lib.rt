@@ -32,7 +32,7 @@ fn first_line(x: f64) -> f64
         let k = (x / TAU + SHIFT) - SHIFT;
         ((x - k * TAU_HIGH) - k * TAU_REST) - k * TAU_LOW
     } else {
-        x % TAU
+        ieee_rem::rem(x, TAU)
     }
 }
 

@@ -31,7 +31,7 @@ fn ieee_value(f: usize, x: Four) -> f64 {
         3 => ieee::clamp(x.a, x.b, x.c),
         5 => ieee::powi2(x.a),
         6 => ieee::powi5(x.a),
-        8 => ieee::rem(x.a, x.b),
+        8 => ieee_rem::rem(x.a, x.b),
         _ => math_sqrt::sqrt(x.a),
     }
 }

@@ -18,7 +18,7 @@ use lib.Arith.{mod-mul}
 use lib.Ieee.Exact.{HasValue, round-exact}
 
 -- ---- a remainder of multiples
-mod-scale : (a m c : ℕ) → 0 < m → 0 < c → a * c % (m * c) ≡ a % m * c
+pub mod-scale : (a m c : ℕ) → 0 < m → 0 < c → a * c % (m * c) ≡ a % m * c
 mod-scale a m c M C =
     mod-mul (a * c) M C
     ∙ ap (λ (z : ℕ). z % m * c + a * c % c) (mul-div-cancel a C)
@@ -66,7 +66,7 @@ rem-is f (fin s m e) (fin t n d) p q h = go (eqb n 0) (λ u. none n (first-pos n
     go false k = refl
 
 -- in units, the remainder of the two fractions is that of the two whole numbers
-in-units : (X dx Y dy L A B : ℕ) → 0 < L → 0 < Y → 0 < dx → 0 < dy → 0 < B → X * L ≡ A * dx → Y * L ≡ B * dy → X * dy % (Y * dx) * L ≡ A % B * (dx * dy)
+pub in-units : (X dx Y dy L A B : ℕ) → 0 < L → 0 < Y → 0 < dx → 0 < dy → 0 < B → X * L ≡ A * dx → Y * L ≡ B * dy → X * dy % (Y * dx) * L ≡ A % B * (dx * dy)
 in-units X dx Y dy L A B L0 Y0 X0 D0 B0 h g =
     sym (mod-scale (X * dy) (Y * dx) L (mul-pos Y0 X0) L0)
     ∙ ap (λ (z : ℕ). z % (Y * dx * L)) (mul-right-comm X dy L ∙ ap (λ (z : ℕ). z * dy) h ∙ mul-assoc A dx dy)

@@ -17,7 +17,7 @@ returns-2 c = up-to-limit (c .before .before .before .args .x) (of-true _ (ap (�
 
 returns-3 : tie.Need-returns-3
 unfolding first-line
-returns-3 c = simp (sym (c .before .before .abs .ensures), c .if2 .left)
+returns-3 c = c .rem .ensures ∙ simp (sym (c .before .before .before .abs .ensures), c .before .if2 .left)
 
 pub first-line-spec : {M : Type 1} → statement M
-first-line-spec = tie.close (tie.spec (λ c κs. search needs) returns returns-2 returns-3)
+first-line-spec = tie.close (tie.spec (λ c κs. search needs) (λ c κs. search needs) returns returns-2 returns-3)
