@@ -65,7 +65,7 @@ shared_library() {
     libraries dihkelu
     local lib=target/staticlib/libdihkelu
     [ ! "$lib.so" -nt "$lib.a" ] || return 0
-    cc -shared -Wl,--whole-archive "$lib.a" -Wl,--no-whole-archive -lm -o "$lib.so"
+    cc -shared -Wl,--whole-archive "$lib.a" -Wl,--no-whole-archive -o "$lib.so"
 }
 
 # The oracle with both static libraries linked: oracle/target/release/oracle.

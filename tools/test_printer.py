@@ -110,6 +110,9 @@ class Refused(unittest.TestCase):
         self.refused("(block (exit 0))", "return")
         self.refused(assign("0", "(rvOpd (float 32 0))"), "return")
 
+    def test_what_only_a_function_of_c_does(self):
+        self.refused(assign("0", op2("floatRem", copy(1), copy(1))), "return", locals_=(F64, F64))
+
     def test_no_number(self):
         for bits in (0x7FF0 << 48, 0x7FF8 << 48, 0xFFF0 << 48):
             self.refused(assign("0", f"(rvOpd (float 64 {bits}))"), "return", locals_=(F64, F64))

@@ -33,7 +33,4 @@ fn main() {
     };
     println!("cargo:rustc-link-search=native={}", directory.display());
     println!("cargo:rustc-link-lib=static=dihkelu");
-    if env::var("CARGO_CFG_UNIX").is_ok() {
-        println!("cargo:rustc-link-lib=m");
-    }
 }

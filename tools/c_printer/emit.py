@@ -273,8 +273,6 @@ class Printer:
 
     def binary(self, e):
         op, a, b, t = e[1:]
-        if op == "floatRem":
-            return f"fmod({self.text(a)}, {self.text(b)})", 15
         if op not in INFIX:
             raise Unknown(e)
         sign, strength = INFIX[op]

@@ -17,7 +17,6 @@ PRELUDE = """//
 #include "dihkelu.h"
 
 #include <float.h>
-#include <math.h>
 #include <stdbool.h>
 
 #if defined(__FAST_MATH__) || (defined(__FINITE_MATH_ONLY__) && __FINITE_MATH_ONLY__)

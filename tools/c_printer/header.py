@@ -52,7 +52,7 @@ def manual(header):
     return (
         '.\\" Made by tools/c_source from the header.\n'
         '.TH DIHKELU 3 "" "dihkelu"\n.SH NAME\ndihkelu \\- light through a train of coated windows\n.SH SYNOPSIS\n'
-        ".B #include <dihkelu.h>\n.PP\nLink with \\-ldihkelu \\-lm.\n.SH DESCRIPTION\n.nf\n"
+        ".B #include <dihkelu.h>\n.PP\nLink with \\-ldihkelu.\n.SH DESCRIPTION\n.nf\n"
         + roff(intro).strip()
         + "\n.fi\n.SH CALLS\n.nf\n"
         + roff(rest).strip()
