@@ -282,10 +282,12 @@ fn authors_scalars() -> crate::proved::Scalars {
 }
 
 /// The scalar rows: name, which of `proved::NAMES`, range of the arguments.
-const SCALARS: [(&str, usize, f64, f64); 9] = [
+const SCALARS: [(&str, usize, f64, f64); 11] = [
     ("sqrt", 0, 0.0, 100.0),
     ("sin, one turn", 1, -PI, PI),
     ("sin, phases to 25000", 1, 0.0, 25_000.0),
+    ("sin, angles from 2^20 to 10^9", 1, 1_048_577.0, 1e9),
+    ("sin, angles from 10^299 to 10^300", 1, 1e299, 1e300),
     ("cos, one turn", 2, -PI, PI),
     ("cos, phases to 25000", 2, 0.0, 25_000.0),
     ("exp", 3, -20.0, 20.0),
