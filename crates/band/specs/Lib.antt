@@ -1,4 +1,5 @@
 -- A whole band.
 pub mod Band
 pub mod Claim
+pub mod Known
 pub mod Internal

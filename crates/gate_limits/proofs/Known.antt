@@ -1,9 +1,16 @@
--- The limits of metal films from both sides, computed. Assumes nothing.
+-- Surfaces that pass the limits or do not, computed. Assumes nothing.
 use mathlib.Core.Path.{refl}
 use lib.Ieee as Ieee
 use lib.Ieee.{ofBits}
-use Rattle.gate_limits.specs.Limits.{within, metal-within, metals-within, absorption, absorptions, may-be-metal, metal-passes}
-use Rattle.gate_limits.specs.Known.{KnownMetals}
+use Rattle.ieee.specs.Functions.{abs, clamp}
+use Rattle.whole_nearest.specs.Nearest.{nearest-whole}
+use Rattle.math_trig.specs.Trig.{wrap, less-turns, reduce, first-line, fold, second-fold, series, sin-at, sin, cos-at, cos-of, cos}
+use Rattle.thin_film_solver.specs.Solve.{dielectric}
+use Rattle.thin_film_presets.specs.Layers.{bragg-layers, broadband-layers}
+use Rattle.thin_film.specs.Coating.{mgf2-layers, mirror-layers, layers-of}
+use Rattle.gate_limits.specs.Coating.{coded, interface}
+use Rattle.gate_limits.specs.Limits.{within, layer-within, layers-within, angle-passes, surface-passes, metal-within, metals-within, absorption, absorptions, may-be-metal, metal-passes, passes}
+use Rattle.gate_limits.specs.Known.{KnownMetals, KnownCoatings}
 
 pub known-metals : KnownMetals
 unfolding within metal-within metals-within absorption absorptions may-be-metal metal-passes Ieee.le Ieee.lt Ieee.eq Ieee.add Ieee.mul Ieee.div Ieee.round ofBits
@@ -20,4 +27,17 @@ known-metals = record {
   coated = refl;
   in-order = refl;
   turned = refl;
+}
+
+pub known-coatings : KnownCoatings
+unfolding dielectric mgf2-layers mirror-layers layers-of bragg-layers broadband-layers coded interface within layer-within layers-within angle-passes surface-passes metal-within metals-within absorption absorptions may-be-metal metal-passes passes nearest-whole wrap less-turns reduce first-line fold second-fold series sin-at sin cos-at cos-of cos abs clamp Ieee.rem Ieee.lt Ieee.le Ieee.eq Ieee.add Ieee.sub Ieee.mul Ieee.div Ieee.neg Ieee.round Ieee.ofInt Ieee.isNan ofBits
+known-coatings = record {
+  bare = λ reflected. refl;
+  ideal-ar = λ reflected. refl;
+  mgf2 = λ reflected. refl;
+  broadband-ar = λ reflected. refl;
+  high-reflectance-mirror = λ reflected. refl;
+  custom = λ reflected. refl;
+  ideal-beamsplitter = λ reflected. refl;
+  ideal-mirror = λ reflected. refl;
 }
