@@ -17,7 +17,7 @@ use Rattle.ieee.specs.Rounding.{OnePart}
 use Rattle.ieee.proofs.Rounding.{rounding}
 use Rattle.ieee.proofs.Range.Round.{round-clear}
 use Rattle.math_root.specs.Root.{closestRoot}
-use Rattle.math_sqrt.specs.Steps.{radicand, NearestBits}
+use Rattle.math_sqrt.specs.Steps.{radicand, NearestBits, Close}
 use Rattle.math_sqrt.proofs.Patterns.{normal}
 use Rattle.math_root.proofs.Closest.{closestRoot-at}
 use Rattle.math_sqrt.proofs.Cases.{clear-no-nan}
@@ -120,7 +120,7 @@ decided R p q o y l a b f g h = omega arith
 bounds : (R p q x U : ℕ) → x ≤ p + q + 2 ^ 53 → p + q ≤ x + 2 ^ 53 → x ≤ R + 1023 * U → R ≤ x + 1023 * U → U ≤ 2 ^ 53 → q < 2 ^ 53 → (R ≤ p + 2 ^ 63 + 2 ^ 54) × (p ≤ R + 2 ^ 63 + 2 ^ 54)
 bounds R p q x U a b c d e f = (omega arith, omega arith)
 
-tested-at : (g r o y f u s : ℕ) → g / 2 ^ 52 ≡ suc f → f < 2046 → u + f ≡ 1074 → 2 ^ 52 * (2 ^ u * 2 ^ u) ≤ 2 ^ 52 * 2 ^ 52 * 2 ^ low binary64 → 2 ^ u ≡ s * 2 ^ 52 → s ≤ 2 → r / 2 ^ 52 ≡ g / 2 ^ 52 → squared r / 1024 ≡ g / 1024
+tested-at : (g r o y f u s : ℕ) → g / 2 ^ 52 ≡ suc f → f < 2046 → u + f ≡ 1074 → 2 ^ 52 * (2 ^ u * 2 ^ u) ≤ 2 ^ 52 * 2 ^ 52 * 2 ^ low binary64 → 2 ^ u ≡ s * 2 ^ 52 → s ≤ 2 → r / 2 ^ 52 ≡ g / 2 ^ 52 → Close (squared r) g
     → (o + digits r * (digits r - 1) % 2 ^ 64) % 2 ^ 64 ≡ digits g * s * 2 ^ 52 % 2 ^ 64 → (y + 1) % 2 ^ 64 ≡ o → y < 2 * digits r → closestRoot (digits g * s * 2 ^ 52) 1 ≡ digits r
 tested-at g r o y f u s e l j z U t h k a b c =
     let q = digits r in
@@ -128,14 +128,11 @@ tested-at g r o y f u s e l j z U t h k a b c =
     let R = digits g * s * 2 ^ 52 in
     let x = digits (squared r) in
     let R′ : R ≡ digits g * 2 ^ u = mul-assoc (digits g) s (2 ^ 52) ∙ ap (λ (w : ℕ). digits g * w) (sym U) in
-    let v = product r f u (h ∙ e) l j z (field g (squared r) f e k) in
-    let w = bounds R p q (x * 2 ^ u) (2 ^ u) (subst (λ (n : ℕ). x * 2 ^ u ≤ n + 2 ^ 53) (square r) (v .above)) (subst (λ (n : ℕ). n ≤ x * 2 ^ u + 2 ^ 53) (square r) (v .below)) (subst (λ (n : ℕ). x * 2 ^ u ≤ n + 1023 * 2 ^ u) (sym R′) (spread x (digits g) (2 ^ u) (close g (squared r) k))) (subst (λ (n : ℕ). n ≤ x * 2 ^ u + 1023 * 2 ^ u) (sym R′) (spread (digits g) x (2 ^ u) (close (squared r) g (sym k)))) (subst (λ (n : ℕ). n ≤ 2 ^ 53) (sym U) (mul-le-mul-right (2 ^ 52) t)) (below r) in
+    let v = product r f u (h ∙ e) l j z (k .field ∙ e) in
+    let w = bounds R p q (x * 2 ^ u) (2 ^ u) (subst (λ (n : ℕ). x * 2 ^ u ≤ n + 2 ^ 53) (square r) (v .above)) (subst (λ (n : ℕ). n ≤ x * 2 ^ u + 2 ^ 53) (square r) (v .below)) (subst (λ (n : ℕ). x * 2 ^ u ≤ n + 1023 * 2 ^ u) (sym R′) (spread x (digits g) (2 ^ u) (close (squared r) g (k .above)))) (subst (λ (n : ℕ). n ≤ x * 2 ^ u + 1023 * 2 ^ u) (sym R′) (spread (digits g) x (2 ^ u) (close g (squared r) (k .below)))) (subst (λ (n : ℕ). n ≤ 2 ^ 53) (sym U) (mul-le-mul-right (2 ^ 52) t)) (below r) in
     let d = decided R p q o y (below r) (w .0) (w .1) a b c in
     closestRoot-at R q (subst (λ (n : ℕ). n < R + q) (sym (square r)) (more p R q (d .0))) (subst (λ (n : ℕ). R ≤ n + q) (sym (square r)) (most p R q (d .1)))
   where
-    field : (g b f : ℕ) → g / 2 ^ 52 ≡ suc f → b / 1024 ≡ g / 1024 → b / 2 ^ 52 ≡ suc f
-    field g b f e h = omega arith
-
     below : (b : ℕ) → digits b < 2 ^ 53
     below b = omega arith
 
@@ -148,8 +145,8 @@ tested-at g r o y f u s e l j z U t h k a b c =
         poly : (k : ℕ) → suc k * suc k ≡ suc k * k + suc k
         poly k = omega arith
 
-    close : (g b : ℕ) → b / 1024 ≡ g / 1024 → digits b ≤ digits g + 1023
-    close g b h = omega arith
+    close : (a b : ℕ) → a % 2 ^ 52 ≤ b % 2 ^ 52 + 1023 → digits a ≤ digits b + 1023
+    close a b h = omega arith
 
     spread : (x d U : ℕ) → x ≤ d + 1023 → x * U ≤ d * U + 1023 * U
     spread x d U h = le-trans (mul-le-mul-right U h) (le-of-eq (over d U))
@@ -164,7 +161,7 @@ tested-at g r o y f u s e l j z U t h k a b c =
     most p R q h = omega arith
 
 -- at either field
-pub tested : (g r o y : ℕ) → 0x3fe0_0000_0000_0000 ≤ g → g < 0x4000_0000_0000_0000 → r / 2 ^ 52 ≡ g / 2 ^ 52 → squared r / 1024 ≡ g / 1024
+pub tested : (g r o y : ℕ) → 0x3fe0_0000_0000_0000 ≤ g → g < 0x4000_0000_0000_0000 → r / 2 ^ 52 ≡ g / 2 ^ 52 → Close (squared r) g
     → (o + digits r * (digits r - 1) % 2 ^ 64) % 2 ^ 64 ≡ radicand g % 2 ^ 64 → (y + 1) % 2 ^ 64 ≡ o → y < 2 * digits r → NearestBits g r
 tested g r o y lo hi h k a b c = record { field = h; root = go (g / 2 ^ 52 - 1022) (is g lo) (small g hi) }
   where

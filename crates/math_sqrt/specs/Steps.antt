@@ -18,6 +18,12 @@ pub record NearestBits (b r : ℕ) : Type 0 where
   pub field : r / 2 ^ 52 ≡ b / 2 ^ 52
   pub root : closestRoot (radicand b) 1 ≡ r % 2 ^ 52 + 2 ^ 52
 
+-- two patterns with one exponent's field, and digits that are less than 1024 apart
+pub record Close (a b : ℕ) : Type 0 where
+  pub field : a / 2 ^ 52 ≡ b / 2 ^ 52
+  pub above : a % 2 ^ 52 ≤ b % 2 ^ 52 + 1023
+  pub below : b % 2 ^ 52 ≤ a % 2 ^ 52 + 1023
+
 -- q is the root of n cut to a whole number, and r is what its square leaves
 pub record Rooted (n q r : ℕ) : Type 0 where
   pub sum : q * q + r ≡ n

@@ -11,7 +11,7 @@ ghost use Prim.Native.Nat.{_+_, _*_, _/_, _%_, _^_, _≤_, _<_};
 ghost use lib.Dec.{T};
 ghost use lib.Ieee.{binary64, ofBits};
 ghost use Rattle.math_root.specs.Root.{squareRoot, closestRoot};
-ghost use Rattle.math_sqrt.specs.Steps.{radicand, rootBits, Rooted, NearestBits};
+ghost use Rattle.math_sqrt.specs.Steps.{radicand, rootBits, Rooted, NearestBits, Close};
 
 // A root cut to a whole number, and what its square leaves of the number.
 struct Cut {
@@ -121,6 +121,21 @@ fn low_product(x: u64, y: u64) -> u64
     std::num::wrapping_add_u64((x0 * y1 + x1 * y0) << 32, x0 * y0)
 }
 
+// Whether two patterns have one exponent, and digits that are less than 1024 apart. Nearly all that are
+// pass the first test, which is the quicker one; the second is for those on either side of a block's edge.
+fn is_close(a: u64, b: u64) -> bool
+    ensures { λ r. ⌜ (T r → Close a b) ⌝ }
+{
+    if a / 1024 == b / 1024 {
+        true
+    } else if a / 0x10_0000_0000_0000 == b / 0x10_0000_0000_0000 {
+        let digits = a % 0x10_0000_0000_0000;
+        std::num::wrapping_sub_u64(digits + 512, b % 0x10_0000_0000_0000) <= 1024
+    } else {
+        false
+    }
+}
+
 // Whether the float with the pattern `root` is the root of the float with the pattern `bits`. Both are
 // from 1/2 to 1, or both from 1 to 2. The float product says that q * q is near R, so that
 // R - q * (q - 1) is known once it is known modulo 2 ^ 64.
@@ -129,7 +144,7 @@ fn is_root(bits: u64, root: u64) -> bool
     ensures { λ r. ⌜ (T r → NearestBits bits root) ⌝ }
 {
     let n = f64::from_bits(root);
-    if f64::to_bits(n * n) / 1024 == bits / 1024 {
+    if is_close(f64::to_bits(n * n), bits) {
         let d = (bits % 0x10_0000_0000_0000 + 0x10_0000_0000_0000)
             * (2 - bits / 0x10_0000_0000_0000 % 2);
         let q = root % 0x10_0000_0000_0000 + 0x10_0000_0000_0000;
