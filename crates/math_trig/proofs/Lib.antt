@@ -8,4 +8,4 @@ pub mod Parity
 pub mod Examples
 mod Shifted
 pub mod AtZero
-mod Constants
+pub mod Constants

@@ -37,7 +37,7 @@ fn first_line(x: f64) -> f64
 }
 
 // The first fold, of sin and of cos: to -π..π.
-fn fold(x: f64) -> f64
+pub fn fold(x: f64) -> f64
     ensures { λ r. ⌜ r ≡ fold x ⌝ }
 {
     let r = first_line(x);
@@ -51,7 +51,7 @@ fn fold(x: f64) -> f64
 }
 
 // sin's second fold: to -π/2..π/2.
-fn second_fold(r: f64) -> f64
+pub fn second_fold(r: f64) -> f64
     ensures { λ s. ⌜ s ≡ second-fold r ⌝ }
 {
     if r > HALF_PI {
@@ -97,14 +97,14 @@ fn cos_series(z: f64) -> f64
 }
 
 // sin of an angle that both folds have brought to -π/2..π/2.
-fn sin_at(r: f64) -> f64
+pub fn sin_at(r: f64) -> f64
     ensures { λ s. ⌜ s ≡ sin-at r ⌝ }
 {
     ieee::clamp(r * sin_series(r * r), -1.0, 1.0)
 }
 
 // cos of an angle up to π/2.
-fn cos_at(a: f64) -> f64
+pub fn cos_at(a: f64) -> f64
     ensures { λ r. ⌜ r ≡ cos-at a ⌝ }
 {
     ieee::clamp(cos_series(a * a), -1.0, 1.0)
