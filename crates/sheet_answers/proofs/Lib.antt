@@ -1,2 +1,3 @@
 -- The layers after the block at a place, as a list.
 pub mod After
+mod Walk

@@ -1,5 +1,8 @@
 // A coated surface's powers alone: over real numbers, where no film absorbs, or else from its whole response.
 ghost use mathlib.Core.Path.{_≡_};
+ghost use mathlib.Core.Bool.{true};
+ghost use Prim.Native.Nat.{_≤_};
+ghost use lib.ListN.{take};
 ghost use Rattle.refusal.specs.Outcome.{map};
 ghost use Rattle.sheet.specs.Internal.{next-place, layers-at};
 ghost use Rattle.sheet_values.specs.Values.{films};
@@ -7,47 +10,73 @@ ghost use Rattle.thin_film_solver.specs.Internal.{solved};
 ghost use Rattle.thin_film_layers.specs.Evaluation.{ordered, outcome};
 ghost use Rattle.thin_film.specs.Evaluate.{evaluate-surface};
 ghost use Rattle.surface.specs.Answers.{coated-powers};
-ghost use Rattle.surface_real.specs.Internal.{no-films, stacked};
 ghost use Rattle.sheet_answers.specs.Outcome.{outcome-of};
 use crate::PowersReply;
 use gate_limits::Surface;
 use surface::Powers;
-use surface_real::Stack;
+use surface_real::Known;
 use thin_film::SurfaceCoating;
 use thin_film_layers::Evaluation;
 use thin_film_layers::Prepared;
 use thin_film_solver::Incidence;
+use thin_film_solver::ThinFilmLayer;
 
-// The products of the n films after the block at a place, in their order or reversed, at a wavelength. Films that take
-// turns, as in H L H L, are worked out once.
-fn stack_at(
+// The n layers after the block at a place, in their order or reversed, at a wavelength: read in one walk.
+fn layers_after(
+    src: &[u8],
+    at: usize,
+    n: usize,
+    reversed: bool,
+    wavelength_nm: f64,
+) -> [ThinFilmLayer; 16]
+    requires { ⌜ n ≤ 16 ⌝ }
+    ensures { λ r. ⌜ take n r ≡ ordered reversed (films «wavelength_nm» (layers-at (now (src .entry)) (next-place (now (src .entry)) at) n)) ⌝ }
+{
+    let mut layers = [ThinFilmLayer {
+        n: 0.0,
+        k: 0.0,
+        thickness_nm: 0.0,
+    }; 16];
+    let mut place = sheet::next_place(src, at);
+    let mut i = 0;
+    while i < n {
+        let j = thin_film_layers::nth_index(reversed, n, i);
+        layers[j] = sheet_values::layer_at(src, place, wavelength_nm);
+        place = sheet::next_place(src, place);
+        i += 1;
+    }
+    layers
+}
+
+// The powers over real numbers, and whether they are known; no admitted sheet has more than 16 layers after a SURFACE.
+fn quick_powers(
     src: &[u8],
     at: usize,
     n: usize,
     reversed: bool,
     wavelength_nm: f64,
     light: Incidence,
-) -> Stack
-    ensures { λ r. ⌜ r ≡ stacked (light .snell) (light .«wavelength_nm») no-films (ordered reversed (films «wavelength_nm» (layers-at (now (src .entry)) (next-place (now (src .entry)) at) n))) ⌝ }
+) -> Known
+    ensures { λ r. ⌜ (r .known ≡ true → r .powers ≡ coated-powers (solved light (ordered reversed (films «wavelength_nm» (layers-at (now (src .entry)) (next-place (now (src .entry)) at) n))))) ⌝ }
 {
-    let mut stack = surface_real::no_films();
-    let mut older = surface_real::none_met();
-    let mut newer = surface_real::none_met();
-    let mut i = 0;
-    while i < n {
-        let j = thin_film_layers::nth_index(reversed, n, i);
-        let layer = crate::layer_after(src, at, j, wavelength_nm);
-        let met = surface_real::meet(light, layer, older);
-        let film = met.film;
-        stack = surface_real::join(stack, film);
-        older = newer;
-        newer = met;
-        i += 1;
+    if n > 16 {
+        let powers = Powers {
+            reflectance_s: 0.0,
+            reflectance_p: 0.0,
+            transmittance_s: 0.0,
+            transmittance_p: 0.0,
+        };
+        return Known {
+            known: false,
+            powers,
+        };
     }
-    stack
+    let layers = layers_after(src, at, n, reversed, wavelength_nm);
+    let stack = surface_real::films::join_all(light, layers, n, surface_real::no_films());
+    surface_real::finish(light, stack)
 }
 
-// The powers with these films.
+// The powers with the n films after the block at a place.
 fn powers_with(
     src: &[u8],
     at: usize,
@@ -58,7 +87,7 @@ fn powers_with(
 ) -> Powers
     ensures { λ r. ⌜ r ≡ coated-powers (solved light (ordered reversed (films «wavelength_nm» (layers-at (now (src .entry)) (next-place (now (src .entry)) at) n)))) ⌝ }
 {
-    let quick = surface_real::finish(light, stack_at(src, at, n, reversed, wavelength_nm, light));
+    let quick = quick_powers(src, at, n, reversed, wavelength_nm, light);
     if quick.known {
         let powers = quick.powers;
         powers

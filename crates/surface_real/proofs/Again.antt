@@ -14,7 +14,7 @@ use Rattle.ieee.proofs.Patterns.{nan-is}
 use Rattle.ieee.proofs.Range.Values.{unique}
 use Rattle.thin_film_solver.specs.declared.ThinFilmLayer.{ThinFilmLayer}
 use Rattle.surface_real.specs.declared.Met.{Met}
-use Rattle.surface_real.specs.Internal.{no-number, cos-theta, film-of, same-number, both-zero, same-film, meet, none-met}
+use Rattle.surface_real.specs.Internal.{no-number, cos-theta, medium-of, film-of, same-number, both-zero, same-film, meet, none-met}
 
 -- ---- two numbers that compare equal, above zero, are one
 above : (m d : ℕ) → 0 * 1 * d < m * 1 → 0 < m
@@ -56,7 +56,7 @@ is-true false t = absurd t
 module _ (snell wavelength : Float) where
   -- the film turns on index, thickness, and whether k is a zero
   alike : (a b : ThinFilmLayer) → a .n ≡ b .n → a .«thickness_nm» ≡ b .«thickness_nm» → eq (a .k) zero-f ≡ true → eq (b .k) zero-f ≡ true → film-of snell wavelength a ≡ film-of snell wavelength b
-  unfolding film-of cos-theta
+  unfolding film-of medium-of cos-theta
   alike a b n-is d-is ka kb = simp (ka, kb, n-is, d-is)
 
   same-films : (a b : ThinFilmLayer) → Held a → Held b → T (same-film a b) → film-of snell wavelength a ≡ film-of snell wavelength b

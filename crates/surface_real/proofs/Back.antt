@@ -1,6 +1,6 @@
 -- What a finite number of the real way says: nothing stood in its way. Assumes nothing.
 use mathlib.Core.Path.{_≡_, refl, sym, _∙_, subst}
-use mathlib.Core.Bool.{Bool, true, false, _&&_, cond}
+use mathlib.Core.Bool.{Bool, true, false, not, _&&_, cond}
 use lib.Dec.{T}
 use lib.Ieee.{Float, binary64, div, lt, le, eq, fits, ofBits}
 use lib.Ieee.Positive.{positive}
@@ -13,13 +13,15 @@ use Rattle.ieee.proofs.Range.Constants.{zero-mag}
 use Rattle.ieee.proofs.Range.Laws.{in-lit, plus-finite}
 use Rattle.ieee.proofs.Range.Tests.{gate-in}
 use Rattle.ieee.proofs.Range.FromZero.{equals-zero}
+use Rattle.math_trig.specs.Trig.{cos}
+use Rattle.math_trig.proofs.TrigBounds.{cos-none}
 use Rattle.thin_film_complex.specs.declared.Complex.{Complex}
 use Rattle.thin_film_complex.specs.Complex.{real, half-root, sqrt}
 use Rattle.thin_film_complex.proofs.RealRoot.{root-is}
 use Rattle.polarization_value.proofs.Keeps.{Keeps, kept}
 use Rattle.thin_film_real.proofs.Keeps.{Fine, Divides, mul-back, div-back}
 use Rattle.thin_film_real.proofs.Parts.{Re}
-use Rattle.surface_real.specs.Internal.{no-number, over, real-part, if-finite, least-square, most-square, root}
+use Rattle.surface_real.specs.Internal.{no-number, over, real-part, least-square, most-square, root}
 
 pub no-fine : {A : Type 0} → Fine no-number → A
 unfolding ofBits div
@@ -57,10 +59,13 @@ real-part-back z f =
     let h = chosen (eq (z .im) zero-f) (z .re) f in
     record { re = subst (λ (x : Float). Keeps x (z .re)) (sym (h .1)) kept; im = equals-zero (z .im) (of-true _ (h .0)) }
 
--- ---- a number beside a finite one
-pub if-finite-back : (y x : Float) → Fine (if-finite y x) → Fine y × (if-finite y x ≡ x)
-unfolding if-finite
-if-finite-back y x f = let h = chosen (finite y) x f in (record { fine = of-true _ (h .0) }, h .1)
+-- ---- a cosine: that of no finite angle is a NaN
+pub cos-back : (d : Float) → Fine (cos d) → Fine d
+cos-back d f = go (finite d) (λ t. record { fine = t }) (λ t. absurd (subst Fine (cos-none d t) f .fine))
+  where
+    go : (b : Bool) → (T b → Fine d) → (T (not b) → Fine d) → Fine d
+    go true g h = g tt
+    go false g h = h tt
 
 pub real-part-is : (z : Complex) → Fine (real-part z) → real-part z ≡ z .re
 unfolding real-part

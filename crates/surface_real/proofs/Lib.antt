@@ -5,4 +5,5 @@ pub mod Products
 pub mod Powers
 pub mod Whole
 pub mod Turns
+pub mod Stacking
 pub mod Again

@@ -8,6 +8,7 @@ use Rattle.ieee.specs.Functions.{zero-f, one}
 use Rattle.ieee.proofs.Signs.{of-true}
 use Rattle.ieee.proofs.Range.Laws.{neg-mag}
 use Rattle.ieee.proofs.Range.FromZero.{equals-zero}
+use Rattle.math_trig.specs.Trig as Trig
 use Rattle.thin_film_complex.specs.declared.Complex.{Complex}
 use Rattle.thin_film_complex.specs.Complex.{real, scale, sqrt, sub, mul, _⊟_, _⊠_, _⧄_}
 use Rattle.thin_film_matrix.specs.Film as Film
@@ -19,8 +20,8 @@ use Rattle.thin_film_real.proofs.Keeps.{Fine, mul-back, sub-back, zero-times, k
 use Rattle.thin_film_real.proofs.Parts.{Re, Im, Of, real-re, re-is, im-is, re-re, im-re, re-over, im-over}
 use Rattle.thin_film_real.proofs.Phase.{cos-real, i-sin-imaginary}
 use Rattle.surface_real.specs.declared.Film as D
-use Rattle.surface_real.specs.Internal.{over, if-finite, root, cos-theta, film-of}
-use Rattle.surface_real.proofs.Back.{chosen, Quotient, over-back, if-finite-back, root-back}
+use Rattle.surface_real.specs.Internal.{over, root, cos-theta, medium-of, film-in, film-of}
+use Rattle.surface_real.proofs.Back.{chosen, Quotient, over-back, cos-back, root-back}
 
 module _ (snell : Float) (layer : ThinFilmLayer) (f : Fine (cos-theta snell layer)) where
   abbrev n : Float
@@ -92,20 +93,20 @@ module _ (snell wavelength : Float) (layer : ThinFilmLayer) where
   d = es ⊗ t
 
   abbrev sin : Float
-  sin = i-sin-delta (real d) .im
+  sin = Trig.sin d
 
   module _ (fc : Fine (F .cos)) (fs : Fine (F .«y_s»)) (fp : Fine (F .«y_p»)) where
     by-s : Quotient sin es
-    unfolding film-of
+    unfolding film-of medium-of film-in
     by-s = over-back sin es fs
 
     by-p : Quotient sin ep
-    unfolding film-of
+    unfolding film-of medium-of film-in
     by-p = over-back sin ep fp
 
-    phase : Fine d × (if-finite d (cos-delta (real d) .re) ≡ cos-delta (real d) .re)
-    unfolding film-of
-    phase = if-finite-back d (cos-delta (real d) .re) fc
+    phase : Fine d
+    unfolding film-of medium-of film-in
+    phase = cos-back d fc
 
     cos-fine : Fine cos
     cos-fine = mul-back (layer .n) cos (by-s .below) .1
@@ -128,21 +129,17 @@ module _ (snell wavelength : Float) (layer : ThinFilmLayer) where
 
     delta-im : Zero (δ .im)
     unfolding delta scale
-    delta-im = zero-times (eta-s .im) (mul-back es t (phase .0) .1)
-
-    cos-fine-2 : Fine (cos-delta (real d) .re)
-    unfolding film-of
-    cos-fine-2 = subst Fine (phase .1) fc
+    delta-im = zero-times (eta-s .im) (mul-back es t phase .1)
 
     cos-re : Re (F .cos) (cos-delta δ)
-    unfolding film-of
-    cos-re = re-is (sym (phase .1)) (cos-real d δ delta-re delta-im cos-fine-2 (by-s .above))
+    unfolding film-of medium-of film-in
+    cos-re = cos-real d δ delta-re delta-im phase
 
     sin-im : Im sin (i-sin-delta δ)
-    sin-im = i-sin-imaginary d δ delta-re delta-im cos-fine-2 (by-s .above)
+    sin-im = i-sin-imaginary d δ delta-re delta-im phase
 
     pub of-s : Of (F .cos) (F .«y_s») (F .«z_s») (F .cos) (layer-s snell wavelength layer)
-    unfolding film-of layer-s characteristic
+    unfolding film-of medium-of film-in layer-s characteristic
     of-s = record {
       m11 = cos-re;
       m12 = im-is (sym (by-s .is)) (im-over (by-s .below) eta-s (by-s .large) (by-s .divides) (by-s .above) sin-im);
@@ -151,7 +148,7 @@ module _ (snell wavelength : Float) (layer : ThinFilmLayer) where
     }
 
     pub of-p : Of (F .cos) (F .«y_p») (F .«z_p») (F .cos) (layer-p snell wavelength layer)
-    unfolding film-of layer-p characteristic
+    unfolding film-of medium-of film-in layer-p characteristic
     of-p = record {
       m11 = cos-re;
       m12 = im-is (sym (by-p .is)) (im-over (by-p .below) eta-p (by-p .large) (by-p .divides) (by-p .above) sin-im);

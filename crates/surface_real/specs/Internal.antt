@@ -8,9 +8,9 @@ use lib.Ieee.Scale.{finite}
 use Rattle.ieee.specs.Operators.{_⊕_, _⊖_, _⊗_, _⊘_}
 use Rattle.ieee.specs.Functions.{zero-f, one, two, tiny, abs, max, clamp}
 use Rattle.math_root.specs.Root.{squareRoot}
+use Rattle.math_trig.specs.Trig.{sin, cos}
 use Rattle.thin_film_complex.specs.declared.Complex.{Complex}
 use Rattle.thin_film_complex.specs.Complex.{real, half-root, _⊠_, _⧄_}
-use Rattle.thin_film_matrix.specs.Film.{cos-delta, i-sin-delta}
 use Rattle.thin_film_solver.specs.declared.ThinFilmLayer.{ThinFilmLayer}
 use Rattle.thin_film_solver.specs.declared.Incidence.{Incidence}
 use Rattle.thin_film_solver.specs.Layer.{factor}
@@ -18,6 +18,7 @@ use Rattle.thin_film_solver.specs.Solve.{least-cos}
 use Rattle.thin_film_solver.specs.Internal.{solved}
 use Rattle.surface.specs.declared.Powers.{Powers}
 use Rattle.surface.specs.Answers.{coated-powers}
+use Rattle.surface_real.specs.declared.Medium.{Medium}
 use Rattle.surface_real.specs.declared.Film.{Film}
 use Rattle.surface_real.specs.declared.Product.{Product}
 use Rattle.surface_real.specs.declared.Stack.{Stack}
@@ -36,9 +37,6 @@ over x y = cond (lt (y ⊗ y) tiny) no-number ((x ⊗ y) ⊘ (y ⊗ y))
 unfoldable pub real-part : Complex → Float
 real-part z = cond (eq (z .im) zero-f) (z .re) no-number
 
-unfoldable pub if-finite : Float → Float → Float
-if-finite y x = cond (finite y) x no-number
-
 -- 2 ^ -10 and 2 ^ 10
 abbrev pub least-square : Float
 least-square = ofBits binary64 0x3F50_0000_0000_0000
@@ -54,20 +52,25 @@ cos-theta snell layer =
     let sin = over snell (layer .n) in
     cond (eq (layer .k) zero-f) (root (one ⊖ sin ⊗ sin)) no-number
 
+unfoldable pub medium-of : Float → Float → ThinFilmLayer → Medium
+medium-of snell wavelength layer =
+    let cos-θ = cos-theta snell layer in
+    let eta-s = layer .n ⊗ cos-θ in
+    record { «eta_s» = eta-s; «eta_p» = over (layer .n) cos-θ; delta = eta-s ⊗ factor (layer .«thickness_nm») wavelength }
+
+unfoldable pub film-in : Float → Float → Float → Float → Film
+film-in eta-s eta-p sin-δ cos-δ = record {
+  cos = cos-δ;
+  «y_s» = over sin-δ eta-s;
+  «z_s» = sin-δ ⊗ eta-s;
+  «y_p» = over sin-δ eta-p;
+  «z_p» = sin-δ ⊗ eta-p;
+}
+
 unfoldable pub film-of : Float → Float → ThinFilmLayer → Film
 film-of snell wavelength layer =
-    let cos = cos-theta snell layer in
-    let eta-s = layer .n ⊗ cos in
-    let eta-p = over (layer .n) cos in
-    let δ = eta-s ⊗ factor (layer .«thickness_nm») wavelength in
-    let sin = i-sin-delta (real δ) .im in
-    record {
-      cos = if-finite δ (cos-delta (real δ) .re);
-      «y_s» = over sin eta-s;
-      «z_s» = sin ⊗ eta-s;
-      «y_p» = over sin eta-p;
-      «z_p» = sin ⊗ eta-p;
-    }
+    let m = medium-of snell wavelength layer in
+    film-in (m .«eta_s») (m .«eta_p») (sin (m .delta)) (cos (m .delta))
 
 -- ---- products
 unfoldable pub times : Product → Float → Float → Float → Product

@@ -1,2 +1,3 @@
 -- The powers of a coated surface over real numbers: Internal need not be believed.
 pub mod Internal
+pub mod InternalFilms

@@ -2,11 +2,13 @@
 // [[cos, i y], [i z, cos]] then, and so is each product. What the quick way does not cover makes a NaN, and a NaN or an
 // infinity stays to the end: the powers are known where the last numbers are finite, and are those of thin_film_solver.
 ghost use mathlib.Core.Path.{_≡_};
-ghost use Rattle.surface_real.specs.Internal.{over, real-part, if-finite, root, cos-theta, film-of, times, join, no-films, cos-theta-sub, power, finish, same-number, both-zero, same-film, meet, none-met};
+ghost use Rattle.surface_real.specs.Internal.{over, real-part, root, cos-theta, medium-of, film-in, film-of, times, join, no-films, cos-theta-sub, power, finish, same-number, both-zero, same-film, meet, none-met};
 use surface::Powers;
 use thin_film_complex::Complex;
 use thin_film_solver::Incidence;
 use thin_film_solver::ThinFilmLayer;
+
+pub mod films;
 
 // ---- films
 
@@ -37,13 +39,6 @@ fn real_part(z: Complex) -> f64
     if z.im == 0.0 { z.re } else { 0.0 / 0.0 }
 }
 
-// x, where y is finite.
-fn if_finite(y: f64, x: f64) -> f64
-    ensures { λ r. ⌜ r ≡ if-finite y x ⌝ }
-{
-    if ieee::is_finite(y) { x } else { 0.0 / 0.0 }
-}
-
 // The root of a number from 2^-10 to 2^10, as Complex::sqrt takes it.
 fn root(x: f64) -> f64
     ensures { λ r. ⌜ r ≡ root x ⌝ }
@@ -71,25 +66,46 @@ fn cos_theta(snell: f64, layer: ThinFilmLayer) -> f64
     }
 }
 
-pub fn film_of(light: Incidence, layer: ThinFilmLayer) -> Film
-    ensures { λ r. ⌜ r ≡ film-of (light .snell) (light .«wavelength_nm») layer ⌝ }
+// The admittances of a film that does not absorb, and its phase thickness.
+pub struct Medium {
+    pub eta_s: f64,
+    pub eta_p: f64,
+    pub delta: f64,
+}
+
+fn medium_of(light: Incidence, layer: ThinFilmLayer) -> Medium
+    ensures { λ r. ⌜ r ≡ medium-of (light .snell) (light .«wavelength_nm») layer ⌝ }
 {
     let cos = cos_theta(light.snell, layer);
     let eta_s = layer.n * cos;
     let eta_p = over(layer.n, cos);
     let factor = 2.0 * 3.141592653589793 * layer.thickness_nm / light.wavelength_nm;
-    let delta = eta_s * factor;
-    let phase = thin_film_matrix::phase_of(Complex::real(delta));
-    let cos_delta = phase.cos;
-    let i_sin = phase.i_sin;
-    let sin = i_sin.im;
+    Medium {
+        eta_s,
+        eta_p,
+        delta: eta_s * factor,
+    }
+}
+
+// A film's matrices, from its admittances and the sine and cosine of its phase thickness.
+fn film_in(eta_s: f64, eta_p: f64, sin: f64, cos: f64) -> Film
+    ensures { λ r. ⌜ r ≡ film-in «eta_s» «eta_p» sin cos ⌝ }
+{
     Film {
-        cos: if_finite(delta, cos_delta.re),
+        cos,
         y_s: over(sin, eta_s),
         z_s: sin * eta_s,
         y_p: over(sin, eta_p),
         z_p: sin * eta_p,
     }
+}
+
+pub fn film_of(light: Incidence, layer: ThinFilmLayer) -> Film
+    ensures { λ r. ⌜ r ≡ film-of (light .snell) (light .«wavelength_nm») layer ⌝ }
+{
+    let medium = medium_of(light, layer);
+    let wave = math_trig::sin_cos(medium.delta);
+    film_in(medium.eta_s, medium.eta_p, wave.sin, wave.cos)
 }
 
 // ---- products
