@@ -4,14 +4,10 @@ use mathlib.Core.List.{List}
 use Prim.Native.Nat.{ℕ, zero, suc, _<_}
 use native.Mathlib.Nat.{not-suc-le-zero, le-of-suc-le-suc}
 use lib.ListN.{length, getD}
-use lib.Ieee.{Float, binary64}
-use lib.Ieee.Bits.{ofBits-fits}
-use lib.Ieee.Fits.{add-fits}
+use lib.Ieee.{Float}
 use Rattle.thin_film_solver.specs.declared.ThinFilmLayer.{ThinFilmLayer}
 use Rattle.sheet.specs.Internal.{next-place, place-on, layer-at, layers-at}
-use Rattle.sheet.specs.Sheet.{SheetLayer, layer, cauchy}
-use Rattle.sheet_values.specs.Values.{film, films, cauchy-index}
-use Rattle.surface_real.proofs.Again.{Held}
+use Rattle.sheet_values.specs.Values.{film, films}
 
 pub many : (w : Float) (src : List ℕ) (at n : ℕ) → length (films w (layers-at src at n)) ≡ n
 unfolding films layers-at
@@ -23,9 +19,3 @@ unfolding films layers-at place-on
 nth w src at zero j d h = absurd (not-suc-le-zero h)
 nth w src at (suc n) zero d h = refl
 nth w src at (suc n) (suc j) d h = nth w src (next-place src at) n j d (le-of-suc-le-suc h)
-
--- an f64 holds the numbers of a layer
-pub held : (w : Float) (l : SheetLayer) → Held (film w l)
-unfolding cauchy-index
-held w (layer n k thickness) = record { n = ofBits-fits binary64 n; d = ofBits-fits binary64 thickness }
-held w (cauchy a b c thickness) = record { n = add-fits binary64 _ _; d = ofBits-fits binary64 thickness }

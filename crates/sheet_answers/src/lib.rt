@@ -20,6 +20,7 @@ use thin_film_solver::CoatingResponse;
 use thin_film_solver::Incidence;
 use thin_film_solver::ThinFilmLayer;
 
+mod presets;
 mod quick;
 
 // A surface's powers alone, or a refusal.

@@ -12,6 +12,7 @@ ghost use Rattle.thin_film.specs.Evaluate.{evaluate-surface};
 ghost use Rattle.surface.specs.Answers.{coated-powers};
 ghost use Rattle.sheet_answers.specs.Outcome.{outcome-of};
 use crate::PowersReply;
+use crate::presets;
 use gate_limits::Surface;
 use surface::Powers;
 use surface_real::Known;
@@ -21,16 +22,10 @@ use thin_film_layers::Prepared;
 use thin_film_solver::Incidence;
 use thin_film_solver::ThinFilmLayer;
 
-// The n layers after the block at a place, in their order or reversed, at a wavelength: read in one walk.
-fn layers_after(
-    src: &[u8],
-    at: usize,
-    n: usize,
-    reversed: bool,
-    wavelength_nm: f64,
-) -> [ThinFilmLayer; 16]
+// The n layers after the block at a place, at a wavelength, in the sheet's order: read in one walk.
+fn layers_after(src: &[u8], at: usize, n: usize, wavelength_nm: f64) -> [ThinFilmLayer; 16]
     requires { ⌜ n ≤ 16 ⌝ }
-    ensures { λ r. ⌜ take n r ≡ ordered reversed (films «wavelength_nm» (layers-at (now (src .entry)) (next-place (now (src .entry)) at) n)) ⌝ }
+    ensures { λ r. ⌜ take n r ≡ films «wavelength_nm» (layers-at (now (src .entry)) (next-place (now (src .entry)) at) n) ⌝ }
 {
     let mut layers = [ThinFilmLayer {
         n: 0.0,
@@ -40,8 +35,7 @@ fn layers_after(
     let mut place = sheet::next_place(src, at);
     let mut i = 0;
     while i < n {
-        let j = thin_film_layers::nth_index(reversed, n, i);
-        layers[j] = sheet_values::layer_at(src, place, wavelength_nm);
+        layers[i] = sheet_values::layer_at(src, place, wavelength_nm);
         place = sheet::next_place(src, place);
         i += 1;
     }
@@ -60,19 +54,11 @@ fn quick_powers(
     ensures { λ r. ⌜ (r .known ≡ true → r .powers ≡ coated-powers (solved light (ordered reversed (films «wavelength_nm» (layers-at (now (src .entry)) (next-place (now (src .entry)) at) n))))) ⌝ }
 {
     if n > 16 {
-        let powers = Powers {
-            reflectance_s: 0.0,
-            reflectance_p: 0.0,
-            transmittance_s: 0.0,
-            transmittance_p: 0.0,
-        };
-        return Known {
-            known: false,
-            powers,
-        };
+        return presets::unknown();
     }
-    let layers = layers_after(src, at, n, reversed, wavelength_nm);
-    let stack = surface_real::films::join_all(light, layers, n, surface_real::no_films());
+    let layers = layers_after(src, at, n, wavelength_nm);
+    let none = surface_real::no_films();
+    let stack = surface_real::films::join_all(light, layers, n, reversed, none);
     surface_real::finish(light, stack)
 }
 
@@ -117,6 +103,11 @@ pub fn coated_powers(
 ) -> PowersReply
     ensures { λ r. ⌜ outcome-of r ≡ map coated-powers (evaluate-surface coating (films «wavelength_nm» (layers-at (now (src .entry)) (next-place (now (src .entry)) at) n)) (surface .«n_incident») (surface .«n_substrate») (surface .«angle_rad») «wavelength_nm») ⌝ }
 {
+    let preset = presets::preset_powers(coating, surface, wavelength_nm);
+    if preset.known {
+        let powers = preset.powers;
+        return PowersReply::Powers(powers);
+    }
     match thin_film::reading::prepare_surface(
         coating,
         n,

@@ -3,6 +3,7 @@
 ghost use mathlib.Core.Path.{_≡_};
 ghost use Prim.Native.Nat.{_≤_};
 ghost use lib.ListN.{take};
+ghost use Rattle.thin_film_layers.specs.Evaluation.{ordered};
 ghost use Rattle.surface_real.specs.Internal.{stacked, meet};
 ghost use Rattle.surface_real.specs.InternalFilms.{media-of, joined, Held};
 use crate::Met;
@@ -41,10 +42,10 @@ fn media_of(light: Incidence, layers: [ThinFilmLayer; 16], n: usize) -> Media
     }
 }
 
-// The first n films, each joined to the product of those before it.
-fn join_media(media: Media, waves: Waves, n: usize, stack: Stack) -> Stack
+// The first n films, from the first or from the last, each joined to the product of those before it.
+fn join_media(media: Media, waves: Waves, n: usize, reversed: bool, stack: Stack) -> Stack
     requires { ⌜ n ≤ 16 ⌝ }
-    ensures { λ r. ⌜ r ≡ joined (media .«eta_s») (media .«eta_p») (waves .sin) (waves .cos) n stack ⌝ }
+    ensures { λ r. ⌜ r ≡ joined (media .«eta_s») (media .«eta_p») (waves .sin) (waves .cos) reversed n n stack ⌝ }
 {
     let eta_s = media.eta_s;
     let eta_p = media.eta_p;
@@ -53,20 +54,27 @@ fn join_media(media: Media, waves: Waves, n: usize, stack: Stack) -> Stack
     let mut product = stack;
     let mut i = 0;
     while i < n {
-        product = crate::join(product, crate::film_in(eta_s[i], eta_p[i], sin[i], cos[i]));
+        let j = thin_film_layers::nth_index(reversed, n, i);
+        product = crate::join(product, crate::film_in(eta_s[j], eta_p[j], sin[j], cos[j]));
         i += 1;
     }
     product
 }
 
 // The first n layers in arrays.
-fn join_arrays(light: Incidence, layers: [ThinFilmLayer; 16], n: usize, stack: Stack) -> Stack
+fn join_arrays(
+    light: Incidence,
+    layers: [ThinFilmLayer; 16],
+    n: usize,
+    reversed: bool,
+    stack: Stack,
+) -> Stack
     requires { ⌜ n ≤ 16 ⌝ }
-    ensures { λ r. ⌜ r ≡ stacked (light .snell) (light .«wavelength_nm») stack (take n layers) ⌝ }
+    ensures { λ r. ⌜ r ≡ stacked (light .snell) (light .«wavelength_nm») stack (ordered reversed (take n layers)) ⌝ }
 {
     let media = media_of(light, layers, n);
     let delta = media.delta;
-    join_media(media, math_waves::sin_cos(delta, n), n, stack)
+    join_media(media, math_waves::sin_cos(delta, n), n, reversed, stack)
 }
 
 // A layer with its film, as meet gives it; its numbers are those of an f64.
@@ -77,16 +85,23 @@ fn meet_held(light: Incidence, layer: ThinFilmLayer, earlier: Met) -> Met
 }
 
 // The first n layers one by one, each looked for at the last but one.
-fn join_turns(light: Incidence, layers: [ThinFilmLayer; 16], n: usize, stack: Stack) -> Stack
+fn join_turns(
+    light: Incidence,
+    layers: [ThinFilmLayer; 16],
+    n: usize,
+    reversed: bool,
+    stack: Stack,
+) -> Stack
     requires { ⌜ n ≤ 16 ⌝ }
-    ensures { λ r. ⌜ r ≡ stacked (light .snell) (light .«wavelength_nm») stack (take n layers) ⌝ }
+    ensures { λ r. ⌜ r ≡ stacked (light .snell) (light .«wavelength_nm») stack (ordered reversed (take n layers)) ⌝ }
 {
     let mut product = stack;
     let mut older = crate::none_met();
     let mut newer = crate::none_met();
     let mut i = 0;
     while i < n {
-        let met = meet_held(light, layers[i], older);
+        let j = thin_film_layers::nth_index(reversed, n, i);
+        let met = meet_held(light, layers[j], older);
         let film = met.film;
         product = crate::join(product, film);
         older = newer;
@@ -110,14 +125,21 @@ fn take_turns(layers: [ThinFilmLayer; 16], n: usize) -> bool
     true
 }
 
-// The first n of 16 layers, of all where n is more, joined to a product.
-pub fn join_all(light: Incidence, layers: [ThinFilmLayer; 16], n: usize, stack: Stack) -> Stack
-    ensures { λ r. ⌜ r ≡ stacked (light .snell) (light .«wavelength_nm») stack (take n layers) ⌝ }
+// The first n of 16 layers, or all where n is more, joined to a product: from the first on, or from the last where
+// light meets them from the far side.
+pub fn join_all(
+    light: Incidence,
+    layers: [ThinFilmLayer; 16],
+    n: usize,
+    reversed: bool,
+    stack: Stack,
+) -> Stack
+    ensures { λ r. ⌜ r ≡ stacked (light .snell) (light .«wavelength_nm») stack (ordered reversed (take n layers)) ⌝ }
 {
     let few = if n < 16 { n } else { 16 };
     if take_turns(layers, few) {
-        join_turns(light, layers, few, stack)
+        join_turns(light, layers, few, reversed, stack)
     } else {
-        join_arrays(light, layers, few, stack)
+        join_arrays(light, layers, few, reversed, stack)
     }
 }

@@ -3,10 +3,13 @@ use mathlib.Core.Path.{_≡_, sym, ap, _∙_}
 use mathlib.Core.Logic.{_⊎_, inl, inr, ⊎-elim}
 use Prim.Native.Nat.{ℕ, _≤_, _<_}
 use native.Mathlib.Omega.{arith}
+use mathlib.Core.Bool.{Bool}
 use mathlib.Core.List.{List}
 use lib.ListN.{length, take}
 use lib.Seq.{take-all}
+use lib.Ieee.{Float}
 use Rattle.thin_film_solver.specs.declared.ThinFilmLayer.{ThinFilmLayer}
+use Rattle.thin_film_layers.specs.Evaluation.{ordered}
 use Rattle.surface_real.specs.declared.Stack.{Stack}
 use Rattle.surface_real.specs.Internal.{stacked}
 use Rattle.surface_real.proofs.films.join_all.Statement.{statement}
@@ -23,11 +26,15 @@ firsts layers m n long (inr e) = take-all m layers (omega (arith, e .0)) ∙ sym
 same : (c : tie.Joined1) → take (c .if1 .few) (c .before .args .layers) ≡ take (c .before .args .n) (c .before .args .layers)
 same c = firsts _ _ _ (c .before .good .1 .0 .1 .0 .1) (few c .1)
 
+taken : (snell wavelength : Float) (reversed : Bool) (layers first : List ThinFilmLayer) (k r : Stack) → r ≡ stacked snell wavelength k (ordered reversed first) → first ≡ layers
+    → r ≡ stacked snell wavelength k (ordered reversed layers)
+taken snell wavelength reversed layers first k r e f = e ∙ ap (λ (l : List ThinFilmLayer). stacked snell wavelength k (ordered reversed l)) f
+
 returns : tie.Need-returns
-returns c = let j = c .before .before .before in c .join-turns .ensures ∙ ap (stacked _ _ (j .before .args .stack)) (same j)
+returns c = taken _ _ _ _ _ _ _ (c .join-turns .ensures) (same (c .before .before .before))
 
 returns-2 : tie.Need-returns-2
-returns-2 c = let j = c .before .before .before in c .join-arrays .ensures ∙ ap (stacked _ _ (j .before .args .stack)) (same j)
+returns-2 c = taken _ _ _ _ _ _ _ (c .join-arrays .ensures) (same (c .before .before .before))
 
 pub join-all-spec : {M : Type 1} → statement M
 join-all-spec = tie.close (tie.spec (λ c κs. few c .0) (λ c κs. few (c .before .before) .0) (λ c κs. few (c .before .before) .0) returns returns-2)

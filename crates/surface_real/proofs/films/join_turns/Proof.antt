@@ -1,19 +1,21 @@
 -- `surface_real::films::join_turns` meets its contract. Assumes nothing.
 use mathlib.Core.Path.{_≡_, refl, sym, ap, _∙_, subst}
-use Prim.Native.Nat.{ℕ, _-_, _≤_}
+use Prim.Native.Nat.{_-_, _≤_, _<_}
 use native.Mathlib.Omega.{arith}
 use mathlib.Core.List.{List}
 use lib.ListN.{length, take}
 use lib.Ieee.{Float}
 use borrow.Author.Needs.{needs}
 use Rattle.thin_film_solver.specs.declared.ThinFilmLayer.{ThinFilmLayer}
+use Rattle.thin_film_layers.specs.Evaluation.{ordered}
+use Rattle.thin_film_layers.proofs.Order.{within}
 use Rattle.surface_real.specs.declared.Met.{Met}
 use Rattle.surface_real.specs.declared.Stack.{Stack}
 use Rattle.surface_real.specs.Internal.{film-of, stacked, meet, none-met}
 use Rattle.surface_real.specs.InternalFilms.{Held}
 use Rattle.surface_real.proofs.Again as Again
 use Rattle.surface_real.proofs.Again.{Right, met-film, met-right, none-right}
-use Rattle.surface_real.proofs.Stacking.{one-more}
+use Rattle.surface_real.proofs.Stacking.{further, ended}
 use Rattle.surface_real.proofs.films.join_turns.Statement.{statement}
 use Rattle.surface_real.proofs.films.join_turns.Tie as tie
 
@@ -36,24 +38,29 @@ module _ (snell wavelength : Float) where
   begun k layers = unfold stacked in refl
 
 abbrev Inv-loop : tie.InvT-loop
-Inv-loop light n layers product₀ older₀ newer₀ i₀ product older newer i =
-    (i ≤ n) × (product ≡ stacked (light .snell) (light .«wavelength_nm») product₀ (take i layers)) × Right (light .snell) (light .«wavelength_nm») older
+Inv-loop light n reversed layers product₀ older₀ newer₀ i₀ product older newer i =
+    (i ≤ n) × (product ≡ stacked (light .snell) (light .«wavelength_nm») product₀ (take i (ordered reversed (take n layers)))) × Right (light .snell) (light .«wavelength_nm») older
     × Right (light .snell) (light .«wavelength_nm») newer
 
 abbrev μ-loop : tie.MeasureT-loop
-μ-loop light n layers product₀ older₀ newer₀ i₀ product older newer i = n - i
+μ-loop light n reversed layers product₀ older₀ newer₀ i₀ product older newer i = n - i
 
 loop-holds : tie.Need-loop-holds Inv-loop μ-loop
-loop-holds c = (omega arith, begun _ _ _ (c .before .before .args .t2), none _ _ _ (c .before .none-met .ensures), none _ _ _ (c .none-met2 .ensures))
+loop-holds c = (omega arith, begun _ _ _ (ordered (c .before .before .args .reversed) (take (c .before .before .args .n) (c .before .before .args .t2))), none _ _ _ (c .before .none-met .ensures), none _ _ _ (c .none-met2 .ensures))
+
+inside : (c : tie.After-nth-index Inv-loop μ-loop) → c .nth-index .result < 16
+inside c =
+    let s = c .before .before .before .before .before in
+    omega (arith, c .nth-index .ensures, within (s .args .reversed) _ _ (c .before .loop-test .taken), s .pre)
 
 loop-again : tie.Need-loop-again Inv-loop μ-loop
 loop-again c =
-    let s = c .before .before .before .before .before .before .before .before in
-    let inv = c .before .before .before .before .before .loop .inv in
-    let test = c .before .before .before .before .loop-test .taken in
+    let s = c .before .before .before .before .before .before .before .before .before in
+    let inv = c .before .before .before .before .before .before .loop .inv in
+    let test = c .before .before .before .before .before .loop-test .taken in
     let long : length (s .args .t2) ≡ 16 = s .good .1 .0 .1 .0 .1 in (
       omega (arith, test),
-      one-more _ _ (s .args .t2) _ _ _ _ _ _ (omega (arith, test, s .pre)) (own _ _ _ _ _ (c .before .before .meet-held .ensures) (inv .2)) (inv .1) (c .join .ensures),
+      further _ _ (s .args .t2) _ _ (omega (arith, s .pre)) _ _ _ _ _ _ _ test (c .before .before .before .before .nth-index .ensures) (own _ _ _ _ _ (c .before .before .meet-held .ensures) (inv .2)) (inv .1) (c .join .ensures),
       inv .3,
       kept _ _ _ _ _ (c .before .before .meet-held .ensures) (inv .2),
     )
@@ -61,8 +68,8 @@ loop-again c =
 returns : tie.Need-returns Inv-loop μ-loop
 returns c =
     let s = c .before .before .before .before in
-    let e : c .before .loop .i ≡ s .args .n = omega (arith, c .before .loop .inv .0, c .loop-test .left) in
-    c .before .loop .inv .1 ∙ ap (λ (m : ℕ). stacked (s .args .light .snell) (s .args .light .«wavelength_nm») (s .args .stack) (take m (s .args .t2))) e
+    let long : length (s .args .t2) ≡ 16 = s .good .1 .0 .1 .0 .1 in
+    c .before .loop .inv .1 ∙ ended _ _ (s .args .t2) (s .args .n) (s .args .reversed) (omega (arith, s .pre)) _ (c .before .loop .i) (omega (arith, c .before .loop .inv .0, c .loop-test .left))
 
 pub join-turns-spec : {M : Type 1} → statement M
 join-turns-spec =
@@ -73,8 +80,9 @@ join-turns-spec =
     (λ c κs. search needs)
     (λ c κs. search needs)
     loop-holds
-    (λ c. search needs)
-    (λ c. search needs)
+    (λ c κs. search needs)
+    (λ c. record { fits = omega (arith, inside c) })
+    (λ c. inside c)
     (λ c κs. search needs)
     (λ c κs. search needs)
     (λ c. search needs)
