@@ -1,7 +1,7 @@
 // Command bench: nanoseconds for a call, best of several runs, of each side; and their ratios.
 
 use crate::section2::{self, PI};
-use crate::sheets::{even, glasses};
+use crate::sheets::{even, glasses, periodic};
 use crate::values::Rng;
 use std::hint::black_box;
 use std::time::Instant;
@@ -156,7 +156,7 @@ side!(authors, f64::cos);
 side!(reference, crate::section2::cos);
 
 /// The workloads, with the number of calls in each.
-pub const WORKS: [(&str, usize); 21] = [
+pub const WORKS: [(&str, usize); 22] = [
     ("bare surface, the two powers alone", 64),
     ("MgF2", 64),
     ("15-layer mirror", 64),
@@ -165,6 +165,7 @@ pub const WORKS: [(&str, usize); 21] = [
     ("whole run, 1 surface of 16 layers", 1),
     ("whole run, 8 surfaces of 16 layers", 1),
     ("whole run, 64 surfaces of 16 layers", 1),
+    ("whole run, 64 surfaces of 16 layers that take turns", 1),
     ("whole run, 64 surfaces of 4 layers", 1),
     ("whole run, 64 surfaces of 1 layer", 1),
     ("whole run, 1 bare surface", 1),
@@ -186,6 +187,7 @@ pub fn run_sheets() -> Vec<Vec<u8>> {
         even(1, 16),
         even(8, 16),
         even(64, 16),
+        periodic(64, 16),
         even(64, 4),
         even(64, 1),
         even(1, 0),

@@ -204,6 +204,17 @@ pub fn even(surfaces: usize, layers: usize) -> Plan {
     plan
 }
 
+/// The same, each layer the last but one again, as in H L H L.
+pub fn periodic(surfaces: usize, layers: usize) -> Plan {
+    let mut plan = even(surfaces, layers);
+    for face in &mut plan.surfaces {
+        for i in 2..face.layers.len() {
+            face.layers[i] = face.layers[i - 2].clone();
+        }
+    }
+    plan
+}
+
 fn index(rng: &mut Rng) -> f64 {
     match rng.below(4) {
         0 => rng.pick(&[1.0, 4.0, 1.38, 1.46, 1.5, 2.3, 3.0]),
