@@ -2,6 +2,7 @@
 pub mod Wavelengths
 pub mod Verdicts
 pub mod Claim
+pub mod Kept
 pub mod Walk
 pub mod Admitted
 pub mod HoldsHere

@@ -1,11 +1,14 @@
 -- Scaffolding, not to be believed: what the limits say of the block at a place of some bytes, and of a wavelength from there on.
 use mathlib.Core.Bool.{Bool, true, _&&_, _||_, cond}
 use mathlib.Core.List.{List, [], _∷_}
-use Prim.Native.Nat.{ℕ, zero, suc, _-_}
+use mathlib.Core.Path.{_≡_}
+use Prim.Native.Nat.{ℕ, zero, suc, _-_, _<_}
+use lib.ListN.{length, getD}
 use lib.Dec.{eqb}
-use lib.Ieee.{Float, le}
+use lib.Ieee.{Float, nan, le}
 use lib.Ieee.Scale.{finite}
 use Rattle.ieee.specs.Operators.{_⊕_}
+use Rattle.math_trig.specs.Trig.{sin, cos}
 use Rattle.gate.specs.declared.Passage.{Passage}
 use Rattle.gate_limits.specs.Limits.{sixteen, wavelength-passes, beam-passes, layer-within, metal-within, absorption, judgement}
 use Rattle.sheet.specs.Words.{word, kind}
@@ -17,6 +20,18 @@ use Rattle.sheet_values.specs.declared.Cauchy.{Cauchy}
 use Rattle.sheet_values.specs.Internal.{beam-at}
 use Rattle.gate.specs.Gate.{coefficients-finite, layer-admitted, metal-admitted}
 use Rattle.gate.specs.Wavelength.{surface-admitted}
+
+-- the angle of the SURFACE at a place
+abbrev pub angle-at : List ℕ → ℕ → Float
+angle-at src at = surface-value (surface-at src at []) .«angle_rad»
+
+-- what is kept of SURFACEs: their places, none of which is 0 but where nothing is kept, and the sines and cosines of their angles
+pub record Kept (src places : List ℕ) (sines cosines : List Float) : Type 0 where
+  pub of-places : length places ≡ 64
+  pub of-sines : length sines ≡ 64
+  pub of-cosines : length cosines ≡ 64
+  pub right : (j at : ℕ) → j < 64 → 0 < at → getD places j 0 ≡ at
+      → (getD sines j nan ≡ sin (angle-at src at)) × (getD cosines j nan ≡ cos (angle-at src at))
 
 -- a kind 6 by its values: its coefficients are finite; and it passes under section 3's limits
 abbrev pub glass-finite : Cauchy → Bool
@@ -66,6 +81,9 @@ layers-hold-at (suc n) src at wavelength =
     cond (eqb (kind (word src at)) 7) true
     (surface-holds-at src at wavelength && layers-hold-at n src (place-on src at (suc (layer-run 16 src at))) wavelength)
 
--- a wavelength, with `done` of `count` SURFACEs behind it
+-- a wavelength, for n SURFACEs, the first of which begins at a place; with `done` of `count` SURFACEs behind it
+unfoldable pub holds-from : List ℕ → ℕ → ℕ → Float → Bool
+holds-from src at n wavelength = wavelength-passes wavelength && layers-hold-at n src at wavelength
+
 unfoldable pub holds-at : List ℕ → ℕ → ℕ → Float → Bool
 holds-at src done count wavelength = wavelength-passes wavelength && layers-hold-at (count - done) src (begin src done) wavelength

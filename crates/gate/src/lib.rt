@@ -3,16 +3,22 @@
 ghost use mathlib.Core.Path.{_≡_};
 ghost use mathlib.Core.Bool.{_&&_, _||_};
 ghost use lib.Dec.{T};
+ghost use mathlib.Core.List.{List, []};
+ghost use Prim.Native.Nat.{ℕ};
 ghost use Rattle.ieee.specs.Functions.{zero-f};
-ghost use Rattle.gate_limits.specs.Limits.{layer-within};
-ghost use Rattle.sheet.specs.Internal.{layer-at, layers-at};
+ghost use Rattle.math_trig.specs.Trig.{sin-cos};
+ghost use Rattle.gate_limits.specs.Limits.{layer-within, judgement};
+ghost use Rattle.sheet.specs.Internal.{layer-at, layers-at, surface-at};
 ghost use Rattle.sheet.specs.Claim.{longest, length-fits};
 ghost use Rattle.sheet.specs.Read.{decode, graded, surfaces-of, grammar};
 ghost use Rattle.refusal.specs.Outcome.{answer, refusal, map};
 ghost use Rattle.gate.specs.Gate.{coefficients-finite, layer-admitted, outcome, within-limits, gate};
 ghost use Rattle.gate.specs.Wavelength.{layers-admitted};
+ghost use Rattle.sheet_values.specs.Values.{surface-value};
 ghost use Rattle.sheet_values.specs.Internal.{plain-at, cauchy-at};
-ghost use Rattle.gate.specs.Internal.{glass-finite, cauchy-admitted, metal-at, metal-layer, metal-layers, passage-at, surface-holds-at, layers-hold-at, holds-at};
+ghost use Rattle.gate.specs.Internal.{angle-at, Kept, glass-finite, cauchy-admitted, metal-at, metal-layer, metal-layers, passage-at, surface-holds-at, layers-hold-at, holds-from, holds-at};
+use gate_limits::Judgement;
+use math_trig::SinCos;
 use refusal::Refusal;
 use sheet::Verdict;
 use sheet_values::Cauchy;
@@ -116,6 +122,51 @@ fn metal_holds(src: &[u8], at: usize, wavelength_nm: f64) -> bool
     metal_layers(src, sheet::next_place(src, at), n, wavelength_nm)
 }
 
+// ---- sines and cosines, kept for whoever comes after the gate
+
+// The sine and the cosine of the SURFACE at a place, from the i-th that are kept, if these are its own.
+pub fn kept_at(
+    at: usize,
+    angle_rad: f64,
+    i: usize,
+    places: &[usize; 64],
+    sines: &[f64; 64],
+    cosines: &[f64; 64],
+) -> SinCos
+    ensures { λ r. ⌜ ((src : List ℕ) → Kept src (now (places .entry)) (now (sines .entry)) (now (cosines .entry)) → «angle_rad» ≡ angle-at src at → r ≡ sin-cos «angle_rad») ⌝ }
+{
+    let j = i % 64;
+    if at > 0 {
+        if places[j] == at {
+            return SinCos {
+                sin: sines[j],
+                cos: cosines[j],
+            };
+        }
+    }
+    math_trig::sin_cos(angle_rad)
+}
+
+// The SURFACE at a place is judged, and its sine and cosine are the i-th that are kept.
+fn judge_keeping(
+    src: &[u8],
+    at: usize,
+    i: usize,
+    places: &mut [usize; 64],
+    sines: &mut [f64; 64],
+    cosines: &mut [f64; 64],
+) -> Judgement
+    ensures { λ r. ⌜ (r ≡ judgement (surface-value (surface-at (now (src .entry)) at []))) × (Kept (now (src .entry)) (now (places .entry)) (now (sines .entry)) (now (cosines .entry)) → Kept (now (src .entry)) (now (places .exit)) (now (sines .exit)) (now (cosines .exit))) ⌝ }
+{
+    let surface = sheet_values::surface_at(src, at);
+    let theta = math_trig::sin_cos(surface.angle_rad);
+    let j = i % 64;
+    places[j] = at;
+    sines[j] = theta.sin;
+    cosines[j] = theta.cos;
+    gate_limits::judge_with(surface, theta)
+}
+
 // ---- a sheet, block after block
 
 // A LAYER, or else its SURFACE under the limits of metal films.
@@ -142,9 +193,19 @@ struct Passage {
     surface: usize,
 }
 
-// The block at a place, at a wavelength and after the SURFACE at another.
-fn judge(src: &[u8], at: usize, surface: usize, wavelength_nm: f64, snell: f64) -> Passage
-    ensures { λ r. ⌜ r ≡ passage-at (now (src .entry)) at surface «wavelength_nm» snell ⌝ }
+// The block at a place, at a wavelength and after the SURFACE at another, which was the i-th.
+fn judge(
+    src: &[u8],
+    at: usize,
+    surface: usize,
+    wavelength_nm: f64,
+    snell: f64,
+    i: usize,
+    places: &mut [usize; 64],
+    sines: &mut [f64; 64],
+    cosines: &mut [f64; 64],
+) -> Passage
+    ensures { λ r. ⌜ (r ≡ passage-at (now (src .entry)) at surface «wavelength_nm» snell) × (Kept (now (src .entry)) (now (places .entry)) (now (sines .entry)) (now (cosines .entry)) → Kept (now (src .entry)) (now (places .exit)) (now (sines .exit)) (now (cosines .exit))) ⌝ }
 {
     let kind = sheet::kind_at(src, at);
     if kind == 2 {
@@ -156,7 +217,7 @@ fn judge(src: &[u8], at: usize, surface: usize, wavelength_nm: f64, snell: f64) 
         };
     }
     if kind == 3 {
-        let judgement = gate_limits::judge_surface(sheet_values::surface_at(src, at));
+        let judgement = judge_keeping(src, at, i, places, sines, cosines);
         return Passage {
             passes: judgement.passes,
             snell: judgement.snell,
@@ -191,10 +252,25 @@ fn judge(src: &[u8], at: usize, surface: usize, wavelength_nm: f64, snell: f64) 
     }
 }
 
+// One more of 64 where a SURFACE has taken the place of another.
+fn next_slot(i: usize, before: usize, surface: usize) -> usize {
+    if surface == before {
+        i
+    } else {
+        (i % 64 + 1) % 64
+    }
+}
+
 // The limits of a sheet that is in grammar, block after block, each layer at the wavelength that its SURFACE is met with.
-fn limits(src: &[u8], count: u32) -> Gated
+fn limits(
+    src: &[u8],
+    count: u32,
+    places: &mut [usize; 64],
+    sines: &mut [f64; 64],
+    cosines: &mut [f64; 64],
+) -> Gated
     requires { ⌜ T (length-fits (now src)) × (grammar (now src) ≡ answer count) ⌝ }
-    ensures { λ r. ⌜ outcome r ≡ map surfaces-of (within-limits (graded (decode (now (src .entry))))) ⌝ }
+    ensures { λ r. ⌜ (outcome r ≡ map surfaces-of (within-limits (graded (decode (now (src .entry)))))) × (Kept (now (src .entry)) (now (places .entry)) (now (sines .entry)) (now (cosines .entry)) → Kept (now (src .entry)) (now (places .exit)) (now (sines .exit)) (now (cosines .exit))) ⌝ }
 {
     let total = src.len() / 4;
     let beam = sheet_values::beam_of(src);
@@ -202,12 +278,24 @@ fn limits(src: &[u8], count: u32) -> Gated
     let mut at: usize = 0;
     let mut surface: usize = 0;
     let mut snell = 0.0;
+    let mut i: usize = 0;
     while at < total {
         wavelength_nm = sheet_values::met_with(src, at, wavelength_nm);
-        let passage = judge(src, at, surface, wavelength_nm, snell);
+        let passage = judge(
+            src,
+            at,
+            surface,
+            wavelength_nm,
+            snell,
+            i,
+            places,
+            sines,
+            cosines,
+        );
         if !passage.passes {
             return outside(at);
         }
+        i = next_slot(i, surface, passage.surface);
         snell = passage.snell;
         surface = passage.surface;
         at = sheet::next_place(src, at);
@@ -215,9 +303,14 @@ fn limits(src: &[u8], count: u32) -> Gated
     Gated::Admitted(count)
 }
 
-// The gate: the length, then the grammar, then the limits.
-pub fn gate(src: &[u8]) -> Gated
-    ensures { λ r. ⌜ outcome r ≡ gate (now (src .entry)) ⌝ }
+// The gate: the length, then the grammar, then the limits. What is kept stays right.
+pub fn gate_keeping(
+    src: &[u8],
+    places: &mut [usize; 64],
+    sines: &mut [f64; 64],
+    cosines: &mut [f64; 64],
+) -> Gated
+    ensures { λ r. ⌜ (outcome r ≡ gate (now (src .entry))) × (Kept (now (src .entry)) (now (places .entry)) (now (sines .entry)) (now (cosines .entry)) → Kept (now (src .entry)) (now (places .exit)) (now (sines .exit)) (now (cosines .exit))) ⌝ }
 {
     if !length_fits(src) {
         return Gated::Refused(Refusal {
@@ -226,9 +319,19 @@ pub fn gate(src: &[u8]) -> Gated
         });
     }
     match sheet::grammar(src) {
-        Verdict::Whole(count) => limits(src, count),
+        Verdict::Whole(count) => limits(src, count, places, sines, cosines),
         Verdict::Fault(place) => Gated::Refused(Refusal { number: 5, place }),
     }
+}
+
+// The gate alone.
+pub fn gate(src: &[u8]) -> Gated
+    ensures { λ r. ⌜ outcome r ≡ gate (now (src .entry)) ⌝ }
+{
+    let mut places = [0usize; 64];
+    let mut sines = [0.0f64; 64];
+    let mut cosines = [0.0f64; 64];
+    gate_keeping(src, &mut places, &mut sines, &mut cosines)
 }
 
 // ---- what a wavelength is tested on
@@ -263,8 +366,11 @@ fn layers_pass(src: &[u8], at: usize, n: usize, wavelength_nm: f64, snell: f64) 
 fn surface_holds(src: &[u8], at: usize, wavelength_nm: f64) -> bool
     ensures { λ r. ⌜ r ≡ surface-holds-at (now (src .entry)) at «wavelength_nm» ⌝ }
 {
-    let judgement = gate_limits::judge_surface(sheet_values::surface_at(src, at));
     let n = sheet::layer_run(src, at);
+    if n == 0 {
+        return true;
+    }
+    let judgement = gate_limits::judge_surface(sheet_values::surface_at(src, at));
     let place = sheet::next_place(src, at);
     layers_pass(src, place, n, wavelength_nm, judgement.snell)
         || metal_holds(src, at, wavelength_nm)
@@ -287,6 +393,13 @@ fn layers_hold(src: &[u8], at: usize, n: u32, wavelength_nm: f64) -> bool
         i += 1;
     }
     true
+}
+
+// A wavelength, for n SURFACEs, the first of which begins at a place.
+pub fn holds_from(src: &[u8], at: usize, n: u32, wavelength_nm: f64) -> bool
+    ensures { λ r. ⌜ r ≡ holds-from (now (src .entry)) at n «wavelength_nm» ⌝ }
+{
+    gate_limits::wavelength_passes(wavelength_nm) && layers_hold(src, at, n, wavelength_nm)
 }
 
 // A wavelength, with done of a sheet's count of SURFACEs behind it.

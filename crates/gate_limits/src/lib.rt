@@ -1,7 +1,9 @@
 // One surface of a train: its coating by code, and the limits of document 01's section 3 and of document 02's slip 12.
 ghost use mathlib.Core.Path.{_≡_};
+ghost use Rattle.math_trig.specs.Trig.{sin-cos};
 ghost use Rattle.gate_limits.specs.Coating.{coded, interface, preset-layers};
 ghost use Rattle.gate_limits.specs.Limits.{within, wavelength-passes, beam-passes, layer-within, layers-within, angle-within, surface-within, judgement, metal-within, absorption, may-be-metal};
+use math_trig::SinCos;
 use thin_film::SurfaceCoating;
 use thin_film_coating::Coating;
 use thin_film_solver::ThinFilmLayer;
@@ -125,16 +127,21 @@ pub struct Judgement {
     pub snell: f64,
 }
 
-// One sine and one cosine for all of a surface's limits.
-pub fn judge_surface(surface: Surface) -> Judgement
-    ensures { λ r. ⌜ r ≡ judgement surface ⌝ }
+// One sine and one cosine for all of a surface's limits: those of its angle.
+pub fn judge_with(surface: Surface, theta: SinCos) -> Judgement
+    ensures { λ r. ⌜ (theta ≡ sin-cos (surface .«angle_rad») → r ≡ judgement surface) ⌝ }
 {
-    let theta = math_trig::sin_cos(surface.angle_rad);
     let snell = surface.n_incident * ieee::abs(theta.sin);
     Judgement {
         passes: surface_within(snell, theta.cos, surface),
         snell,
     }
+}
+
+pub fn judge_surface(surface: Surface) -> Judgement
+    ensures { λ r. ⌜ r ≡ judgement surface ⌝ }
+{
+    judge_with(surface, math_trig::sin_cos(surface.angle_rad))
 }
 
 // ---- metal films, under other limits

@@ -3,6 +3,7 @@
 ghost use mathlib.Core.Path.{_≡_};
 ghost use Rattle.sheet.specs.Internal.{next-place, place-on, layer-at, layers-at};
 ghost use Rattle.sheet_values.specs.Values.{film, films};
+ghost use Rattle.math_trig.specs.Trig.{sin-cos};
 ghost use Rattle.thin_film_solver.specs.Internal.{solved};
 ghost use Rattle.thin_film_layers.specs.Evaluation.{ordered, outcome};
 ghost use Rattle.thin_film.specs.Evaluate.{evaluate-surface};
@@ -10,6 +11,7 @@ ghost use Rattle.surface.specs.Answers.{answers, powers, returned};
 ghost use Rattle.sheet_answers.specs.Outcome.{outcome-of};
 use gate_limits::Interface;
 use gate_limits::Surface;
+use math_trig::SinCos;
 use refusal::Refusal;
 use surface::AnswersReply;
 use surface::Powers;
@@ -116,6 +118,26 @@ pub fn powers_at(
             wavelength_nm,
         ),
     }
+}
+
+// The same from the sine and the cosine of its angle.
+pub fn powers_with_angle(
+    src: &[u8],
+    at: usize,
+    n: usize,
+    surface: Surface,
+    theta: SinCos,
+    wavelength_nm: f64,
+) -> PowersReply
+    ensures { λ r. ⌜ (theta ≡ sin-cos (surface .«angle_rad») → outcome-of r ≡ powers «wavelength_nm» surface (films «wavelength_nm» (layers-at (now (src .entry)) (next-place (now (src .entry)) at) n))) ⌝ }
+{
+    if surface.coating == 0 {
+        return PowersReply::Powers(surface::bare_powers_with(surface, theta.cos));
+    }
+    if surface.coating == 5 {
+        return quick::custom_powers(src, at, n, surface, theta, wavelength_nm);
+    }
+    powers_at(src, at, n, surface, wavelength_nm)
 }
 
 // The answers of the surface at a place with the n layers after it.

@@ -6,17 +6,22 @@ ghost use lib.ListN.{take};
 ghost use Rattle.refusal.specs.Outcome.{map};
 ghost use Rattle.sheet.specs.Internal.{next-place, layers-at};
 ghost use Rattle.sheet_values.specs.Values.{films};
-ghost use Rattle.thin_film_solver.specs.Internal.{solved};
+ghost use Rattle.math_trig.specs.Trig.{sin-cos};
+ghost use Rattle.thin_film_solver.specs.Internal.{incidence, solved};
 ghost use Rattle.thin_film_layers.specs.Evaluation.{ordered, outcome};
+ghost use Rattle.thin_film_coating.specs.declared.Coating.the-variants.{Multilayer};
+ghost use Rattle.thin_film.specs.declared.SurfaceCoating.the-variants.{Custom};
 ghost use Rattle.thin_film.specs.Evaluate.{evaluate-surface};
 ghost use Rattle.surface.specs.Answers.{coated-powers};
 ghost use Rattle.sheet_answers.specs.Outcome.{outcome-of};
 use crate::PowersReply;
 use crate::presets;
 use gate_limits::Surface;
+use math_trig::SinCos;
 use surface::Powers;
 use surface_real::Known;
 use thin_film::SurfaceCoating;
+use thin_film_coating::Coating;
 use thin_film_layers::Evaluation;
 use thin_film_layers::Prepared;
 use thin_film_solver::Incidence;
@@ -126,4 +131,44 @@ pub fn coated_powers(
             light,
         )),
     }
+}
+
+// The light that meets a surface, from the sine and the cosine of its angle.
+fn light_with(surface: Surface, theta: SinCos, wavelength_nm: f64) -> Incidence
+    ensures { λ r. ⌜ (theta ≡ sin-cos (surface .«angle_rad») → r ≡ incidence (surface .«n_incident») (surface .«n_substrate») (surface .«angle_rad») «wavelength_nm») ⌝ }
+{
+    Incidence {
+        n_incident: surface.n_incident,
+        n_substrate: surface.n_substrate,
+        cos_theta0: theta.cos,
+        snell: surface.n_incident * theta.sin,
+        wavelength_nm,
+    }
+}
+
+// The powers of a surface with layers of its own, from the sine and the cosine of its angle.
+pub fn custom_powers(
+    src: &[u8],
+    at: usize,
+    n: usize,
+    surface: Surface,
+    theta: SinCos,
+    wavelength_nm: f64,
+) -> PowersReply
+    ensures { λ r. ⌜ (theta ≡ sin-cos (surface .«angle_rad») → outcome-of r ≡ map coated-powers (evaluate-surface (Custom Multilayer) (films «wavelength_nm» (layers-at (now (src .entry)) (next-place (now (src .entry)) at) n)) (surface .«n_incident») (surface .«n_substrate») (surface .«angle_rad») «wavelength_nm»)) ⌝ }
+{
+    if n <= 64 {
+        if thin_film_valid::valid(
+            surface.n_incident,
+            surface.n_substrate,
+            surface.angle_rad,
+            wavelength_nm,
+        ) {
+            let reversed = surface.n_incident > surface.n_substrate;
+            let light = light_with(surface, theta, wavelength_nm);
+            return PowersReply::Powers(powers_with(src, at, n, reversed, wavelength_nm, light));
+        }
+    }
+    let coating = SurfaceCoating::Custom(Coating::Multilayer);
+    coated_powers(src, at, n, surface, coating, wavelength_nm)
 }

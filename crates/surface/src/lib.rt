@@ -1,5 +1,6 @@
 // The answers of one surface of a train: document 01's section 7.
 ghost use mathlib.Core.Path.{_≡_};
+ghost use Rattle.math_trig.specs.Trig as Trig;
 ghost use Rattle.refusal.specs.Outcome.{refusal};
 ghost use Rattle.surface.specs.Answers.{assembled, coated-powers, coated-answers, bare-powers, bare-answers, no-answers, returned};
 use gate_limits::Surface;
@@ -81,21 +82,23 @@ pub fn coated_answers(response: CoatingResponse) -> Answers
     )
 }
 
-// The powers of a bare surface, whatever its code.
-pub fn bare_powers(surface: Surface) -> Powers
-    ensures { λ r. ⌜ r ≡ bare-powers surface ⌝ }
+// The powers of a bare surface, whatever its code, from the cosine of its angle.
+pub fn bare_powers_with(surface: Surface, cos: f64) -> Powers
+    ensures { λ r. ⌜ (cos ≡ Trig.cos (surface .«angle_rad») → r ≡ bare-powers surface) ⌝ }
 {
-    let r = fresnel::fresnel_dielectric(
-        math_trig::cos(surface.angle_rad),
-        surface.n_incident,
-        surface.n_substrate,
-    );
+    let r = fresnel::fresnel_dielectric(cos, surface.n_incident, surface.n_substrate);
     Powers {
         reflectance_s: r.rs,
         reflectance_p: r.rp,
         transmittance_s: 1.0 - r.rs,
         transmittance_p: 1.0 - r.rp,
     }
+}
+
+pub fn bare_powers(surface: Surface) -> Powers
+    ensures { λ r. ⌜ r ≡ bare-powers surface ⌝ }
+{
+    bare_powers_with(surface, math_trig::cos(surface.angle_rad))
 }
 
 // Zero throughout, beside a refusal.

@@ -3,3 +3,4 @@ pub mod Takes
 pub mod Here
 pub mod Written
 pub mod RunAt
+pub mod Picked

@@ -7,7 +7,9 @@ ghost use lib.ListN.{length, drop};
 ghost use Rattle.refusal.specs.Outcome.{answer};
 ghost use Rattle.sheet.specs.Sheet.{Sheet};
 ghost use Rattle.gate.specs.Gate as Gate;
-ghost use Rattle.train_steps.specs.Train.{chosen, fresh, start, outcome, step, retune, after-each, run, sum};
+ghost use Rattle.gate.specs.Internal.{Kept};
+ghost use Rattle.sheet_answers.specs.Outcome.{outcome-of};
+ghost use Rattle.train_steps.specs.Train.{chosen, chosen-of, fresh, start, outcome, step, retune, after-each, run, sum};
 ghost use Rattle.train_steps.specs.Internal.{chosen-at, moved-from, moved-at, run-at};
 use gate::Gated;
 use refusal::Refusal;
@@ -39,18 +41,46 @@ fn choose(reflected: bool, r: Powers) -> Chosen
     }
 }
 
-// Of the surface at a place with the n layers after it. No surface within the limits is refused.
-fn chosen_at(src: &[u8], at: usize, n: usize, wavelength_nm: f64) -> Chosen
-    ensures { λ r. ⌜ r ≡ chosen-at (now (src .entry)) at n «wavelength_nm» ⌝ }
+// No surface within the limits is refused.
+fn chosen_of(reflected: bool, reply: PowersReply) -> Chosen
+    ensures { λ c. ⌜ c ≡ chosen-of reflected (outcome-of reply) ⌝ }
 {
-    let surface = sheet_values::surface_at(src, at);
-    match sheet_answers::powers_at(src, at, n, surface, wavelength_nm) {
-        PowersReply::Powers(r) => choose(surface.reflected, r),
+    match reply {
+        PowersReply::Powers(r) => choose(reflected, r),
         PowersReply::Refused(_) => Chosen {
             s: 0.0 / 0.0,
             p: 0.0 / 0.0,
         },
     }
+}
+
+// Of the surface at a place with the n layers after it.
+fn chosen_at(src: &[u8], at: usize, n: usize, wavelength_nm: f64) -> Chosen
+    ensures { λ r. ⌜ r ≡ chosen-at (now (src .entry)) at n «wavelength_nm» ⌝ }
+{
+    let surface = sheet_values::surface_at(src, at);
+    let reply = sheet_answers::powers_at(src, at, n, surface, wavelength_nm);
+    chosen_of(surface.reflected, reply)
+}
+
+// The same with the sine and the cosine that the gate kept of the i-th surface.
+fn chosen_kept(
+    src: &[u8],
+    at: usize,
+    n: usize,
+    wavelength_nm: f64,
+    i: usize,
+    places: &[usize; 64],
+    sines: &[f64; 64],
+    cosines: &[f64; 64],
+) -> Chosen
+    requires { ⌜ Kept (now src) (now places) (now sines) (now cosines) ⌝ }
+    ensures { λ r. ⌜ r ≡ chosen-at (now (src .entry)) at n «wavelength_nm» ⌝ }
+{
+    let surface = sheet_values::surface_at(src, at);
+    let theta = gate::kept_at(at, surface.angle_rad, i, places, sines, cosines);
+    let reply = sheet_answers::powers_with_angle(src, at, n, surface, theta, wavelength_nm);
+    chosen_of(surface.reflected, reply)
 }
 
 // ---- the train
@@ -108,20 +138,38 @@ fn moved_from(src: &[u8], at: usize, n: usize, wavelength_nm: f64, state: State)
 }
 
 // The state after the surface that begins at a place, which is met with its own kind 7's wavelength or the one held.
-fn moved_at(src: &[u8], begin: usize, state: State) -> State
-    requires { ⌜ state .done < 0xFFFF_FFFF ⌝ }
+fn moved_at(
+    src: &[u8],
+    begin: usize,
+    state: State,
+    places: &[usize; 64],
+    sines: &[f64; 64],
+    cosines: &[f64; 64],
+) -> State
+    requires { ⌜ (state .done < 0xFFFF_FFFF) × Kept (now src) (now places) (now sines) (now cosines) ⌝ }
     ensures { λ r. ⌜ r ≡ moved-at (now (src .entry)) begin state ⌝ }
 {
     let wavelength_nm = sheet_values::met_with(src, begin, state.wavelength_nm);
     let at = sheet::onto(src, begin);
-    moved_from(src, at, sheet::layer_run(src, at), wavelength_nm, state)
+    let n = sheet::layer_run(src, at);
+    let i = state.done as usize;
+    let c = chosen_kept(src, at, n, wavelength_nm, i, places, sines, cosines);
+    State {
+        done: state.done + 1,
+        s: state.s * c.s,
+        p: state.p * c.p,
+        wavelength_nm,
+    }
 }
 
 // One surface on from any state; a refusal leaves the state as it was.
 pub fn step(src: &[u8], state: State) -> TrainReply
     ensures { λ r. ⌜ outcome r ≡ step (now (src .entry)) state ⌝ }
 {
-    match gate::gate(src) {
+    let mut places = [0usize; 64];
+    let mut sines = [0.0f64; 64];
+    let mut cosines = [0.0f64; 64];
+    match gate::gate_keeping(src, &mut places, &mut sines, &mut cosines) {
         Gated::Admitted(count) => {
             if state.done >= count {
                 return TrainReply::Refused(Refusal {
@@ -129,14 +177,14 @@ pub fn step(src: &[u8], state: State) -> TrainReply
                     place: 0,
                 });
             }
-            if !gate::holds(src, state.done, count, state.wavelength_nm) {
+            let begin = sheet::begin_of(src, state.done);
+            if !gate::holds_from(src, begin, count - state.done, state.wavelength_nm) {
                 return TrainReply::Refused(Refusal {
                     number: 11,
                     place: 0,
                 });
             }
-            let begin = sheet::begin_of(src, state.done);
-            TrainReply::State(moved_at(src, begin, state))
+            TrainReply::State(moved_at(src, begin, state, &places, &sines, &cosines))
         }
         Gated::Refused(r) => TrainReply::Refused(r),
     }
@@ -168,8 +216,15 @@ pub fn retune(src: &[u8], state: State, wavelength_nm: f64) -> TrainReply
 // ---- a whole run
 
 // The powers after each of count surfaces, written to a list that has room for them.
-fn write_each(src: &[u8], count: usize, list: &mut [f64])
-    requires { ⌜ (count ≤ 0xFFFF_FFFF) × (2 * count ≤ length (now list)) ⌝ }
+fn write_each(
+    src: &[u8],
+    count: usize,
+    places: &[usize; 64],
+    sines: &[f64; 64],
+    cosines: &[f64; 64],
+    list: &mut [f64],
+)
+    requires { ⌜ ((count ≤ 0xFFFF_FFFF) × (2 * count ≤ length (now list))) × Kept (now src) (now places) (now sines) (now cosines) ⌝ }
     ensures { λ r. ⌜ ((x : Sheet) → Gate.gated (now (src .entry)) ≡ answer x → length (x .surfaces) ≡ count → now (list .exit) ≡ after-each (fresh x) (x .surfaces) ++ drop (2 * count) (now (list .entry))) ⌝ }
 {
     let beam = sheet_values::beam_of(src);
@@ -182,7 +237,7 @@ fn write_each(src: &[u8], count: usize, list: &mut [f64])
         wavelength_nm = sheet_values::met_with(src, begin, wavelength_nm);
         let at = sheet::onto(src, begin);
         let n = sheet::layer_run(src, at);
-        let c = chosen_at(src, at, n, wavelength_nm);
+        let c = chosen_kept(src, at, n, wavelength_nm, i, places, sines, cosines);
         s = s * c.s;
         p = p * c.p;
         list[2 * i] = s;
@@ -220,7 +275,10 @@ pub fn run_at(src: &[u8], count: u32, wavelength_nm: f64) -> State
 pub fn run(src: &[u8], list: &mut [f64]) -> Gated
     ensures { λ r. ⌜ record { result = Gate.outcome r; list = now (list .exit) } ≡ run (now (src .entry)) (now (list .entry)) ⌝ }
 {
-    match gate::gate(src) {
+    let mut places = [0usize; 64];
+    let mut sines = [0.0f64; 64];
+    let mut cosines = [0.0f64; 64];
+    match gate::gate_keeping(src, &mut places, &mut sines, &mut cosines) {
         Gated::Admitted(count) => {
             let n = count as usize;
             if list.len() < 2 * n {
@@ -229,7 +287,7 @@ pub fn run(src: &[u8], list: &mut [f64]) -> Gated
                     place: 0,
                 });
             }
-            write_each(src, n, list);
+            write_each(src, n, &places, &sines, &cosines, list);
             Gated::Admitted(count)
         }
         Gated::Refused(r) => Gated::Refused(r),

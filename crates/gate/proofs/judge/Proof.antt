@@ -7,7 +7,6 @@ use lib.Ieee.{Float}
 use borrow.Author.Needs.{needs}
 use borrow.Author.Tests.{ne-eqb}
 use Rattle.gate_limits.specs.declared.Judgement.{Judgement}
-use Rattle.gate_limits.specs.declared.Surface.{Surface}
 use Rattle.gate_limits.specs.Limits.{wavelength-passes, beam-passes, layer-within, judgement}
 use Rattle.sheet.specs.Words.{word, kind}
 use Rattle.sheet.specs.Internal.{surface-at}
@@ -23,9 +22,9 @@ module _ (src : List ℕ) (at surf k : ℕ) (v b : Float) (is : k ≡ kind (word
   unfolding passage-at
   beam e m m-is t t-is = simp (sym is, e, t-is, m-is)
 
-  surface : k ≡ 3 → (s : Surface) → s ≡ surface-value (surface-at src at []) → (j : Judgement) → j ≡ judgement s → record { passes = j .passes; snell = j .snell; surface = at } ≡ passage-at src at surf v b
+  surface : k ≡ 3 → (j : Judgement) → j ≡ judgement (surface-value (surface-at src at [])) → record { passes = j .passes; snell = j .snell; surface = at } ≡ passage-at src at surf v b
   unfolding passage-at
-  surface e s s-is j j-is = simp (j-is, s-is, sym is, e)
+  surface e j j-is = simp (j-is, sym is, e)
 
   layer : k ≡ 4 → (t : Bool) → t ≡ (layer-within b (plain-at src at) || metal-at src surf v) → record { passes = t; snell = b; surface = surf } ≡ passage-at src at surf v b
   unfolding passage-at
@@ -44,22 +43,22 @@ module _ (src : List ℕ) (at surf k : ℕ) (v b : Float) (is : k ≡ kind (word
   other p q r s t = simp (sym is, ne-eqb _ _ p, ne-eqb _ _ q, ne-eqb _ _ r, ne-eqb _ _ s, ne-eqb _ _ t)
 
 returns : tie.Need-returns
-returns c = beam _ _ _ _ _ _ (c .before .before .before .kind-at .ensures) (c .before .before .if1 .taken) _ (c .before .beam-at .ensures) _ (c .beam-passes .ensures)
+returns c = (beam _ _ _ _ _ _ (c .before .before .before .kind-at .ensures) (c .before .before .if1 .taken) _ (c .before .beam-at .ensures) _ (c .beam-passes .ensures), λ h. h)
 
 returns-2 : tie.Need-returns-2
-returns-2 c = surface _ _ _ _ _ _ (c .before .before .before .before .kind-at .ensures) (c .before .before .if2 .taken) _ (c .before .surface-at .ensures) _ (c .judge-surface .ensures)
+returns-2 c = (surface _ _ _ _ _ _ (c .before .before .before .before .before .before .kind-at .ensures) (c .before .before .before .before .if2 .taken) _ (c .judge-keeping .ensures .0), c .judge-keeping .ensures .1)
 
 returns-3 : tie.Need-returns-3
-returns-3 c = layer _ _ _ _ _ _ (c .before .before .before .before .kind-at .ensures) (c .before .if3 .taken) _ (c .plain-stands .ensures)
+returns-3 c = (layer _ _ _ _ _ _ (c .before .before .before .before .kind-at .ensures) (c .before .if3 .taken) _ (c .plain-stands .ensures), λ h. h)
 
 returns-4 : tie.Need-returns-4
-returns-4 c = cauchy _ _ _ _ _ _ (c .before .before .before .before .before .kind-at .ensures) (c .before .if4 .taken) _ (c .cauchy-stands .ensures)
+returns-4 c = (cauchy _ _ _ _ _ _ (c .before .before .before .before .before .kind-at .ensures) (c .before .if4 .taken) _ (c .cauchy-stands .ensures), λ h. h)
 
 returns-5 : tie.Need-returns-5
-returns-5 c = tuning _ _ _ _ _ _ (c .before .before .before .before .before .before .kind-at .ensures) (c .before .if5 .taken) _ (c .wavelength-passes .ensures)
+returns-5 c = (tuning _ _ _ _ _ _ (c .before .before .before .before .before .before .kind-at .ensures) (c .before .if5 .taken) _ (c .wavelength-passes .ensures), λ h. h)
 
 returns-6 : tie.Need-returns-6
-returns-6 c = other _ _ _ _ _ _ (c .before .before .before .before .before .kind-at .ensures) (c .before .before .before .before .if1 .left) (c .before .before .before .if2 .left) (c .before .before .if3 .left) (c .before .if4 .left) (c .if5 .left)
+returns-6 c = (other _ _ _ _ _ _ (c .before .before .before .before .before .kind-at .ensures) (c .before .before .before .before .if1 .left) (c .before .before .before .if2 .left) (c .before .before .if3 .left) (c .before .if4 .left) (c .if5 .left), λ h. h)
 
 pub judge-spec : {M : Type 1} → statement M
-judge-spec = tie.close (tie.spec (λ c κs. search needs) (λ c κs. search needs) (λ c κs. search needs) returns (λ c κs. search needs) (λ c κs. search needs) returns-2 (λ c κs. search needs) returns-3 (λ c κs. search needs) returns-4 (λ c κs. search needs) returns-5 returns-6)
+judge-spec = tie.close (tie.spec (λ c κs. search needs) (λ c κs. search needs) (λ c κs. search needs) returns (λ c κs. search needs) returns-2 (λ c κs. search needs) returns-3 (λ c κs. search needs) returns-4 (λ c κs. search needs) returns-5 returns-6)

@@ -7,33 +7,36 @@ use Rattle.refusal.specs.Outcome.{map}
 use Rattle.sheet.specs.Words.{count}
 use Rattle.sheet.specs.Read.{decode, graded, surfaces-of}
 use Rattle.gate.specs.Gate.{within-limits}
+use Rattle.gate.specs.Internal.{Kept}
 use Rattle.gate.proofs.Walk.{Left, begin, block-fails, block-holds, all-within}
 use Rattle.gate.proofs.limits.Statement.{statement}
 use Rattle.gate.proofs.limits.Tie as tie
 
 abbrev Inv-loop : tie.InvT-loop
-Inv-loop src n total w₀ at₀ surface₀ snell₀ w at surface b = Left src n at surface w b (map surfaces-of (within-limits (graded (decode src))))
+Inv-loop src n places₀ sines₀ cosines₀ total w₀ at₀ surface₀ snell₀ i₀ places sines cosines w at surface b i = Left src n at surface w b (map surfaces-of (within-limits (graded (decode src)))) × (Kept src places₀ sines₀ cosines₀ → Kept src places sines cosines)
 
 abbrev μ-loop : tie.MeasureT-loop
-μ-loop src n total w₀ at₀ surface₀ snell₀ w at surface b = count src - at
+μ-loop src n places₀ sines₀ cosines₀ total w₀ at₀ surface₀ snell₀ i₀ places sines cosines w at surface b i = count src - at
 
 loop-holds : tie.Need-loop-holds Inv-loop μ-loop
-loop-holds c = begin _ _ _ (c .before .shared-slice-known .given) (c .before .before .pre .0) (c .before .before .pre .1) _ (c .beam-of .ensures) refl
+loop-holds c = (begin _ _ _ (c .before .shared-slice-known .given) (c .before .before .pre .0) (c .before .before .pre .1) _ (c .beam-of .ensures) refl, λ h. h)
 
 returns : tie.Need-returns Inv-loop μ-loop
-returns c = c .outside .ensures ∙ block-fails _ _ _ _ _ _ _ _ (c .before .before .before .before .met-with .ensures) _ (c .before .before .before .judge .ensures) (c .before .before .before .before .before .before .loop .inv) (c .before .before .before .before .before .loop-test .taken) (c .before .if1 .taken)
+returns c = (c .outside .ensures ∙ block-fails _ _ _ _ _ _ _ _ (c .before .before .before .before .before .before .before .met-with .ensures) _ (c .before .before .before .judge .ensures .0) (c .before .before .before .before .before .before .before .before .before .loop .inv .0) (c .before .before .before .before .before .before .before .before .loop-test .taken) (c .before .if1 .taken), λ h. (c .before .before .before .judge .ensures .1) ((c .before .before .before .before .before .before .before .before .before .loop .inv .1) h))
 
 loop-less : tie.Need-loop-less Inv-loop μ-loop
 loop-less c =
-    let h = block-holds _ _ _ _ _ _ _ _ (c .before .before .before .before .met-with .ensures) _ (c .before .before .before .judge .ensures) (c .before .before .before .before .before .before .loop .inv) (c .before .before .before .before .before .loop-test .taken) (c .before .if1 .left) _ (c .next-place .ensures) in
-    omega (arith, h .0, c .before .before .before .before .before .loop-test .taken)
+    let h = block-holds _ _ _ _ _ _ _ _ (c .before .before .before .before .before .before .before .before .met-with .ensures) _ (c .before .before .before .before .judge .ensures .0) (c .before .before .before .before .before .before .before .before .before .before .loop .inv .0) (c .before .before .before .before .before .before .before .before .before .loop-test .taken) (c .before .before .if1 .left) _ (c .next-place .ensures) in
+    omega (arith, h .0, c .before .before .before .before .before .before .before .before .before .loop-test .taken)
 
 loop-again : tie.Need-loop-again Inv-loop μ-loop
-loop-again c =
-    block-holds _ _ _ _ _ _ _ _ (c .before .before .before .before .met-with .ensures) _ (c .before .before .before .judge .ensures) (c .before .before .before .before .before .before .loop .inv) (c .before .before .before .before .before .loop-test .taken) (c .before .if1 .left) _ (c .next-place .ensures) .1
+loop-again c = (
+  block-holds _ _ _ _ _ _ _ _ (c .before .before .before .before .before .before .before .before .met-with .ensures) _ (c .before .before .before .before .judge .ensures .0) (c .before .before .before .before .before .before .before .before .before .before .loop .inv .0) (c .before .before .before .before .before .before .before .before .before .loop-test .taken) (c .before .before .if1 .left) _ (c .next-place .ensures) .1,
+  λ h. (c .before .before .before .before .judge .ensures .1) ((c .before .before .before .before .before .before .before .before .before .before .loop .inv .1) h),
+)
 
 returns-2 : tie.Need-returns-2 Inv-loop μ-loop
-returns-2 c = all-within _ _ _ _ _ _ _ (c .before .loop .inv) (c .loop-test .left)
+returns-2 c = (all-within _ _ _ _ _ _ _ (c .before .loop .inv .0) (c .loop-test .left), c .before .loop .inv .1)
 
 pub limits-spec : {M : Type 1} → statement M
-limits-spec = tie.close (tie.spec Inv-loop μ-loop (λ c κs. search needs) loop-holds (λ c κs. search needs) (λ c κs. search needs) (λ c κs. search needs) returns (λ c κs. search needs) loop-less loop-again returns-2)
+limits-spec = tie.close (tie.spec Inv-loop μ-loop (λ c κs. search needs) loop-holds (λ c κs. search needs) (λ c κs. search needs) (λ c κs. search needs) returns (λ c κs. search needs) (λ c κs. search needs) loop-less loop-again returns-2)

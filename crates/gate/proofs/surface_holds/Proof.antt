@@ -15,6 +15,10 @@ use Rattle.gate.specs.Internal.{metal-at, surface-holds-at}
 use Rattle.gate.proofs.surface_holds.Statement.{statement}
 use Rattle.gate.proofs.surface_holds.Tie as tie
 
+none : (src : List ℕ) (at : ℕ) (w : Float) (n : ℕ) → n ≡ layer-run 16 src at → n ≡ 0 → true ≡ surface-holds-at src at w
+unfolding surface-holds-at layers-at layers-admitted
+none src at w n en z = rw (sym en ∙ z)
+
 module _ (src : List ℕ) (at : ℕ) (w : Float) (s : Surface) (es : s ≡ surface-value (surface-at src at [])) (j : Judgement) (ej : j ≡ judgement s) (n : ℕ) (en : n ≡ layer-run 16 src at) (q : ℕ) (eq : q ≡ next-place src at)
     (t : Bool) (et : t ≡ layers-admitted w (j .snell) (layers-at src q n)) where
   same : surface-holds-at src at w ≡ (t || metal-at src at w)
@@ -28,10 +32,13 @@ module _ (src : List ℕ) (at : ℕ) (w : Float) (s : Surface) (es : s ≡ surfa
   metal e r r-is = r-is ∙ sym (same ∙ ap (λ (b : Bool). b || metal-at src at w) e)
 
 returns : tie.Need-returns
-returns c = old _ _ _ _ (c .before .before .before .before .before .surface-at .ensures) _ (c .before .before .before .before .judge-surface .ensures) _ (c .before .before .before .layer-run .ensures) _ (c .before .before .next-place .ensures) _ (c .before .layers-pass .ensures) (c .if1 .taken)
+returns c = none _ _ _ _ (c .before .layer-run .ensures) (c .if1 .taken)
 
 returns-2 : tie.Need-returns-2
-returns-2 c = metal _ _ _ _ (c .before .before .before .before .before .before .surface-at .ensures) _ (c .before .before .before .before .before .judge-surface .ensures) _ (c .before .before .before .before .layer-run .ensures) _ (c .before .before .before .next-place .ensures) _ (c .before .before .layers-pass .ensures) (c .before .if1 .left) _ (c .metal-holds .ensures)
+returns-2 c = old _ _ _ _ (c .before .before .before .before .surface-at .ensures) _ (c .before .before .before .judge-surface .ensures) _ (c .before .before .before .before .before .before .layer-run .ensures) _ (c .before .before .next-place .ensures) _ (c .before .layers-pass .ensures) (c .if2 .taken)
+
+returns-3 : tie.Need-returns-3
+returns-3 c = metal _ _ _ _ (c .before .before .before .before .before .surface-at .ensures) _ (c .before .before .before .before .judge-surface .ensures) _ (c .before .before .before .before .before .before .before .layer-run .ensures) _ (c .before .before .before .next-place .ensures) _ (c .before .before .layers-pass .ensures) (c .before .if2 .left) _ (c .metal-holds .ensures)
 
 pub surface-holds-spec : {M : Type 1} → statement M
-surface-holds-spec = tie.close (tie.spec (λ c κs. search needs) (λ c κs. search needs) (λ c κs. search needs) (λ c κs. search needs) (λ c κs. search needs) (λ c κs. search needs) returns returns-2)
+surface-holds-spec = tie.close (tie.spec (λ c κs. search needs) returns (λ c κs. search needs) (λ c κs. search needs) (λ c κs. search needs) (λ c κs. search needs) (λ c κs. search needs) returns-2 returns-3)

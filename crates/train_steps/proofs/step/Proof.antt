@@ -1,6 +1,6 @@
 -- `train_steps::step` meets its contract. Assumes nothing.
 use mathlib.Core.Path.{_≡_, refl, sym, ap, _∙_}
-use mathlib.Core.Bool.{Bool, true, false, not}
+use mathlib.Core.Bool.{Bool, true, false, not, _&&_}
 use mathlib.Core.List.{List}
 use Prim.Native.Nat.{ℕ, _-_, _≤_, _<_}
 use native.Mathlib.Omega.{arith}
@@ -14,8 +14,10 @@ use Rattle.sheet.specs.Sheet.{Sheet}
 use Rattle.sheet.specs.Internal.{begin}
 use Rattle.sheet.proofs.Stands.{Known}
 use Rattle.ieee.proofs.Signs.{of-true}
+use Rattle.gate_limits.specs.Limits.{wavelength-passes}
 use Rattle.gate.specs.Wavelength.{holds}
-use Rattle.gate.specs.Internal.{holds-at}
+use Rattle.gate.specs.Internal.{layers-hold-at, holds-from, holds-at}
+use Rattle.gate.proofs.Kept.{nothing}
 use Rattle.gate.specs.Gate as Gate
 use Rattle.gate.specs.Gate.{gate}
 use Rattle.gate.proofs.Admitted.{admitted, turned-back}
@@ -26,6 +28,10 @@ use Rattle.train_steps.proofs.Takes.{takes, tested}
 use Rattle.train_steps.proofs.Here.{moved-here}
 use Rattle.train_steps.proofs.step.Statement.{statement}
 use Rattle.train_steps.proofs.step.Tie as tie
+
+from-there : (src : List ℕ) (done n at : ℕ) (w : Float) (t : Bool) → at ≡ begin src done → t ≡ holds-from src at (n - done) w → t ≡ holds-at src done n w
+unfolding holds-from holds-at
+from-there src done n at w t q e = e ∙ ap (λ (k : ℕ). wavelength-passes w && layers-hold-at (n - done) src k w) q
 
 module _ (src : List ℕ) (st : State) where
   module _ (n : ℕ) (known : Known src) (e : answer n ≡ gate src) where
@@ -57,19 +63,19 @@ module _ (src : List ℕ) (st : State) where
   not-taken r e = sym (ap (λ (o : Outcome Sheet). bind o (stepped st)) (turned-back src (r .number) (r .place) e))
 
 returns : tie.Need-returns
-returns c = no-more _ _ _ (c .before .before .before .before .before .before .shared-slice-known .given) (sym (ap Gate.outcome (c .before .before .before .count .given .1)) ∙ c .before .before .before .before .before .gate .ensures) (c .if1 .taken)
+returns c = no-more _ _ _ (c .before .before .before .before .before .before .before .before .before .shared-slice-known .given) (sym (ap Gate.outcome (c .before .before .before .count .given .1)) ∙ c .before .before .before .before .before .gate-keeping .ensures .0) (c .if1 .taken)
 
 returns-2 : tie.Need-returns-2
-returns-2 c = bad-wavelength _ _ _ (c .before .before .before .before .before .before .before .before .shared-slice-known .given) (sym (ap Gate.outcome (c .before .before .before .before .before .count .given .1)) ∙ c .before .before .before .before .before .before .before .gate .ensures) (c .before .before .if1 .left) _ (c .before .holds .ensures) (c .if2 .taken)
+returns-2 c = bad-wavelength _ _ _ (c .before .before .before .before .before .before .before .before .before .before .before .before .before .shared-slice-known .given) (sym (ap Gate.outcome (c .before .before .before .before .before .before .before .count .given .1)) ∙ c .before .before .before .before .before .before .before .before .before .gate-keeping .ensures .0) (c .before .before .before .before .if1 .left) _ (from-there _ _ _ _ _ _ (c .before .before .before .begin-of .ensures) (c .before .holds-from .ensures)) (c .if2 .taken)
 
 moved-at-requires : tie.Need-moved-at-requires
-moved-at-requires c κs = omega (arith, c .before .before .before .if1 .left)
+moved-at-requires c κs = (omega (arith, c .before .before .before .before .before .before .before .if1 .left), c .before .before .before .before .before .before .before .before .before .before .before .before .gate-keeping .ensures .1 (nothing _ _ _))
 
 returns-3 : tie.Need-returns-3
-returns-3 c = one-more _ _ _ (c .before .before .before .before .before .before .before .before .before .before .shared-slice-known .given) (sym (ap Gate.outcome (c .before .before .before .before .before .before .before .count .given .1)) ∙ c .before .before .before .before .before .before .before .before .before .gate .ensures) (c .before .before .before .before .if1 .left) _ (c .before .before .before .holds .ensures) (c .before .before .if2 .left) _ (c .before .begin-of .ensures) _ (c .moved-at .ensures)
+returns-3 c = one-more _ _ _ (c .before .before .before .before .before .before .before .before .before .before .before .before .before .before .before .before .before .shared-slice-known .given) (sym (ap Gate.outcome (c .before .before .before .before .before .before .before .before .before .before .before .count .given .1)) ∙ c .before .before .before .before .before .before .before .before .before .before .before .before .before .gate-keeping .ensures .0) (c .before .before .before .before .before .before .before .before .if1 .left) _ (from-there _ _ _ _ _ _ (c .before .before .before .before .before .before .before .begin-of .ensures) (c .before .before .before .before .before .holds-from .ensures)) (c .before .before .before .before .if2 .left) _ (c .before .before .before .before .before .before .before .begin-of .ensures) _ (c .moved-at .ensures)
 
 returns-4 : tie.Need-returns-4
-returns-4 c = not-taken _ _ _ (sym (ap Gate.outcome (c .before .r .given .1)) ∙ c .before .before .before .gate .ensures)
+returns-4 c = not-taken _ _ _ (sym (ap Gate.outcome (c .before .r .given .1)) ∙ c .before .before .before .gate-keeping .ensures .0)
 
 pub step-spec : {M : Type 1} → statement M
-step-spec = tie.close (tie.spec (λ c κs. search needs) (λ c. search needs) returns (λ c κs. search needs) returns-2 (λ c κs. search needs) moved-at-requires (λ c. search needs) returns-3 returns-4)
+step-spec = tie.close (tie.spec (λ c κs. search needs) (λ c. search needs) returns (λ c κs. search needs) (λ c. omega arith) (λ c κs. search needs) returns-2 moved-at-requires (λ c. search needs) returns-3 returns-4)

@@ -42,10 +42,10 @@ record Before (src : List ℕ) (n : ℕ) (list₀ list : List Float) (s p w : Fl
   half : (x : Sheet) → gated src ≡ answer x → length (x .surfaces) ≡ n → Half (x .surfaces) list₀ list i w s p (all x list₀)
 
 abbrev Inv-loop : tie.InvT-loop
-Inv-loop src n list₀ s₀ p₀ w₀ at₀ i₀ list s p w at i = Before src n list₀ list s p w at i
+Inv-loop src n places sines cosines list₀ s₀ p₀ w₀ at₀ i₀ list s p w at i = Before src n list₀ list s p w at i
 
 abbrev μ-loop : tie.MeasureT-loop
-μ-loop src n list₀ s₀ p₀ w₀ at₀ i₀ list s p w at i = n - i
+μ-loop src n places sines cosines list₀ s₀ p₀ w₀ at₀ i₀ list s p w at i = n - i
 
 begun : (src : List ℕ) (n : ℕ) (list : List Float) (b : Beam) (at : ℕ) → Known src → b ≡ beam-at src (next-place src 0) → at ≡ begin src 0 → Before src n list list (b .s) (b .p) (b .«wavelength_nm») at 0
 begun src n list b at known e q = record {
@@ -92,17 +92,20 @@ module _ (src : List ℕ) (n : ℕ) (list₀ list : List Float) (s p w : Float) 
 loop-holds : tie.Need-loop-holds Inv-loop μ-loop
 loop-holds c = begun _ _ _ _ _ (c .before .before .before .shared-slice-known .given) (c .before .beam-of .ensures) (c .begin-of .ensures)
 
+chosen-kept-requires : tie.Need-chosen-kept-requires Inv-loop μ-loop
+chosen-kept-requires c κs = c .before .before .before .before .before .before .before .before .before .pre .1
+
 slice-write-list-2 : tie.Need-slice-write-list-2 Inv-loop μ-loop
-slice-write-list-2 c = rw length-set (omega (arith, c .before .before .before .before .before .before .before .loop .inv .long, c .before .before .before .before .before .before .before .before .before .before .before .before .pre .1))
+slice-write-list-2 c = rw length-set (omega (arith, c .before .before .before .before .before .before .before .loop .inv .long, c .before .before .before .before .before .before .before .before .before .before .before .before .pre .0 .1))
 
 add-place-on : tie.Need-add-place-on Inv-loop μ-loop
 add-place-on c = record { fits = omega (arith, few _ _ _ (c .before .before .before .layer-run .ensures)) }
 
 loop-again : tie.Need-loop-again Inv-loop μ-loop
-loop-again c = further _ _ _ _ _ _ _ _ _ (c .before .before .before .before .before .before .before .before .loop .inv) (c .before .before .before .before .before .before .before .before .before .before .before .before .shared-slice-known .given) (c .before .before .before .before .before .before .before .loop-test .taken) (c .before .before .before .before .before .before .before .before .before .before .before .before .before .pre .1) _ (c .before .before .before .before .before .before .met-with .ensures) _ (c .before .before .before .before .before .onto .ensures) _ (c .before .before .before .before .layer-run .ensures) _ (c .before .before .before .chosen-at .ensures) _ (c .place-on .ensures)
+loop-again c = further _ _ _ _ _ _ _ _ _ (c .before .before .before .before .before .before .before .before .loop .inv) (c .before .before .before .before .before .before .before .before .before .before .before .before .shared-slice-known .given) (c .before .before .before .before .before .before .before .loop-test .taken) (c .before .before .before .before .before .before .before .before .before .before .before .before .before .pre .0 .1) _ (c .before .before .before .before .before .before .met-with .ensures) _ (c .before .before .before .before .before .onto .ensures) _ (c .before .before .before .before .layer-run .ensures) _ (c .before .before .before .chosen-kept .ensures) _ (c .place-on .ensures)
 
 returns : tie.Need-returns Inv-loop μ-loop
 returns c = done _ _ _ _ _ _ _ _ _ (c .before .loop .inv) (c .loop-test .left)
 
 pub write-each-spec : {M : Type 1} → statement M
-write-each-spec = tie.close (tie.spec Inv-loop μ-loop (λ c κs. search needs) (λ c κs. search needs) loop-holds (λ c κs. search needs) (λ c κs. search needs) (λ c κs. search needs) (λ c κs. search needs) (λ c. search needs) (λ c. search needs) (λ c. search needs) (λ c. search needs) (λ c. search needs) (λ c. search needs) slice-write-list-2 add-place-on (λ c κs. search needs) (λ c. search needs) (λ c. search needs) loop-again (λ c. search needs) returns)
+write-each-spec = tie.close (tie.spec Inv-loop μ-loop (λ c κs. search needs) (λ c κs. search needs) loop-holds (λ c κs. search needs) (λ c κs. search needs) (λ c κs. search needs) chosen-kept-requires (λ c. search needs) (λ c. search needs) (λ c. search needs) (λ c. search needs) (λ c. search needs) (λ c. search needs) slice-write-list-2 add-place-on (λ c κs. search needs) (λ c. search needs) (λ c. search needs) loop-again (λ c. search needs) returns)
