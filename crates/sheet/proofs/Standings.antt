@@ -7,11 +7,11 @@ use native.Mathlib.Numerals.{add-one}
 use native.Mathlib.Omega.{arith}
 use lib.Dec.{eqb, ltb}
 use borrow.Author.Tests.{ne-eqb, lt-ltb, not-true, not-false}
-use Rattle.sheet.specs.Words.{kind, payload}
+use Rattle.sheet.specs.Words.{word, count, kind, payload}
 use Rattle.sheet.specs.Read as Read
 use Rattle.sheet.specs.Read.{floats-after, raws, among, at-surface, layers-after, layer-kind, is-surface, is-layer, is-tuning, is-end, may, after}
 use Rattle.sheet.proofs.KindWords.{Comes, comes-surface, comes-layer, comes-cauchy, comes-tuning, comes-end, comes, surface-facts, after-surface, after-tuning, after-end}
-use Rattle.sheet.specs.Internal.{standing-of, next-place, layer-follows, or-none, layer-run}
+use Rattle.sheet.specs.Internal.{standing-of, place-after, next-place, layer-follows, or-none, layer-run}
 use Rattle.sheet.specs.declared.Standing.{Standing}
 use Rattle.sheet.specs.declared.Standing.the-variants as S
 
@@ -35,6 +35,11 @@ run-most (suc most) src at = go (layer-follows src at) (run-most most src (next-
     go : (b : Bool) → layer-run most src (next-place src at) ≤ most → or-none b (suc (layer-run most src (next-place src at))) ≤ suc most
     go true h = omega arith
     go false h = omega arith
+
+-- ---- the place after a block, by its kind
+pub after-kind : (src : List ℕ) (at k : ℕ) → at < count src → k ≡ kind (word src at) → (q : ℕ) → q ≡ place-after at k → q ≡ next-place src at
+unfolding next-place raws
+after-kind src at k lt e q h = rw (lt-ltb at (count src) lt, ← e) h
 
 -- ---- a layer
 module _ (edition most w : ℕ) (t : Bool) (e : t ≡ layer-kind edition (kind w)) where

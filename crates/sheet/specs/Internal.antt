@@ -3,8 +3,11 @@
 -- name `decode` alone.
 use mathlib.Core.Bool.{Bool, true, false, cond}
 use mathlib.Core.List.{List, [], _∷_}
-use Prim.Native.Nat.{ℕ, zero, suc, _+_}
+use Prim.Native.Nat.{ℕ, zero, suc, _+_, _*_}
 use lib.Dec.{eqb, ltb}
+use lib.Ieee.{binary64, ofBits}
+use Rattle.sheet.specs.declared.Floats.{Floats}
+use Rattle.sheet.specs.declared.LayerRun.{LayerRun}
 use Rattle.sheet.specs.declared.Standing.{Standing}
 use Rattle.sheet.specs.declared.Standing.the-variants as S
 use Rattle.sheet.specs.Words.{word, count, kind, payload, float}
@@ -21,6 +24,19 @@ standing-of S.Ended = Read.ended
 -- one more where the kind word is a SURFACE's
 abbrev pub counted : ℕ → ℕ → ℕ
 counted w n = cond (eqb (kind w) 3) (n + 1) n
+
+-- the three floats after the kind word at a place
+abbrev pub floats-at : List ℕ → ℕ → Floats
+floats-at src at =
+    record {
+      first = ofBits binary64 (float src (at + 1));
+      second = ofBits binary64 (float src (at + 3));
+      third = ofBits binary64 (float src (at + 5));
+    }
+
+-- the place after a block of a kind at a place
+abbrev pub place-after : ℕ → ℕ → ℕ
+place-after at k = at + suc (2 * Read.floats-after k)
 
 -- the place after the block at a place; past the last word the place itself
 unfoldable pub next-place : List ℕ → ℕ → ℕ
@@ -43,6 +59,10 @@ or-none false n = 0
 unfoldable pub layer-run : ℕ → List ℕ → ℕ → ℕ
 layer-run zero src at = 0
 layer-run (suc most) src at = or-none (layer-follows src at) (suc (layer-run most src (next-place src at)))
+
+-- and the place after them
+abbrev pub layers-on : List ℕ → ℕ → LayerRun
+layers-on src at = let n = layer-run 16 src at in record { count = n; next = place-on src at (suc n) }
 
 -- the kind 7 at a place, if one is there
 abbrev pub tuning-at : List ℕ → ℕ → Tuning

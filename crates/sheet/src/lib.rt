@@ -1,12 +1,13 @@
 // Sheets of document 01, section 1, and of document 02, slips 3 and 5: the reader of their words, and the grammar.
 ghost use mathlib.Core.Path.{_≡_};
 ghost use mathlib.Core.Bool.{true};
-ghost use Prim.Native.Nat.{suc, _/_, _<_};
+ghost use Prim.Native.Nat.{suc, _+_, _/_, _<_};
+ghost use lib.ListN.{length};
 ghost use lib.Ieee.{binary64, ofBits};
 ghost use Rattle.sheet.specs.Words.{big-endian, word as wordOf, kind, float};
 ghost use Rattle.sheet.specs.Read as Read;
 ghost use Rattle.sheet.specs.Read.{outcome, grammar};
-ghost use Rattle.sheet.specs.Internal.{standing-of, counted, next-place, place-on, layer-run, onto, begin, place};
+ghost use Rattle.sheet.specs.Internal.{floats-at, standing-of, counted, place-after, next-place, place-on, layer-run, layers-on, onto, begin, place};
 
 // ---- words
 
@@ -75,19 +76,26 @@ fn floats_after(kind: u32) -> usize
     0
 }
 
-// The place after the block at a place, two raw words to a float; past the last word the place itself.
+// The place after a block of a kind at a place, two raw words to a float.
+fn place_after(at: usize, kind: u32) -> usize
+    requires { ⌜ at < 0x4000_0000_0000_0000 ⌝ }
+    ensures { λ r. ⌜ r ≡ place-after at kind ⌝ }
+{
+    // Most blocks are LAYERs, and what is foreseen is not waited for.
+    if kind == 4 {
+        return at + 7;
+    }
+    at + 2 * floats_after(kind) + 1
+}
+
+// The place after the block at a place; past the last word the place itself.
 pub fn next_place(src: &[u8], at: usize) -> usize
     ensures { λ r. ⌜ r ≡ next-place (now (src .entry)) at ⌝ }
 {
     if at >= src.len() / 4 {
         return at;
     }
-    let kind = kind_at(src, at);
-    // Most blocks are LAYERs, and what is foreseen is not waited for.
-    if kind == 4 {
-        return at + 7;
-    }
-    at + 2 * floats_after(kind) + 1
+    place_after(at, kind_at(src, at))
 }
 
 // A reader at a word.
@@ -136,6 +144,59 @@ pub fn float_from(src: &[u8], at: usize) -> f64
         ieee::from_words(word_from(src, at), word_from(src, at + 1))
     } else {
         0.0
+    }
+}
+
+// The float in the two raw words at a place, both of which are there.
+fn float_in(src: &[u8], at: usize) -> f64
+    requires { ⌜ at + 1 < length (now src) / 4 ⌝ }
+    ensures { λ r. ⌜ r ≡ ofBits binary64 (float (now (src .entry)) at) ⌝ }
+{
+    let i = 4 * at;
+    let high = big_endian(src[i], src[i + 1], src[i + 2], src[i + 3]);
+    let low = big_endian(src[i + 4], src[i + 5], src[i + 6], src[i + 7]);
+    ieee::from_words(high, low)
+}
+
+// Three floats. The second stands last: beside the first it would be read together with it, just after both were
+// written one by one, and a processor waits for that.
+pub struct Floats {
+    pub first: f64,
+    pub third: f64,
+    pub second: f64,
+}
+
+// Those after the kind word at a place, where not all of their words need be there.
+fn floats_near_end(src: &[u8], at: usize) -> Floats
+    requires { ⌜ at < length (now src) / 4 ⌝ }
+    ensures { λ r. ⌜ r ≡ floats-at (now (src .entry)) at ⌝ }
+{
+    Floats {
+        first: float_from(src, at + 1),
+        second: float_from(src, at + 3),
+        third: float_from(src, at + 5),
+    }
+}
+
+// Those after the kind word at a place; zero throughout past the last word.
+pub fn floats_at(src: &[u8], at: usize) -> Floats
+    ensures { λ r. ⌜ r ≡ floats-at (now (src .entry)) at ⌝ }
+{
+    let total = src.len() / 4;
+    if at < total {
+        if total - at < 7 {
+            return floats_near_end(src, at);
+        }
+        return Floats {
+            first: float_in(src, at + 1),
+            second: float_in(src, at + 3),
+            third: float_in(src, at + 5),
+        };
+    }
+    Floats {
+        first: 0.0,
+        second: 0.0,
+        third: 0.0,
     }
 }
 
@@ -306,7 +367,7 @@ pub fn grammar(src: &[u8]) -> Verdict
         if !may(s, w) {
             return Verdict::Fault(at);
         }
-        let next = next_place(src, at);
+        let next = place_after(at, w / 0x1000_0000);
         if total < next {
             return Verdict::Fault(at);
         }
@@ -336,20 +397,40 @@ pub fn place_on(src: &[u8], at: usize, n: usize) -> usize
     place
 }
 
-// How many layers stand directly after the block at a place: 16 at the most.
-pub fn layer_run(src: &[u8], at: usize) -> usize
-    ensures { λ r. ⌜ r ≡ layer-run 16 (now (src .entry)) at ⌝ }
+// How many layers stand directly after a block, and the place after them.
+pub struct LayerRun {
+    pub count: usize,
+    pub next: usize,
+}
+
+// Those after the block at a place: 16 at the most.
+pub fn layers_on(src: &[u8], at: usize) -> LayerRun
+    ensures { λ r. ⌜ r ≡ layers-on (now (src .entry)) at ⌝ }
 {
     let mut n = 0;
-    let mut place = at;
+    let mut place = next_place(src, at);
     while n < 16 {
-        if !layer_kind(2, word_after(src, place) / 0x1000_0000) {
-            return n;
+        if !layer_kind(2, kind_at(src, place)) {
+            return LayerRun {
+                count: n,
+                next: place,
+            };
         }
         place = next_place(src, place);
         n += 1;
     }
-    n
+    LayerRun {
+        count: n,
+        next: place,
+    }
+}
+
+// How many layers stand directly after the block at a place: 16 at the most.
+pub fn layer_run(src: &[u8], at: usize) -> usize
+    ensures { λ r. ⌜ r ≡ layer-run 16 (now (src .entry)) at ⌝ }
+{
+    let run = layers_on(src, at);
+    run.count
 }
 
 // The SURFACE of the blocks from a place on: after the kind 7, if one is there.
@@ -366,7 +447,8 @@ pub fn onto(src: &[u8], at: usize) -> usize
 pub fn after_layers(src: &[u8], at: usize) -> usize
     ensures { λ r. ⌜ r ≡ place-on (now (src .entry)) at (suc (layer-run 16 (now (src .entry)) at)) ⌝ }
 {
-    place_on(src, at, layer_run(src, at) + 1)
+    let run = layers_on(src, at);
+    run.next
 }
 
 // Where the n-th SURFACE of a sheet in grammar begins, counted from 0, with the kind 7 before it.

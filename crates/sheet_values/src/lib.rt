@@ -18,17 +18,11 @@ pub struct Beam {
 pub fn beam_at(src: &[u8], at: usize) -> Beam
     ensures { λ r. ⌜ r ≡ beam-at (now (src .entry)) at ⌝ }
 {
-    if at < src.len() / 4 {
-        return Beam {
-            wavelength_nm: sheet::float_from(src, at + 1),
-            s: sheet::float_from(src, at + 3),
-            p: sheet::float_from(src, at + 5),
-        };
-    }
+    let floats = sheet::floats_at(src, at);
     Beam {
-        wavelength_nm: 0.0,
-        s: 0.0,
-        p: 0.0,
+        wavelength_nm: floats.first,
+        s: floats.second,
+        p: floats.third,
     }
 }
 
@@ -43,22 +37,14 @@ pub fn beam_of(src: &[u8]) -> Beam
 pub fn surface_at(src: &[u8], at: usize) -> Surface
     ensures { λ r. ⌜ r ≡ surface-value (surface-at (now (src .entry)) at []) ⌝ }
 {
-    if at < src.len() / 4 {
-        let payload = sheet::word_from(src, at) % 0x1000_0000;
-        return Surface {
-            reflected: payload % 2 == 1,
-            coating: payload / 2,
-            n_incident: sheet::float_from(src, at + 1),
-            n_substrate: sheet::float_from(src, at + 3),
-            angle_rad: sheet::float_from(src, at + 5),
-        };
-    }
+    let payload = sheet::word_from(src, at) % 0x1000_0000;
+    let floats = sheet::floats_at(src, at);
     Surface {
-        reflected: false,
-        coating: 0,
-        n_incident: 0.0,
-        n_substrate: 0.0,
-        angle_rad: 0.0,
+        reflected: payload % 2 == 1,
+        coating: payload / 2,
+        n_incident: floats.first,
+        n_substrate: floats.second,
+        angle_rad: floats.third,
     }
 }
 
@@ -68,17 +54,11 @@ pub fn surface_at(src: &[u8], at: usize) -> Surface
 pub fn plain_at(src: &[u8], at: usize) -> ThinFilmLayer
     ensures { λ r. ⌜ r ≡ plain-at (now (src .entry)) at ⌝ }
 {
-    if at < src.len() / 4 {
-        return ThinFilmLayer {
-            n: sheet::float_from(src, at + 1),
-            k: sheet::float_from(src, at + 3),
-            thickness_nm: sheet::float_from(src, at + 5),
-        };
-    }
+    let floats = sheet::floats_at(src, at);
     ThinFilmLayer {
-        n: 0.0,
-        k: 0.0,
-        thickness_nm: 0.0,
+        n: floats.first,
+        k: floats.second,
+        thickness_nm: floats.third,
     }
 }
 
@@ -95,10 +75,11 @@ pub fn cauchy_at(src: &[u8], at: usize) -> Cauchy
     ensures { λ r. ⌜ r ≡ cauchy-at (now (src .entry)) at ⌝ }
 {
     if at < src.len() / 4 {
+        let floats = sheet::floats_at(src, at);
         return Cauchy {
-            a: sheet::float_from(src, at + 1),
-            b: sheet::float_from(src, at + 3),
-            c: sheet::float_from(src, at + 5),
+            a: floats.first,
+            b: floats.second,
+            c: floats.third,
             thickness_nm: sheet::float_from(src, at + 7),
         };
     }

@@ -24,11 +24,13 @@ unfoldable pub chosen-at : List ℕ → ℕ → ℕ → Float → Chosen
 chosen-at src at n wavelength =
     chosen-alone wavelength (surface-value (surface-at src at [])) (films wavelength (layers-at src (next-place src at) n))
 
--- after the SURFACE at a place with n layers, met with a wavelength
+-- after a surface of some powers, met with a wavelength
+abbrev pub moved : Chosen → Float → State → State
+moved c wavelength st = record { done = st .done + 1; s = st .s ⊗ c .s; p = st .p ⊗ c .p; «wavelength_nm» = wavelength }
+
+-- after the SURFACE at a place with n layers
 unfoldable pub moved-from : List ℕ → ℕ → ℕ → Float → State → State
-moved-from src at n wavelength st =
-    let c = chosen-at src at n wavelength in
-    record { done = st .done + 1; s = st .s ⊗ c .s; p = st .p ⊗ c .p; «wavelength_nm» = wavelength }
+moved-from src at n wavelength st = moved (chosen-at src at n wavelength) wavelength st
 
 -- after the surface that begins at a place
 unfoldable pub moved-at : List ℕ → ℕ → State → State

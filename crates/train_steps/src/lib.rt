@@ -10,7 +10,7 @@ ghost use Rattle.gate.specs.Gate as Gate;
 ghost use Rattle.gate.specs.Internal.{Kept};
 ghost use Rattle.sheet_answers.specs.Outcome.{outcome-of};
 ghost use Rattle.train_steps.specs.Train.{chosen, chosen-of, fresh, start, outcome, step, retune, after-each, run, sum};
-ghost use Rattle.train_steps.specs.Internal.{chosen-at, moved-from, moved-at, run-at};
+ghost use Rattle.train_steps.specs.Internal.{chosen-at, moved, moved-from, moved-at, run-at};
 use gate::Gated;
 use refusal::Refusal;
 use sheet_answers::PowersReply;
@@ -123,18 +123,25 @@ pub fn start(src: &[u8]) -> TrainReply
     }
 }
 
-// The state after the surface at a place with the n layers after it, met with a wavelength.
-fn moved_from(src: &[u8], at: usize, n: usize, wavelength_nm: f64, state: State) -> State
+// The state after a surface of these powers, met with a wavelength.
+fn moved(c: Chosen, wavelength_nm: f64, state: State) -> State
     requires { ⌜ state .done < 0xFFFF_FFFF ⌝ }
-    ensures { λ r. ⌜ r ≡ moved-from (now (src .entry)) at n «wavelength_nm» state ⌝ }
+    ensures { λ r. ⌜ r ≡ moved c «wavelength_nm» state ⌝ }
 {
-    let c = chosen_at(src, at, n, wavelength_nm);
     State {
         done: state.done + 1,
         s: state.s * c.s,
         p: state.p * c.p,
         wavelength_nm,
     }
+}
+
+// The state after the surface at a place with the n layers after it, met with a wavelength.
+fn moved_from(src: &[u8], at: usize, n: usize, wavelength_nm: f64, state: State) -> State
+    requires { ⌜ state .done < 0xFFFF_FFFF ⌝ }
+    ensures { λ r. ⌜ r ≡ moved-from (now (src .entry)) at n «wavelength_nm» state ⌝ }
+{
+    moved(chosen_at(src, at, n, wavelength_nm), wavelength_nm, state)
 }
 
 // The state after the surface that begins at a place, which is met with its own kind 7's wavelength or the one held.
@@ -154,12 +161,7 @@ fn moved_at(
     let n = sheet::layer_run(src, at);
     let i = state.done as usize;
     let c = chosen_kept(src, at, n, wavelength_nm, i, places, sines, cosines);
-    State {
-        done: state.done + 1,
-        s: state.s * c.s,
-        p: state.p * c.p,
-        wavelength_nm,
-    }
+    moved(c, wavelength_nm, state)
 }
 
 // One surface on from any state; a refusal leaves the state as it was.
@@ -236,13 +238,14 @@ fn write_each(
     while i < count {
         wavelength_nm = sheet_values::met_with(src, begin, wavelength_nm);
         let at = sheet::onto(src, begin);
-        let n = sheet::layer_run(src, at);
+        let run = sheet::layers_on(src, at);
+        let n = run.count;
         let c = chosen_kept(src, at, n, wavelength_nm, i, places, sines, cosines);
         s = s * c.s;
         p = p * c.p;
         list[2 * i] = s;
         list[2 * i + 1] = p;
-        begin = sheet::place_on(src, at, n + 1);
+        begin = run.next;
         i += 1;
     }
 }
@@ -263,9 +266,9 @@ pub fn run_at(src: &[u8], count: u32, wavelength_nm: f64) -> State
     while i < count {
         let met_nm = sheet_values::met_with(src, begin, state.wavelength_nm);
         let at = sheet::onto(src, begin);
-        let n = sheet::layer_run(src, at);
-        state = moved_from(src, at, n, met_nm, state);
-        begin = sheet::place_on(src, at, n + 1);
+        let run = sheet::layers_on(src, at);
+        state = moved_from(src, at, run.count, met_nm, state);
+        begin = run.next;
         i += 1;
     }
     state

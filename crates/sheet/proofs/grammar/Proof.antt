@@ -2,13 +2,15 @@
 -- The measure is what is left of the words. Assumes nothing.
 use mathlib.Core.Path.{_≡_, refl, sym, ap, _∙_, subst}
 use mathlib.Core.Bool.{Bool, true, false, not}
+use mathlib.Core.List.{List}
 use Prim.Native.Nat.{ℕ, _+_, _-_, _≤_, _<_}
 use native.Mathlib.Omega.{arith}
 use borrow.Author.Needs.{needs}
 use borrow.Author.Tests.{not-true, not-false}
-use Rattle.sheet.specs.Words.{count}
+use Rattle.sheet.specs.Words.{word, count, kind}
 use Rattle.sheet.specs.Read.{Standing, may, after, graded, grammar}
-use Rattle.sheet.specs.Internal.{standing-of, counted}
+use Rattle.sheet.specs.Internal.{standing-of, counted, place-after, next-place}
+use Rattle.sheet.proofs.Standings.{after-kind}
 use Rattle.sheet.proofs.Scan.{left, tally, whole, stop-kind, stop-raw, nearer, go-on, end-whole, end-missing, Counts, counts-few, counts-on}
 use Rattle.sheet.proofs.grammar.Statement.{statement}
 use Rattle.sheet.proofs.grammar.Tie as tie
@@ -25,11 +27,17 @@ few s n c = let h = counts-few s n c in omega arith
 counts-again : (s t : Standing) (w n n′ : ℕ) (r : Bool) → Counts s n → r ≡ may s w → not r ≡ false → t ≡ after s w → n′ ≡ counted w n → Counts t n′
 counts-again s t w n n′ r c m e q k = rw (q, k) (counts-on w n s c (sym m ∙ not-false r e))
 
+there : (src : List ℕ) (at w : ℕ) → at < count src → w ≡ word src at → (q : ℕ) → q ≡ place-after at (kind w) → q ≡ next-place src at
+there src at w lt is q h = after-kind src at (kind w) lt (ap kind is) q h
+
 returns : tie.Need-returns Inv-loop μ-loop
 returns c = stop-kind _ _ _ _ _ (c .before .before .before .before .loop .inv .1 .1) _ (c .before .before .before .loop-test .taken) (c .before .before .word-from .ensures) _ (c .before .may .ensures) (c .if1 .taken)
 
 returns-2 : tie.Need-returns-2 Inv-loop μ-loop
-returns-2 c = stop-raw _ _ _ _ _ (c .before .before .before .before .before .before .loop .inv .1 .1) _ (c .before .before .before .before .before .loop-test .taken) (c .before .before .before .before .word-from .ensures) _ (c .before .before .before .may .ensures) (c .before .before .if1 .left) _ (c .before .next-place .ensures) (c .if2 .taken)
+returns-2 c = stop-raw _ _ _ _ _ (c .before .before .before .before .before .before .loop .inv .1 .1) _ (c .before .before .before .before .before .loop-test .taken) (c .before .before .before .before .word-from .ensures) _ (c .before .before .before .may .ensures) (c .before .before .if1 .left) _ (there _ _ _ (c .before .before .before .before .before .loop-test .taken) (c .before .before .before .before .word-from .ensures) _ (c .before .place-after .ensures)) (c .if2 .taken)
+
+place-after-requires : tie.Need-place-after-requires Inv-loop μ-loop
+place-after-requires c κs = omega (arith, c .before .before .before .loop-test .taken)
 
 counted-requires : tie.Need-counted-requires Inv-loop μ-loop
 counted-requires c κs = few (standing-of (c .before .before .before .before .before .before .loop .s)) _ (c .before .before .before .before .before .before .loop .inv .1 .0)
@@ -39,7 +47,7 @@ after-requires c κs = sym (c .before .before .before .before .may .ensures) ∙
 
 loop-less : tie.Need-loop-less Inv-loop μ-loop
 loop-less c =
-    let h = nearer _ _ _ _ _ (c .before .before .before .before .before .before .before .before .loop .inv .1 .1) _ (c .before .before .before .before .before .before .before .loop-test .taken) (c .before .before .before .before .before .before .word-from .ensures) _ (c .before .before .before .before .before .may .ensures) (c .before .before .before .before .if1 .left) _ (c .before .before .before .next-place .ensures) (c .before .before .if2 .left) in
+    let h = nearer _ _ _ _ _ (c .before .before .before .before .before .before .before .before .loop .inv .1 .1) _ (c .before .before .before .before .before .before .before .loop-test .taken) (c .before .before .before .before .before .before .word-from .ensures) _ (c .before .before .before .before .before .may .ensures) (c .before .before .before .before .if1 .left) _ (there _ _ _ (c .before .before .before .before .before .before .before .loop-test .taken) (c .before .before .before .before .before .before .word-from .ensures) _ (c .before .before .before .place-after .ensures)) (c .before .before .if2 .left) in
     omega (arith, h, c .before .before .if2 .left, c .before .before .before .before .before .before .before .loop-test .taken)
 
 loop-again : tie.Need-loop-again Inv-loop μ-loop
@@ -47,7 +55,7 @@ loop-again c = (
   c .before .before .if2 .left,
   (
     counts-again (standing-of (c .before .before .before .before .before .before .before .before .loop .s)) _ _ _ _ _ (c .before .before .before .before .before .before .before .before .loop .inv .1 .0) (c .before .before .before .before .before .may .ensures) (c .before .before .before .before .if1 .left) (c .after .ensures) (c .before .counted .ensures),
-    go-on _ _ _ _ _ (c .before .before .before .before .before .before .before .before .loop .inv .1 .1) _ (c .before .before .before .before .before .before .before .loop-test .taken) (c .before .before .before .before .before .before .word-from .ensures) _ (c .before .before .before .before .before .may .ensures) (c .before .before .before .before .if1 .left) _ (c .before .before .before .next-place .ensures) (c .before .before .if2 .left) _ (c .after .ensures) _ (c .before .counted .ensures),
+    go-on _ _ _ _ _ (c .before .before .before .before .before .before .before .before .loop .inv .1 .1) _ (c .before .before .before .before .before .before .before .loop-test .taken) (c .before .before .before .before .before .before .word-from .ensures) _ (c .before .before .before .before .before .may .ensures) (c .before .before .before .before .if1 .left) _ (there _ _ _ (c .before .before .before .before .before .before .before .loop-test .taken) (c .before .before .before .before .before .before .word-from .ensures) _ (c .before .before .before .place-after .ensures)) (c .before .before .if2 .left) _ (c .after .ensures) _ (c .before .counted .ensures),
   ),
 )
 
@@ -58,4 +66,4 @@ returns-4 : tie.Need-returns-4 Inv-loop μ-loop
 returns-4 c = end-missing _ _ _ _ _ (c .before .before .before .loop .inv .1 .1) (c .before .before .loop-test .left) _ (c .before .has-ended .ensures) (c .if3 .left)
 
 pub grammar-spec : {M : Type 1} → statement M
-grammar-spec = tie.close (tie.spec Inv-loop μ-loop (λ c. (omega arith, (refl, whole _))) (λ c κs. search needs) (λ c κs. search needs) returns (λ c κs. search needs) returns-2 counted-requires after-requires loop-less loop-again (λ c κs. search needs) returns-3 returns-4)
+grammar-spec = tie.close (tie.spec Inv-loop μ-loop (λ c. (omega arith, (refl, whole _))) (λ c κs. search needs) (λ c κs. search needs) returns place-after-requires returns-2 counted-requires after-requires loop-less loop-again (λ c κs. search needs) returns-3 returns-4)

@@ -1,30 +1,28 @@
 -- `train_steps::moved_at` meets its contract. Assumes nothing.
 use mathlib.Core.Path.{_≡_, ap, _∙_}
 use mathlib.Core.List.{List}
-use Prim.Native.Nat.{ℕ, _+_}
+use Prim.Native.Nat.{ℕ}
 use lib.Ieee.{Float}
 use borrow.Author.Needs.{needs}
-use Rattle.ieee.specs.Operators.{_⊗_}
 use Rattle.sheet.specs.Internal.{layer-run, tuning-at, onto}
 use Rattle.sheet_values.specs.Values.{met-with}
 use Rattle.train_steps.specs.declared.Chosen.{Chosen}
 use Rattle.train_steps.specs.declared.State.{State}
-use Rattle.train_steps.specs.Internal.{chosen-at, moved-from, moved-at}
+use Rattle.train_steps.specs.Internal.{chosen-at, moved, moved-from, moved-at}
 use Rattle.train_steps.proofs.moved_at.Statement.{statement}
 use Rattle.train_steps.proofs.moved_at.Tie as tie
 
-moved : (src : List ℕ) (begin : ℕ) (st : State) (w : Float) → w ≡ met-with (st .«wavelength_nm») (tuning-at src begin) → (at : ℕ) → at ≡ onto src begin → (m : ℕ) → m ≡ layer-run 16 src at → (c : Chosen) → c ≡ chosen-at src at m w
-    → record { done = st .done + 1; s = st .s ⊗ c .s; p = st .p ⊗ c .p; «wavelength_nm» = w } ≡ moved-at src begin st
+by-these : (src : List ℕ) (begin : ℕ) (st : State) (w : Float) → w ≡ met-with (st .«wavelength_nm») (tuning-at src begin) → (at : ℕ) → at ≡ onto src begin → (m : ℕ) → m ≡ layer-run 16 src at → (c : Chosen) → c ≡ chosen-at src at m w
+    → (r : State) → r ≡ moved c w st → r ≡ moved-at src begin st
 unfolding moved-from moved-at
-moved src begin st w ew at ea m em c ec =
-    ap (λ (z : Chosen). record { done = st .done + 1; s = st .s ⊗ z .s; p = st .p ⊗ z .p; «wavelength_nm» = w }) ec
-    ∙ ap (λ (k : ℕ). moved-from src at k w st) em ∙ (λ i. moved-from src (ea i) (layer-run 16 src (ea i)) (ew i) st)
+by-these src begin st w ew at ea m em c ec r h =
+    h ∙ ap (λ (z : Chosen). moved z w st) ec ∙ ap (λ (k : ℕ). moved-from src at k w st) em ∙ (λ i. moved-from src (ea i) (layer-run 16 src (ea i)) (ew i) st)
 
 chosen-kept-requires : tie.Need-chosen-kept-requires
 chosen-kept-requires c κs = c .before .before .before .before .before .pre .1
 
 returns : tie.Need-returns
-returns c = moved _ _ _ _ (c .before .before .before .before .before .before .before .before .before .met-with .ensures) _ (c .before .before .before .before .before .before .before .before .onto .ensures) _ (c .before .before .before .before .before .before .before .layer-run .ensures) _ (c .before .before .before .before .before .chosen-kept .ensures)
+returns c = by-these _ _ _ _ (c .before .before .before .before .before .met-with .ensures) _ (c .before .before .before .before .onto .ensures) _ (c .before .before .before .layer-run .ensures) _ (c .before .chosen-kept .ensures) _ (c .moved .ensures)
 
 pub moved-at-spec : {M : Type 1} → statement M
-moved-at-spec = tie.close (tie.spec (λ c κs. search needs) (λ c κs. search needs) (λ c κs. search needs) (λ c. search needs) chosen-kept-requires (λ c. search needs) returns)
+moved-at-spec = tie.close (tie.spec (λ c κs. search needs) (λ c κs. search needs) (λ c κs. search needs) (λ c. search needs) chosen-kept-requires (λ c κs. search needs) returns)

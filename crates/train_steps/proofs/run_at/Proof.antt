@@ -3,12 +3,11 @@ use mathlib.Core.Path.{_≡_, refl, ap, _∙_}
 use mathlib.Core.List.{List}
 use Prim.Native.Nat.{ℕ, suc, _+_, _-_, _≤_, _<_}
 use native.Mathlib.Nat.{sub-zero}
-use native.Mathlib.Numerals.{add-one}
 use native.Mathlib.Omega.{arith}
 use borrow.Author.Needs.{needs}
 use lib.Ieee.{Float}
+use Rattle.sheet.specs.declared.LayerRun.{LayerRun}
 use Rattle.sheet.specs.Internal.{next-place, place-on, layer-run, tuning-at, onto, begin}
-use Rattle.sheet.proofs.Standings.{run-most}
 use Rattle.sheet_values.specs.declared.Beam.{Beam}
 use Rattle.sheet_values.specs.Values.{met-with}
 use Rattle.sheet_values.specs.Internal.{beam-at}
@@ -38,11 +37,11 @@ begun src n w b e at q = record {
 }
 
 module _ (src : List ℕ) (n : ℕ) (w : Float) (st : State) (at i : ℕ) (h : Left src n w st at i) where
-  further : i < n → (v : Float) → v ≡ met-with (st .«wavelength_nm») (tuning-at src at) → (o : ℕ) → o ≡ onto src at → (k : ℕ) → k ≡ layer-run 16 src o → (next : State) → next ≡ moved-from src o k v st → (q : ℕ) → q ≡ place-on src o (k + 1) → Left src n w next q (i + 1)
+  further : i < n → (v : Float) → v ≡ met-with (st .«wavelength_nm») (tuning-at src at) → (o : ℕ) → o ≡ onto src at → (k : ℕ) → k ≡ layer-run 16 src o → (next : State) → next ≡ moved-from src o k v st → (q : ℕ) → q ≡ place-on src o (suc (layer-run 16 src o)) → Left src n w next q (i + 1)
   unfolding moved-on moved-at moved-from
   further lt v ev o eo k ek next en q eq =
       let moved : next ≡ moved-at src at st = en ∙ ap (λ (m : ℕ). moved-from src o m v st) ek ∙ (λ z. moved-from src (eo z) (layer-run 16 src (eo z)) (ev z) st) in
-      let there : q ≡ place-on src (onto src at) (suc (layer-run 16 src (onto src at))) = eq ∙ ap (place-on src o) (add-one k ∙ ap suc ek) ∙ ap (λ (z : ℕ). place-on src z (suc (layer-run 16 src z))) eo in
+      let there : q ≡ place-on src (onto src at) (suc (layer-run 16 src (onto src at))) = eq ∙ ap (λ (z : ℕ). place-on src z (suc (layer-run 16 src z))) eo in
       record {
         most = omega arith;
         counts = ap (λ (z : State). z .done) en ∙ ap (λ (z : ℕ). z + 1) (h .counts);
@@ -62,20 +61,14 @@ module _ (src : List ℕ) (n : ℕ) (w : Float) (st : State) (at i : ℕ) (h : L
 loop-holds : tie.Need-loop-holds Inv-loop μ-loop
 loop-holds c = begun _ _ _ _ (c .before .beam-of .ensures) _ (c .begin-of .ensures)
 
-few : (src : List ℕ) (at n : ℕ) → n ≡ layer-run 16 src at → n ≤ 16
-few src at n e = let h = run-most 16 src at in omega arith
-
 moved-from-requires : tie.Need-moved-from-requires Inv-loop μ-loop
 moved-from-requires c κs = omega (arith, c .before .before .before .loop-test .taken, c .before .before .before .before .loop .inv .counts)
 
-add-place-on : tie.Need-add-place-on Inv-loop μ-loop
-add-place-on c = record { fits = omega (arith, few _ _ _ (c .before .layer-run .ensures)) }
-
 loop-again : tie.Need-loop-again Inv-loop μ-loop
-loop-again c = further _ _ _ _ _ _ (c .before .before .before .before .before .before .loop .inv) (c .before .before .before .before .before .loop-test .taken) _ (c .before .before .before .before .met-with .ensures) _ (c .before .before .before .onto .ensures) _ (c .before .before .layer-run .ensures) _ (c .before .moved-from .ensures) _ (c .place-on .ensures)
+loop-again c = further _ _ _ _ _ _ (c .before .before .before .before .before .loop .inv) (c .before .before .before .before .loop-test .taken) _ (c .before .before .before .met-with .ensures) _ (c .before .before .onto .ensures) _ (ap (λ (z : LayerRun). z .count) (c .before .layers-on .ensures)) _ (c .moved-from .ensures) _ (ap (λ (z : LayerRun). z .next) (c .before .layers-on .ensures))
 
 returns : tie.Need-returns Inv-loop μ-loop
 returns c = done _ _ _ _ _ _ (c .before .loop .inv) (c .loop-test .left)
 
 pub run-at-spec : {M : Type 1} → statement M
-run-at-spec = tie.close (tie.spec Inv-loop μ-loop (λ c κs. search needs) (λ c κs. search needs) loop-holds (λ c κs. search needs) (λ c κs. search needs) (λ c κs. search needs) moved-from-requires add-place-on (λ c κs. search needs) (λ c. search needs) (λ c. search needs) loop-again returns)
+run-at-spec = tie.close (tie.spec Inv-loop μ-loop (λ c κs. search needs) (λ c κs. search needs) loop-holds (λ c κs. search needs) (λ c κs. search needs) (λ c κs. search needs) moved-from-requires (λ c. search needs) (λ c. search needs) loop-again returns)

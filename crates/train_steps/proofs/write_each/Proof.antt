@@ -10,10 +10,10 @@ use lib.ListN.{length, set, drop, length-set}
 use lib.Ieee.{Float}
 use Rattle.ieee.specs.Operators.{_⊗_}
 use Rattle.refusal.specs.Outcome.{answer}
+use Rattle.sheet.specs.declared.LayerRun.{LayerRun}
 use Rattle.sheet.specs.Sheet.{nth, Sheet}
 use Rattle.sheet.specs.Internal.{next-place, place-on, layer-run, tuning-at, onto, begin}
 use Rattle.sheet.proofs.Stands.{Known}
-use Rattle.sheet.proofs.Standings.{run-most}
 use Rattle.sheet_values.specs.declared.Beam.{Beam}
 use Rattle.sheet_values.specs.Values.{value, met-with}
 use Rattle.sheet_values.specs.Internal.{beam-at}
@@ -56,9 +56,6 @@ begun src n list b at known e q = record {
   half = λ x g k. let m = gives src known x g in rw (beam-is src x (m .0) (m .1) b e) (nothing (x .surfaces) list (value (x .wavelength)) (value (x .s)) (value (x .p)));
 }
 
-few : (src : List ℕ) (at n : ℕ) → n ≡ layer-run 16 src at → n ≤ 16
-few src at n e = let h = run-most 16 src at in omega arith
-
 module _ (src : List ℕ) (n : ℕ) (list₀ list : List Float) (s p w : Float) (at i : ℕ) (b : Before src n list₀ list s p w at i) where
   module _ (known : Known src) (h : i < n) (v : Float) (ev : v ≡ met-with w (tuning-at src at)) (x : Sheet) (g : gated src ≡ answer x) (l : length (x .surfaces) ≡ n) where
     lt : i < length (x .surfaces)
@@ -70,7 +67,7 @@ module _ (src : List ℕ) (n : ℕ) (list₀ list : List Float) (s p w : Float) 
     taken : Met v (nth (x .surfaces) i) × T (holds v (drop (suc i) (x .surfaces)))
     taken = rw met-now (takes x (gives src known x g .1) w i (b .held x g l) lt)
 
-  further : Known src → i < n → 2 * n ≤ length list₀ → (v : Float) → v ≡ met-with w (tuning-at src at) → (o : ℕ) → o ≡ onto src at → (k : ℕ) → k ≡ layer-run 16 src o → (c : Chosen) → c ≡ chosen-at src o k v → (q : ℕ) → q ≡ place-on src o (k + 1)
+  further : Known src → i < n → 2 * n ≤ length list₀ → (v : Float) → v ≡ met-with w (tuning-at src at) → (o : ℕ) → o ≡ onto src at → (k : ℕ) → k ≡ layer-run 16 src o → (c : Chosen) → c ≡ chosen-at src o k v → (q : ℕ) → q ≡ place-on src o (suc (layer-run 16 src o))
       → Before src n list₀ (set (set list (2 * i) (s ⊗ c .s)) (2 * i + 1) (p ⊗ c .p)) (s ⊗ c .s) (p ⊗ c .p) v q (i + 1)
   unfolding begin
   further known h r v ev o eo k ek c ec q eq =
@@ -78,7 +75,7 @@ module _ (src : List ℕ) (n : ℕ) (list₀ list : List Float) (s p w : Float) 
       record {
         most = omega arith;
         long = length-set (set list (2 * i) (s ⊗ c .s)) (2 * i + 1) (p ⊗ c .p) ∙ length-set list (2 * i) (s ⊗ c .s) ∙ b .long;
-        stands = rw (add-one i) (eq ∙ ap (place-on src o) (add-one k ∙ ap suc ek) ∙ ap (λ (z : ℕ). place-on src z (suc (layer-run 16 src z))) there);
+        stands = rw (add-one i) (eq ∙ ap (λ (z : ℕ). place-on src z (suc (layer-run 16 src z))) there);
         held = λ x g l. rw (add-one i) (taken known h v ev x g l .1);
         half = λ x g l.
             let m = gives src known x g in
@@ -98,14 +95,11 @@ chosen-kept-requires c κs = c .before .before .before .before .before .before .
 slice-write-list-2 : tie.Need-slice-write-list-2 Inv-loop μ-loop
 slice-write-list-2 c = rw length-set (omega (arith, c .before .before .before .before .before .before .before .loop .inv .long, c .before .before .before .before .before .before .before .before .before .before .before .before .pre .0 .1))
 
-add-place-on : tie.Need-add-place-on Inv-loop μ-loop
-add-place-on c = record { fits = omega (arith, few _ _ _ (c .before .before .before .layer-run .ensures)) }
-
 loop-again : tie.Need-loop-again Inv-loop μ-loop
-loop-again c = further _ _ _ _ _ _ _ _ _ (c .before .before .before .before .before .before .before .before .loop .inv) (c .before .before .before .before .before .before .before .before .before .before .before .before .shared-slice-known .given) (c .before .before .before .before .before .before .before .loop-test .taken) (c .before .before .before .before .before .before .before .before .before .before .before .before .before .pre .0 .1) _ (c .before .before .before .before .before .before .met-with .ensures) _ (c .before .before .before .before .before .onto .ensures) _ (c .before .before .before .before .layer-run .ensures) _ (c .before .before .before .chosen-kept .ensures) _ (c .place-on .ensures)
+loop-again c = further _ _ _ _ _ _ _ _ _ (c .before .before .before .before .before .before .before .loop .inv) (c .before .before .before .before .before .before .before .before .before .before .before .shared-slice-known .given) (c .before .before .before .before .before .before .loop-test .taken) (c .before .before .before .before .before .before .before .before .before .before .before .before .pre .0 .1) _ (c .before .before .before .before .before .met-with .ensures) _ (c .before .before .before .before .onto .ensures) _ (ap (λ (z : LayerRun). z .count) (c .before .before .before .layers-on .ensures)) _ (c .before .before .chosen-kept .ensures) _ (ap (λ (z : LayerRun). z .next) (c .before .before .before .layers-on .ensures))
 
 returns : tie.Need-returns Inv-loop μ-loop
 returns c = done _ _ _ _ _ _ _ _ _ (c .before .loop .inv) (c .loop-test .left)
 
 pub write-each-spec : {M : Type 1} → statement M
-write-each-spec = tie.close (tie.spec Inv-loop μ-loop (λ c κs. search needs) (λ c κs. search needs) loop-holds (λ c κs. search needs) (λ c κs. search needs) (λ c κs. search needs) chosen-kept-requires (λ c. search needs) (λ c. search needs) (λ c. search needs) (λ c. search needs) (λ c. search needs) (λ c. search needs) slice-write-list-2 add-place-on (λ c κs. search needs) (λ c. search needs) (λ c. search needs) loop-again (λ c. search needs) returns)
+write-each-spec = tie.close (tie.spec Inv-loop μ-loop (λ c κs. search needs) (λ c κs. search needs) loop-holds (λ c κs. search needs) (λ c κs. search needs) (λ c κs. search needs) chosen-kept-requires (λ c. search needs) (λ c. search needs) (λ c. search needs) (λ c. search needs) (λ c. search needs) (λ c. search needs) slice-write-list-2 (λ c. search needs) (λ c. search needs) loop-again (λ c. search needs) returns)
