@@ -13,12 +13,14 @@
  *
  * A call returns one number. Its high 32 bits are 0 where the call answers; the low 32 bits are then what the call
  * says below. Where it refuses, the high 32 bits are the documents' number of the refusal and the low 32 bits its
- * place, a word of the sheet, a byte of the text or a line of the band counted from 0; the place is 0 where the documents give none.
+ * place, a word of the sheet, a byte of the text, a line of the band or a case of a list counted from 0; the place is 0 where the documents give none.
  *
- *   1  evaluate: the Rust's InvalidParameter, an unknown code, or a count of layers that is no multiple of 3;
+ *   1  evaluate: the Rust's InvalidParameter (dihkelu_invalid_argument says which argument), an unknown code, or a count of
+ *      layers that is no multiple of 3; evaluate_list: the same of the case at this place, or DIHKELU_CASES for lists of
+ *      unequal length;
  *      stack: an index or the design wavelength is not positive and finite; to_mueller, mueller_born_wolf: there are
  *      not 8 numbers
- *   3  evaluate: more than 64 layers, where the code is that of explicit layers (any other ignores them)
+ *   3  evaluate, evaluate_list: more than 64 layers, where the code is that of explicit layers (any other ignores them)
  *   4  the sheet's bytes are no multiple of 4, under 36 or over 30,500 (39,460 where the first word is 0x10000002)
  *   5  the word at this place is out of grammar
  *   6  the BEAM, SURFACE, layer or kind 7 at this place is outside the limits
@@ -46,14 +48,14 @@
  * for x86-64; the one that is built from C (c/) is for machines of 64 bits.
  *
  * WHAT THE CALLER OWES, since no callee can check it:
- *   - A sheet, a text, a list of layers, a Jones matrix, a band's wavelengths and weights and a list or an output that is
+ *   - A sheet, a text, a list of layers, a Jones matrix, angles, wavelengths, a band's weights and a list or an output that is
  *     written are each passed as a pointer and a count of elements (bytes, doubles or uint32_t), two arguments one after
  *     the other. So many elements are there, readable, and writable in the list and the output; a pointer to doubles or
  *     weights is aligned for them. Where the count is 0 the pointer may be anything, null too: nothing is read or written
  *     through it.
  *   - A number that is written, such as a state's s, is passed as a pointer to it, which is never null. The numbers of a
  *     state are apart from each other and from the sheet.
- *   - The list or the output overlaps neither the sheet nor the text nor the layers nor the Jones matrix nor the band, and
+ *   - The list or the output overlaps neither the sheet nor the text nor the layers nor the Jones matrix nor the band nor the angles, and
  *     no other thread writes
  *     any of them meanwhile.
  *   - One double that is written, remainder_nm, is a pointer that is not null, to a double that is there, aligned and writable.
@@ -221,6 +223,25 @@ DIHKELU_MUST_USE uint64_t dihkelu_evaluate(uint32_t code, double design_waveleng
                                            double n_substrate, double angle_incident_rad, double wavelength_nm,
                                            const double *layers, size_t layers_count, double *list,
                                            size_t list_count);
+
+/* So many cases are too many for one call: their doubles would be 2^32. */
+#define DIHKELU_CASES 0x10000000u
+
+/* The same at many angles and wavelengths: case i has angles_rad[i] and wavelengths_nm[i]. Writes 16 doubles a case, one
+ * case after the other, and returns how many these are. Refuses with 1 at DIHKELU_CASES where there are not as many
+ * wavelengths as angles, or so many cases or more; then as dihkelu_evaluate refuses the first case that it refuses, with 1
+ * or 3 at that case; then with 8. Nothing is written where one case is refused. */
+DIHKELU_MUST_USE uint64_t dihkelu_evaluate_list(uint32_t code, double design_wavelength_nm, double n_incident,
+                                                double n_substrate, const double *angles_rad, size_t angles_count,
+                                                const double *wavelengths_nm, size_t wavelengths_count,
+                                                const double *layers, size_t layers_count, double *list,
+                                                size_t list_count);
+
+/* Which argument earned a 1 of dihkelu_evaluate: returns 1 for n_incident, 2 for n_substrate, 3 for the angle, 4 for the
+ * wavelength, the first of them that is not finite or, but for the angle, not above zero; 0 where none is, and the 1 was
+ * for the code or the count of the layers' numbers. Refuses never. */
+DIHKELU_MUST_USE uint64_t dihkelu_invalid_argument(double n_incident, double n_substrate, double angle_incident_rad,
+                                                   double wavelength_nm);
 
 /* The most doubles that dihkelu_stack writes: 64 layers of 3. */
 #define DIHKELU_STACK 192

@@ -65,6 +65,26 @@ extern "C" {
         list: *mut f64,
         list_count: usize,
     ) -> u64;
+    fn dihkelu_evaluate_list(
+        code: u32,
+        design_wavelength_nm: f64,
+        n_incident: f64,
+        n_substrate: f64,
+        angles_rad: *const f64,
+        angles_count: usize,
+        wavelengths_nm: *const f64,
+        wavelengths_count: usize,
+        layers: *const f64,
+        layers_count: usize,
+        list: *mut f64,
+        list_count: usize,
+    ) -> u64;
+    fn dihkelu_invalid_argument(
+        n_incident: f64,
+        n_substrate: f64,
+        angle_incident_rad: f64,
+        wavelength_nm: f64,
+    ) -> u64;
     fn dihkelu_stack(
         text: *const u8,
         text_count: usize,
@@ -265,6 +285,43 @@ pub fn evaluate(
             list.len(),
         )
     })
+}
+
+/// The place of a refusal of `evaluate_list` that is of no case: lists of unequal length, or so many cases.
+pub const CASES: u32 = 0x1000_0000;
+
+/// The same at many angles and wavelengths, case i having angles_rad[i] and wavelengths_nm[i]: writes the responses one
+/// after the other, gives how many numbers these are. A refusal's place is the case.
+pub fn evaluate_list(
+    code: u32,
+    design_wavelength_nm: f64,
+    [n_incident, n_substrate]: [f64; 2],
+    angles_rad: &[f64],
+    wavelengths_nm: &[f64],
+    layers: &[f64],
+    list: &mut [f64],
+) -> Result<u32, Refusal> {
+    outcome(unsafe {
+        dihkelu_evaluate_list(
+            code,
+            design_wavelength_nm,
+            n_incident,
+            n_substrate,
+            angles_rad.as_ptr(),
+            angles_rad.len(),
+            wavelengths_nm.as_ptr(),
+            wavelengths_nm.len(),
+            layers.as_ptr(),
+            layers.len(),
+            list.as_mut_ptr(),
+            list.len(),
+        )
+    })
+}
+
+/// Which of n_incident, n_substrate, angle and wavelength earned a 1 of `evaluate`, counted from 1; 0 where none did.
+pub fn invalid_argument([n_incident, n_substrate, angle, wavelength]: [f64; 4]) -> u32 {
+    unsafe { dihkelu_invalid_argument(n_incident, n_substrate, angle, wavelength) as u32 }
 }
 
 /// A stack in the coating makers' shorthand, H, L and M being quarter waves of three indices at a design wavelength:

@@ -300,6 +300,38 @@ static void evaluate_calls(void) {
     free(layers);
 }
 
+/* A list of cases, each held to dihkelu_evaluate of it alone: the first refusal with its case, or all numbers, bit by bit. */
+static void list_calls(void) {
+    size_t n = below(4) ? 3 * below(5) : below(220), angles = below(6), wavelengths = below(8) ? angles : below(6);
+    double *layers = block(8 * n), *angle = block(8 * angles), *wavelength = block(8 * wavelengths);
+    for (size_t i = 0; i < n; i++) layers[i] = any();
+    for (size_t i = 0; i < angles; i++) angle[i] = below(8) ? (double)below(90) / 64 : any();
+    for (size_t i = 0; i < wavelengths; i++) wavelength[i] = below(8) ? 400.0 + (double)below(400) : any();
+    uint32_t code = below(8) ? 1 + (uint32_t)below(8) : (uint32_t)draw();
+    double design = any(), n1 = below(4) ? 1.0 : any(), n2 = below(4) ? 1.5 : any();
+    size_t written = DIHKELU_RESPONSE * angles;
+    List l = lend(below(3) ? written + below(3) : below(100));
+    uint64_t expected = angles != wavelengths ? 1ull << 32 | DIHKELU_CASES : l.count < written ? 8ull << 32 : written;
+    double *all = block(8 * written);
+    for (size_t i = angles; angles == wavelengths && i-- > 0;) {
+        uint64_t one = dihkelu_evaluate(code, design, n1, n2, angle[i], wavelength[i], layers, n, all + DIHKELU_RESPONSE * i, DIHKELU_RESPONSE);
+        if (dihkelu_refusal(one)) expected = one | i;
+        uint64_t which = dihkelu_invalid_argument(n1, n2, angle[i], wavelength[i]);
+        if (code - 1 < 8 && n % 3 == 0 && (which != 0) != (dihkelu_refusal(one) == 1)) wrong("invalid_argument", "0 for a 1, or none", which);
+        if (which > 4) wrong("invalid_argument", "no argument", which);
+        calls++;
+    }
+    uint64_t r = dihkelu_evaluate_list(code, design, n1, n2, angle, angles, wavelength, wavelengths, layers, n, (double *)l.now, l.count);
+    if (r != expected) wrong("evaluate_list", "another number than of its cases", r);
+    for (size_t i = 0; dihkelu_refusal(r) == 0 && i < written; i++)
+        if (((double *)l.now)[i] != all[i] && (all[i] == all[i] || ((double *)l.now)[i] == ((double *)l.now)[i])) wrong("evaluate_list", "other numbers than of its cases", r);
+    leave("evaluate_list", l, r, BIT(1) | BIT(3) | BIT(8), written);
+    free(layers);
+    free(angle);
+    free(wavelength);
+    free(all);
+}
+
 /* A text of the grammar; or bytes of its kinds, seldom of any. */
 static void stack_calls(void) {
     static const char kinds[] = "HLM019()^ h", *const whole[] = {"(HL)^7 H", "(H^31)^2 HH", "(H^31)^2 HHH", "((((H^31)^31)^31)^31)^31", "2H^3"};
@@ -433,6 +465,11 @@ static void null_calls(void) {
     expect("mueller_born_wolf", dihkelu_mueller_born_wolf(list, 8, NULL, 0), eight);
     expect("reflectance_range", dihkelu_reflectance_range(1.0, 1.0, 1.5, 1.6, NULL, 0), eight);
     expect("reflectance_range", dihkelu_reflectance_range(1.0, 1.0, 1.6, 1.5, NULL, 0), 13ull << 32);
+    expect("evaluate_list", dihkelu_evaluate_list(0, 0.0, 0.0, 0.0, NULL, 0, NULL, 0, NULL, 0, NULL, 0), 0);
+    expect("evaluate_list", dihkelu_evaluate_list(1, 0.0, 1.0, 1.5, NULL, 0, &w, 1, NULL, 0, NULL, 0), 1ull << 32 | DIHKELU_CASES);
+    w = 550.0;
+    expect("evaluate_list", dihkelu_evaluate_list(1, 0.0, 1.0, 1.5, &s, 1, &w, 1, NULL, 0, NULL, 0), eight);
+    expect("evaluate_list", dihkelu_evaluate_list(1, 0.0, 1.0, 1.5, &s, 1, &w, 1, NULL, 0, list, 16), 16);
     for (uint32_t code = 1; code <= 8; code++) {
         expect("evaluate", dihkelu_evaluate(code, 550.0, 1.0, 1.5, 0.3, 550.0, NULL, 0, list, DIHKELU_RESPONSE), DIHKELU_RESPONSE);
         expect("evaluate", dihkelu_evaluate(code, 550.0, 1.0, 1.5, 0.3, 550.0, NULL, 0, NULL, 0), eight);
@@ -487,6 +524,7 @@ int main(int count, char **words) {
         for (size_t j = 0; j < size; j++) bytes[j] = (uint8_t)draw();
         sheet_calls(bytes, size);
         for (int i = 0; i < 16; i++) evaluate_calls();
+        for (int i = 0; i < 16; i++) list_calls();
         for (int i = 0; i < 16; i++) stack_calls();
         for (int i = 0; i < 16; i++) mueller_calls();
         for (int i = 0; i < 16; i++) range_calls();

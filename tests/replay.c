@@ -107,7 +107,11 @@ static size_t call(unsigned function) {
         free(bytes);
         return 2;
     }
-    if (function != 205 && (function < 183 || function > 189)) return 0;
+    if (function == 207) {
+        found[0] = dihkelu_invalid_argument(number(a[0]), number(a[1]), number(a[2]), number(a[3]));
+        return 1;
+    }
+    if (function != 205 && function != 206 && (function < 183 || function > 189)) return 0;
     double *list = block(8 * list_count);
     for (size_t i = 0; i < list_count; i++) list[i] = -7.25;
     if (function == 183) found[0] = dihkelu_run(bytes, count, list, list_count);
@@ -119,6 +123,17 @@ static size_t call(unsigned function) {
         bytes = bytes_of(a + 3 + lines + weighed, &count);
         found[0] = dihkelu_band(bytes, count, numbers, lines, weights, weighed, list, list_count);
         free(weights);
+    }
+    if (function == 206) {
+        size_t angles = (size_t)a[5], wavelengths = (size_t)a[6];
+        const uint64_t *layers = a + 7 + angles + wavelengths;
+        double *angles_rad = numbers_of(a + 7, angles), *wavelengths_nm = numbers_of(a + 7 + angles, wavelengths);
+        count = (size_t)layers[0];
+        numbers = numbers_of(layers + 1, count);
+        found[0] = dihkelu_evaluate_list((uint32_t)a[1], number(a[2]), number(a[3]), number(a[4]), angles_rad, angles, wavelengths_nm,
+                                         wavelengths, numbers, count, list, list_count);
+        free(angles_rad);
+        free(wavelengths_nm);
     }
     if (function == 184) found[0] = dihkelu_answers(bytes, count, (uint32_t)a[1], list, list_count);
     if (function == 185)

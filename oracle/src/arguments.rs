@@ -87,6 +87,10 @@ pub enum Arg {
     Matrix,
     /// Layers as a count of numbers, then n, k and thickness one after the other; the last layer may be cut off.
     Flat,
+    /// The length of a list that holds the responses of up to four cases.
+    CasesRoom,
+    /// Counts of angles and of wavelengths, seldom unequal, then each of these.
+    Cases,
 }
 
 /// How an argument is chosen.
@@ -227,6 +231,8 @@ impl Arg {
             Arg::Matrix => exports::push_matrix(rng, style, words),
             Arg::Whole => words.push(born_wolf::whole(rng).to_bits()),
             Arg::Flat => exports::push_flat(rng, style, words),
+            Arg::CasesRoom => words.push(rng.pick(&exports::CASES_ROOMS)),
+            Arg::Cases => exports::push_cases(rng, style, words),
             _ => words.push(self.float(rng, style).to_bits()),
         }
     }

@@ -63,6 +63,8 @@ impl Arg {
             Arg::Matrix => exports::matrix_cases(),
             Arg::Whole => born_wolf::wholes().map(|x| vec![x.to_bits()]).to_vec(),
             Arg::Flat => exports::flat_cases(),
+            Arg::CasesRoom => single(&exports::CASES_ROOMS),
+            Arg::Cases => exports::case_cases(),
             _ => CORE.iter().map(|x| vec![x.to_bits()]).collect(),
         }
     }

@@ -116,7 +116,8 @@ pub fn linked_quarter_waves(film: [f64; 3], remainder: &mut f64) -> u64 {
     returned(dihkelu::quarter_waves(n, thickness, wavelength, remainder))
 }
 
-fn returned(outcome: Result<u32, dihkelu::Refusal>) -> u64 {
+/// What a call returned, as one number.
+pub fn returned(outcome: Result<u32, dihkelu::Refusal>) -> u64 {
     match outcome {
         Ok(value) => u64::from(value),
         Err(refusal) => u64::from(refusal.number) << 32 | u64::from(refusal.place),

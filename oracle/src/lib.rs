@@ -5,6 +5,8 @@
 pub mod arguments;
 pub mod band;
 pub mod bench;
+#[cfg(feature = "proved")]
+pub mod calls;
 pub mod cases;
 #[cfg(feature = "proved")]
 #[path = "../../include/dihkelu.rs"]

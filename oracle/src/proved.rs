@@ -228,6 +228,9 @@ pub fn compare(seed: u64, count: u64, spoiled: Option<u64>) -> Option<bool> {
         let [random, whole] = crate::exports::compare_quarter_waves(seed, count, spoiled);
         all_agree &= agree("quarter waves", random.0, random.1, "");
         all_agree &= agree("quarter waves about whole ones", whole.0, whole.1, "");
+        for (name, different) in crate::calls::compare(seed, count, spoiled) {
+            all_agree &= agree(name.trim_start_matches("dihkelu_"), count, different, "");
+        }
         let sheets = (count / 10).max(count.min(1));
         let (calls, different) = crate::exports::compare_trains(seed, sheets, spoiled);
         all_agree &= agree(

@@ -26,6 +26,7 @@ from .calls import (
     environment_ok,
     evaluate,
     gate,
+    invalid_argument,
     mueller_born_wolf,
     quarter_waves,
     reflectance_range,

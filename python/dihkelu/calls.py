@@ -2,7 +2,6 @@
 from __future__ import annotations
 
 import ctypes
-import itertools
 import operator
 import struct
 import sys
@@ -217,30 +216,38 @@ def evaluate(
     """One coated surface. The layers are Layer or (n, k, thickness in nm), from the side of the lower index.
 
     Angle and wavelength are numbers, or lists or arrays of one dimension and one length; each field of the response is then a list,
-    or an array of numpy's where one was given. The first refusal is raised.
+    or an array of numpy's where one was given. The library is called once for all of them; a refusal's place is the first case that
+    is refused, counted from 0.
     """
     flat = _numbers(_flat(layers))
-    out = _numbers(count=16)
-
-    def one(angle: float, wavelength: float) -> Response:
-        returned = _library.dihkelu_evaluate(code, design_wavelength_nm, n_incident, n_substrate, angle, wavelength, flat, len(flat), out, len(out))
-        answered(returned, "evaluate")
-        return _response(out)
-
     (angles, first), (wavelengths, second) = _listed(angle_rad), _listed(wavelength_nm)
     if angles is None and wavelengths is None:
-        return one(float(angle_rad), float(wavelength_nm))
+        out = _numbers(count=16)
+        at = code, design_wavelength_nm, n_incident, n_substrate, float(angle_rad), float(wavelength_nm)
+        answered(_library.dihkelu_evaluate(*at, flat, len(flat), out, len(out)), "evaluate")
+        return _response(out)
     if angles is not None and wavelengths is not None and len(angles) != len(wavelengths):
         raise ValueError(f"{len(angles)} angles and {len(wavelengths)} wavelengths")
-    of_angles: Iterable[float] = itertools.repeat(float(angle_rad)) if angles is None else angles
-    of_wavelengths: Iterable[float] = itertools.repeat(float(wavelength_nm)) if wavelengths is None else wavelengths
-    all_of = [one(a, w) for a, w in zip(of_angles, of_wavelengths)]
-    columns: list[Any] = [[getattr(r, name) for r in all_of] for name in Response.__dataclass_fields__]
+    count = len(wavelengths if angles is None else angles)
+    cases = _numbers([float(angle_rad)] * count if angles is None else angles), _numbers([float(wavelength_nm)] * count if wavelengths is None else wavelengths)
+    out = _numbers(count=16 * count)
+    lists = [x for case in cases for x in (case, count)]
+    answered(_library.dihkelu_evaluate_list(code, design_wavelength_nm, n_incident, n_substrate, *lists, flat, len(flat), out, len(out)), "evaluate")
+    parts: list[Any] = [out[i::16] for i in range(16)]
+    columns: list[Any] = [[complex(re, im) for re, im in zip(parts[i], parts[i + 1])] for i in range(0, 8, 2)] + parts[8:]
     if first or second:
         import numpy
 
         columns = [numpy.array(c) for c in columns]
     return Response(*columns)
+
+
+ARGUMENTS = (None, "n_incident", "n_substrate", "angle_rad", "wavelength_nm")
+
+
+def invalid_argument(n_incident: float, n_substrate: float, angle_rad: float, wavelength_nm: float) -> str | None:
+    """The argument that `evaluate` is refused with 1 for, the first of those that are not finite or not positive; None where there is none."""
+    return ARGUMENTS[_library.dihkelu_invalid_argument(n_incident, n_substrate, angle_rad, wavelength_nm)]
 
 
 # ---- the rest

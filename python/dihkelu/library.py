@@ -29,6 +29,8 @@ CALLS = {
     "band": SHEET + LIST + [Count, Size] + LIST,
     "answers": SHEET + [U32] + LIST,
     "evaluate": [U32] + [Double] * 5 + LIST + LIST,
+    "evaluate_list": [U32] + [Double] * 3 + LIST * 4,
+    "invalid_argument": [Double] * 4,
     "stack": SHEET + [Double] * 4 + LIST,
     "to_mueller": LIST + LIST,
     "mueller_born_wolf": LIST + LIST,
@@ -78,6 +80,8 @@ def load() -> ctypes.CDLL:
     if library.dihkelu_version() != VERSION:
         raise LibraryMissing(f"{path} is of version {library.dihkelu_version():#010x}, these calls are of {VERSION:#010x}")
     for name, arguments in CALLS.items():
-        call = getattr(library, "dihkelu_" + name)
+        call = getattr(library, "dihkelu_" + name, None)
+        if call is None:
+            raise LibraryMissing(f"{path} has no dihkelu_{name}: it is older than these calls")
         call.restype, call.argtypes = U64, arguments
     return library

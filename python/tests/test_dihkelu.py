@@ -204,8 +204,19 @@ class Surfaces(unittest.TestCase):
         self.assertEqual(both.reflectance_s[1], whole.reflectance_s[1])
         with self.assertRaises(ValueError):
             dihkelu.evaluate(dihkelu.MGF2, 1.0, 1.52, angles, [500.0])
-        with self.assertRaises(dihkelu.InvalidParameter):
+        with self.assertRaises(dihkelu.InvalidParameter) as caught:
             dihkelu.evaluate(dihkelu.MGF2, 1.0, 1.52, angles, [500.0, -1.0, 550.0])
+        self.assertEqual((caught.exception.number, caught.exception.place), (1, 1))
+        with self.assertRaises(dihkelu.InvalidParameter):
+            dihkelu.evaluate(9, 1.0, 1.52, angles, 550.0)
+        self.assertEqual(dihkelu.evaluate(9, 1.0, 1.52, [], 550.0).rs, [])
+
+    def test_invalid_argument(self):
+        good = [1.0, 1.5, 0.5, 550.0]
+        self.assertIsNone(dihkelu.invalid_argument(*good))
+        for i, name in enumerate(["n_incident", "n_substrate", "angle_rad", "wavelength_nm"]):
+            self.assertEqual(dihkelu.invalid_argument(*good[:i], math.nan, *good[i + 1 :]), name)
+        self.assertEqual(dihkelu.invalid_argument(1.0, 0.0, math.inf, -1.0), "n_substrate")
 
     def test_arrays(self):
         try:

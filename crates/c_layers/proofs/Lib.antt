@@ -1,3 +1,5 @@
 -- laws
 pub mod Triples
 pub mod Plain
+pub mod Numbers
+pub mod Codes

@@ -5,7 +5,7 @@ use mathlib.Core.List.{List, [], _∷_}
 use lib.Dec.{eqb}
 use lib.ListN.{length}
 use lib.Ieee.{Float}
-use Rattle.refusal.specs.Outcome.{Outcome, invalid-parameter}
+use Rattle.refusal.specs.Outcome.{Outcome, answer, refusal, invalid-parameter}
 use Rattle.thin_film_solver.specs.declared.ThinFilmLayer.{ThinFilmLayer}
 use Rattle.thin_film_solver.specs.declared.CoatingResponse.{CoatingResponse}
 use Rattle.thin_film_coating.specs.declared.Coating.the-variants as C
@@ -37,3 +37,8 @@ unfoldable pub evaluate : ℕ → Float → Float → Float → Float → Float 
 evaluate code design n-incident n-substrate angle wavelength flat =
     let coated = evaluate-coded (call-coating code design) flat n-incident n-substrate angle wavelength in
     cond (eqb (length flat % 3) 0) coated invalid-parameter
+
+-- the number that an evaluation is refused with; 0 where it is answered
+abbrev pub refusal-number : Outcome CoatingResponse → ℕ
+refusal-number (answer r) = 0
+refusal-number (refusal number place) = number

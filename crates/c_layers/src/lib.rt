@@ -1,12 +1,15 @@
 // SurfaceCoating::evaluate for a coating by its code, whose layers stand in a flat list: n, k, thickness
 // of one after the other.
 ghost use mathlib.Core.Path.{_≡_};
+ghost use mathlib.Core.List.{List};
 ghost use Prim.Native.Nat.{_<_, _+_, _*_};
 ghost use lib.ListN.{length, getD};
+ghost use Rattle.thin_film_solver.specs.declared.ThinFilmLayer as Layer;
 ghost use Rattle.thin_film_solver.specs.Internal.{solved};
 ghost use Rattle.thin_film_layers.specs.Evaluation.{ordered, no-layer, outcome};
 ghost use Rattle.thin_film.specs.Evaluate.{evaluate-surface};
-ghost use Rattle.c_layers.specs.Evaluate.{layers, call-coating, evaluate};
+ghost use Rattle.c_layers.specs.Evaluate.{layers, call-coating, evaluate, refusal-number};
+ghost use Rattle.c_layers.specs.Internal.{number-custom};
 use gate_limits::Interface;
 use thin_film::SurfaceCoating;
 use thin_film_coating::Coating;
@@ -108,5 +111,72 @@ pub fn evaluate(
             wavelength_nm,
         ),
         Interface::Bare => Evaluation::Refused(refusal::INVALID_PARAMETER),
+    }
+}
+
+// ---- without an evaluation
+
+// More than 64 explicit layers are refused with 3; any other coating of a user's ignores them.
+fn number_custom(coating: Coating, count: usize) -> u32
+    ensures { λ r. ⌜ r ≡ number-custom coating count ⌝ }
+{
+    match coating {
+        Coating::Multilayer => if count > 64 { 3 } else { 0 },
+        Coating::IdealAr => 0,
+        Coating::IdealMirror => 0,
+        Coating::IdealBeamsplitter => 0,
+    }
+}
+
+// How a coating beside so many layers is refused: 1, then 3; 0 where it is answered.
+fn number_known(
+    coating: SurfaceCoating,
+    count: usize,
+    n_incident: f64,
+    n_substrate: f64,
+    angle_incident_rad: f64,
+    wavelength_nm: f64,
+) -> u32
+    ensures { λ r. ⌜ ((beside : List Layer.ThinFilmLayer) → length beside ≡ count → r ≡ refusal-number (evaluate-surface coating beside «n_incident» «n_substrate» «angle_incident_rad» «wavelength_nm»)) ⌝ }
+{
+    if !thin_film_valid::valid(n_incident, n_substrate, angle_incident_rad, wavelength_nm) {
+        return 1;
+    }
+    match coating {
+        SurfaceCoating::Custom(custom) => number_custom(custom, count),
+        SurfaceCoating::IdealAr => 0,
+        SurfaceCoating::MgF2 {
+            design_wavelength_nm: _,
+        } => 0,
+        SurfaceCoating::BroadbandAr => 0,
+        SurfaceCoating::HighReflectanceMirror => 0,
+    }
+}
+
+// The number that evaluate refuses with, and 0 where it answers; no layer is read for it.
+pub fn refusal_number(
+    code: u32,
+    design_wavelength_nm: f64,
+    n_incident: f64,
+    n_substrate: f64,
+    angle_incident_rad: f64,
+    wavelength_nm: f64,
+    flat: &[f64],
+) -> u32
+    ensures { λ r. ⌜ r ≡ refusal-number (evaluate code «design_wavelength_nm» «n_incident» «n_substrate» «angle_incident_rad» «wavelength_nm» (now (flat .entry))) ⌝ }
+{
+    if flat.len() % 3 != 0 {
+        return 1;
+    }
+    match coating_of(code, design_wavelength_nm) {
+        Interface::Coated(coating) => number_known(
+            coating,
+            flat.len() / 3,
+            n_incident,
+            n_substrate,
+            angle_incident_rad,
+            wavelength_nm,
+        ),
+        Interface::Bare => 1,
     }
 }

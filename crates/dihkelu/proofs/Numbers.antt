@@ -24,6 +24,9 @@ use Rattle.c_layers.proofs.Plain.{of-code}
 use Rattle.c_call.specs.Call.{done, packed, returned, Reply, answered}
 use Rattle.c_call.specs.Layout.{response-numbers, common, evaluated, surface-answered, rows}
 use Rattle.thin_film_solver.specs.declared.ThinFilmLayer.{ThinFilmLayer}
+use Rattle.c_scan.specs.Scan.{evaluate-list, scanned}
+use Rattle.c_scan.proofs.Written.{list-sound, list-small}
+use Rattle.c_scan.proofs.Argument.{argument-small}
 use Rattle.thin_film_shorthand.specs.Stack.{stack}
 use Rattle.c_stack.specs.Stack.{stacked}
 use Rattle.reflectance_range.specs.Range.{reflectance-range}
@@ -207,6 +210,10 @@ numbers = record {
   of-evaluate = λ code design n-incident n-substrate angle wavelength flat list.
       let o = evaluate code design n-incident n-substrate angle wavelength flat in
       tells evaluated o (plain-sound o (of-code n-incident n-substrate angle wavelength code design flat)) (λ r e. lit< tt) list;
+  of-evaluate-list = λ code design n-incident n-substrate angles wavelengths flat list.
+      let o = evaluate-list code design n-incident n-substrate angles wavelengths flat in
+      tells scanned o (list-sound code design n-incident n-substrate angles wavelengths flat) (list-small code design n-incident n-substrate angles wavelengths flat) list;
+  of-invalid-argument = λ n-incident n-substrate angle wavelength. tells-answer _ (argument-small n-incident n-substrate angle wavelength);
   of-stack = λ text n-h n-l n-m design list.
       let o = stack text n-h n-l n-m design in
       let few = few-layers text n-h n-l n-m design in

@@ -14,6 +14,8 @@ use Rattle.train_steps.specs.declared.State.{State}
 use Rattle.train_steps.specs.Train.{step, retune, run}
 use Rattle.sheet_surfaces.specs.Surfaces.{surface-answers}
 use Rattle.c_layers.specs.Evaluate.{evaluate}
+use Rattle.c_scan.specs.Scan.{evaluate-list, scanned}
+use Rattle.c_scan.specs.Argument.{invalid-argument}
 use Rattle.thin_film_shorthand.specs.Stack.{stack}
 use Rattle.c_stack.specs.Stack.{stacked}
 use Rattle.polarization_mueller.specs.declared.JonesMatrix.{JonesMatrix}
@@ -65,6 +67,11 @@ pub record Numbers : Type 0 where
   pub of-evaluate : (code : ℕ) (design n-incident n-substrate angle wavelength : Float) (flat list : List Float)
       → Tells (said evaluated (evaluate code design n-incident n-substrate angle wavelength flat) list)
       (answered evaluated (evaluate code design n-incident n-substrate angle wavelength flat) list .returned)
+  pub of-evaluate-list : (code : ℕ) (design n-incident n-substrate : Float) (angles wavelengths flat list : List Float)
+      → Tells (said scanned (evaluate-list code design n-incident n-substrate angles wavelengths flat) list)
+      (answered scanned (evaluate-list code design n-incident n-substrate angles wavelengths flat) list .returned)
+  pub of-invalid-argument : (n-incident n-substrate angle wavelength : Float)
+      → Tells (answer (invalid-argument n-incident n-substrate angle wavelength)) (invalid-argument n-incident n-substrate angle wavelength)
   pub of-stack : (text : List ℕ) (n-h n-l n-m design : Float) (list : List Float)
       → Tells (said stacked (stack text n-h n-l n-m design) list) (answered stacked (stack text n-h n-l n-m design) list .returned)
   -- dihkelu_to_mueller and dihkelu_mueller_born_wolf: whatever the conversion

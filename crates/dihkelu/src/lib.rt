@@ -11,6 +11,8 @@ ghost use Rattle.c_call.specs.Call.{done, Apart, returned, answered};
 ghost use Rattle.c_call.specs.Layout.{evaluated, surface-answered, rows};
 ghost use Rattle.thin_film_shorthand.specs.Stack.{stack};
 ghost use Rattle.c_stack.specs.Stack.{stacked};
+ghost use Rattle.c_scan.specs.Scan.{evaluate-list, scanned};
+ghost use Rattle.c_scan.specs.Argument.{invalid-argument};
 ghost use Rattle.polarization_mueller.specs.Mueller.{to-mueller};
 ghost use Rattle.polarization_born_wolf.specs.Conversion.{to-mueller-born-wolf};
 ghost use Rattle.c_mueller.specs.Mueller.{converted};
@@ -74,6 +76,48 @@ pub extern "C" fn dihkelu_evaluate(
         Evaluation::Response(r) => c_call::put_response(r, list),
         Evaluation::Refused(r) => c_call::packed(r),
     }
+}
+
+// The same at many angles and wavelengths, angles_rad[i] and wavelengths_nm[i] being case i: writes the responses one
+// after the other and returns the count of their numbers; or a refusal: 1 for lists of unequal length, that of the first
+// case that is refused, 1 or 3, with its index as the place, then 8.
+#[no_mangle]
+pub extern "C" fn dihkelu_evaluate_list(
+    code: u32,
+    design_wavelength_nm: f64,
+    n_incident: f64,
+    n_substrate: f64,
+    angles_rad: &[f64],
+    wavelengths_nm: &[f64],
+    layers: &[f64],
+    list: &mut [f64],
+) -> u64
+    ensures { λ r. ⌜ done r (now (list .exit)) ≡ answered scanned (evaluate-list code «design_wavelength_nm» «n_incident» «n_substrate» (now («angles_rad» .entry)) (now («wavelengths_nm» .entry)) (now (layers .entry))) (now (list .entry)) ⌝ }
+{
+    c_scan::evaluate_list(
+        code,
+        design_wavelength_nm,
+        n_incident,
+        n_substrate,
+        angles_rad,
+        wavelengths_nm,
+        layers,
+        list,
+    )
+}
+
+// Which argument earned evaluate's refusal 1: 1 n_incident, 2 n_substrate, 3 the angle, 4 the wavelength, the first
+// of them that fails; 0 where none does.
+#[no_mangle]
+pub extern "C" fn dihkelu_invalid_argument(
+    n_incident: f64,
+    n_substrate: f64,
+    angle_incident_rad: f64,
+    wavelength_nm: f64,
+) -> u64
+    ensures { λ r. ⌜ r ≡ invalid-argument «n_incident» «n_substrate» «angle_incident_rad» «wavelength_nm» ⌝ }
+{
+    c_scan::invalid_argument(n_incident, n_substrate, angle_incident_rad, wavelength_nm)
 }
 
 // The layers that a text of the stack shorthand stands for, H, L and M being quarter waves of three

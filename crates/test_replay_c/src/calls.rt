@@ -1,4 +1,4 @@
-// The functions 180 to 198 and 205, the exports, and 155, which is one of them too. Each gives what a call returns and all of the list, of the state or of the output that it
+// The functions 180 to 198 and from 205 on, the exports, and 155, which is one of them too. Each gives what a call returns and all of the list, of the state or of the output that it
 // was lent, in so many words; none where it is not one of these or its list is too long to lend.
 
 // What a call returned, and the first n numbers of the list; the words behind them do not count.
@@ -106,20 +106,20 @@ fn answers_call(n: usize, surface: u32, src: &[u8], out: &mut [u64; 256]) -> usi
     returned(out, number, &list, n)
 }
 
-// The numbers of so many words, the first of which is the eighth of the record.
-fn layers_at(a: &[u8]) -> [f64; 200] {
-    let mut layers = [0.0f64; 200];
+// So many numbers, the first of which is at a word of the record.
+fn floats_at(a: &[u8], from: u32) -> [f64; 200] {
+    let mut floats = [0.0f64; 200];
     let mut i = 0;
     while i < 200 {
-        layers[i] = test_records::float_at(a, i + 8);
+        floats[i] = test_records::float_at(a, from as usize + i);
         i += 1;
     }
-    layers
+    floats
 }
 
 fn evaluate_call(n: usize, a: &[u8], out: &mut [u64; 256]) -> usize {
     let mut list = [-7.25f64; 200];
-    let layers = layers_at(a);
+    let layers = floats_at(a, 8);
     let count = test_records::small_at(a, 7) as usize;
     if n > 200 {
         return 0;
@@ -269,6 +269,51 @@ fn band_call(n: usize, lines: u32, a: &[u8], out: &mut [u64; 256]) -> usize {
     returned(out, number, &list, n)
 }
 
+fn evaluate_list_call(n: usize, a: &[u8], out: &mut [u64; 256]) -> usize {
+    let mut list = [-7.25f64; 200];
+    let angles = test_records::small_at(a, 5);
+    let wavelengths = test_records::small_at(a, 6);
+    if n > 200 {
+        return 0;
+    }
+    if angles > 200 {
+        return 0;
+    }
+    if wavelengths > 200 {
+        return 0;
+    }
+    let count = test_records::small_at(a, (angles + wavelengths + 7) as usize) as usize;
+    if count > 200 {
+        return 0;
+    }
+    let angles_rad = floats_at(a, 7);
+    let wavelengths_nm = floats_at(a, angles + 7);
+    let layers = floats_at(a, angles + wavelengths + 8);
+    let k = angles as usize;
+    let m = wavelengths as usize;
+    let number = dihkelu::dihkelu_evaluate_list(
+        test_records::small_at(a, 1),
+        test_records::float_at(a, 2),
+        test_records::float_at(a, 3),
+        test_records::float_at(a, 4),
+        &angles_rad[..k],
+        &wavelengths_nm[..m],
+        &layers[..count],
+        &mut list[..n],
+    );
+    returned(out, number, &list, n)
+}
+
+fn invalid_argument_call(a: &[u8], out: &mut [u64; 256]) -> usize {
+    out[0] = dihkelu::dihkelu_invalid_argument(
+        test_records::float_at(a, 0),
+        test_records::float_at(a, 1),
+        test_records::float_at(a, 2),
+        test_records::float_at(a, 3),
+    );
+    1
+}
+
 fn float_out(out: &mut [u64; 256], x: f64) -> usize {
     out[0] = test_records::bits(x);
     1
@@ -303,6 +348,8 @@ pub fn call(f: usize, a: &[u8], out: &mut [u64; 256]) -> usize {
         197 => retune_call(a, out),
         198 => edition_1_call(n, test_records::bytes_at(a, 1), out),
         205 => band_call(n, done, a, out),
+        206 => evaluate_list_call(n, a, out),
+        207 => invalid_argument_call(a, out),
         _ => 0,
     }
 }

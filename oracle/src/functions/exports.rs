@@ -135,6 +135,47 @@ fn evaluate(
     Ok((list.len() as u64, list))
 }
 
+/// `evaluate` of one angle and wavelength after the other: the first refusal has its case for its place. No case has the
+/// place of lists of unequal length.
+pub fn evaluate_list(
+    (code, design): (u64, f64),
+    [n_incident, n_substrate]: [f64; 2],
+    angles: &[f64],
+    wavelengths: &[f64],
+    flat: &[f64],
+) -> Result<(u64, Vec<f64>), Refusal> {
+    if angles.len() != wavelengths.len() {
+        return Err(Refusal {
+            number: 1,
+            place: 1 << 28,
+        });
+    }
+    let mut list = Vec::new();
+    for (i, (angle, wavelength)) in angles.iter().zip(wavelengths).enumerate() {
+        let at = [n_incident, n_substrate, *angle, *wavelength];
+        let at_case = |refusal: Refusal| Refusal {
+            place: i as u64,
+            ..refusal
+        };
+        list.extend(evaluate(code, design, at, flat).map_err(at_case)?.1);
+    }
+    Ok((list.len() as u64, list))
+}
+
+/// The first argument that the Rust refuses beside three that it takes, counted from 1; 0 where it refuses none.
+pub fn invalid_argument(given: [f64; 4]) -> u64 {
+    let fails = |i: &usize| {
+        let mut at = [1.0, 1.5, 0.5, 550.0];
+        at[*i] = given[*i];
+        let [n_incident, n_substrate, angle, wavelength] = at;
+        let coating = surface_coating(1, 550.0, Vec::new());
+        coating
+            .evaluate(n_incident, n_substrate, angle, wavelength)
+            .is_err()
+    };
+    (0..4).find(fails).map_or(0, |i| i as u64 + 1)
+}
+
 /// The layers of a text of the stack shorthand: n, k, thickness of one after the other.
 pub fn stack(text: &[u8], n: [f64; 3], design: f64) -> Result<(u64, Vec<f64>), Refusal> {
     let layers =
@@ -322,7 +363,71 @@ pub fn table() -> Vec<Function> {
             let means = band(&a.bytes(), &wavelengths, &weights);
             leave(r, room, means.map(|means| (lines, means.to_vec())));
         }),
+        export(
+            206,
+            "dihkelu_evaluate_list",
+            &[
+                CasesRoom, AnyCode, Wavelength, Index, Index, Cases, Flat,
+            ],
+            2,
+            |a, r| {
+                let (room, code, design) = (a.int(), a.int(), a.float());
+                let (n, counts) = (a.floats(), [a.int(), a.int()]);
+                let [angles, wavelengths] =
+                    counts.map(|count| (0..count).map(|_| a.float()).collect::<Vec<f64>>());
+                let answer = evaluate_list((code, design), n, &angles, &wavelengths, &floats(a));
+                leave(r, room, answer);
+            },
+        ),
+        export(
+            207,
+            "dihkelu_invalid_argument",
+            &[Index, Index, Angle, Wavelength],
+            1,
+            |a, r| {
+                r.int(invalid_argument(a.floats()));
+            },
+        ),
     ]
+}
+
+/// Lengths of a list at the ends of what a few cases need.
+pub const CASES_ROOMS: [u64; 12] = [0, 15, 16, 31, 32, 47, 48, 64, 64, 64, 65, 80];
+
+/// Up to four angles and wavelengths behind their counts; one in twelve has one more of either.
+pub fn push_cases(rng: &mut Rng, style: Style, words: &mut Vec<u64>) {
+    let count = rng.below(5);
+    let more = match rng.below(24) {
+        0 => [1, 0],
+        1 => [0, 1],
+        _ => [0, 0],
+    };
+    words.extend(more.map(|m| (count + m) as u64));
+    for (arg, m) in [(Angle, more[0]), (Wavelength, more[1])] {
+        for _ in 0..count + m {
+            let odd = style != Style::Plain && rng.one_in(4);
+            arg.push(rng, if odd { style } else { Style::Plain }, words);
+        }
+    }
+}
+
+/// Each pair of counts up to 4, and a case that is refused at each place.
+pub fn case_cases() -> Vec<Vec<u64>> {
+    let mut cases = Vec::new();
+    for angles in 0..5_u64 {
+        for wavelengths in 0..5_u64 {
+            let mut words = vec![angles, wavelengths];
+            words.extend((0..angles).map(|i| (0.25 * i as f64).to_bits()));
+            words.extend((0..wavelengths).map(|i| (500.0 + i as f64).to_bits()));
+            for place in 0..angles + wavelengths {
+                let mut spoiled = words.clone();
+                spoiled[2 + place as usize] = f64::NAN.to_bits();
+                cases.push(spoiled);
+            }
+            cases.push(words);
+        }
+    }
+    cases
 }
 
 /// Lengths of a list at the ends of what a Mueller matrix needs.

@@ -1,33 +1,9 @@
 -- `c_layers::evaluate` meets its contract. Assumes nothing.
-use Prim.Native.Nat.{ℕ, _%_, _/_}
-use mathlib.Core.Path.{_≡_, sym, _∙_, ap}
-use mathlib.Core.List.{List}
-use lib.ListN.{length}
-use lib.Ieee.{Float}
+use mathlib.Core.Path.{_∙_}
 use borrow.Author.Needs.{needs}
-use borrow.Author.Tests.{eq-eqb, ne-eqb}
-use Rattle.refusal.specs.Outcome.{invalid-parameter}
-use Rattle.thin_film.specs.declared.SurfaceCoating.{SurfaceCoating}
-use Rattle.thin_film.specs.Evaluate.{evaluate-surface}
-use Rattle.gate_limits.specs.declared.Interface.{Interface}
-use Rattle.gate_limits.specs.declared.Interface.the-variants.{Bare, Coated}
-use Rattle.c_layers.specs.Evaluate.{layers, call-coating, evaluate-coded, evaluate}
+use Rattle.c_layers.proofs.Codes.{ragged, unknown, known}
 use Rattle.c_layers.proofs.evaluate.Statement.{statement}
 use Rattle.c_layers.proofs.evaluate.Tie as tie
-
-module _ (code : ℕ) (design n-incident n-substrate angle wavelength : Float) (flat : List Float) where
-  ragged : (length flat % 3 ≡ 0 → ⊥) → invalid-parameter ≡ evaluate code design n-incident n-substrate angle wavelength flat
-  unfolding evaluate
-  ragged h = simp (ne-eqb _ _ h)
-
-  module _ (whole : length flat % 3 ≡ 0) (k : Interface) (k-is : k ≡ call-coating code design) where
-    unknown : k ≡ Bare → invalid-parameter ≡ evaluate code design n-incident n-substrate angle wavelength flat
-    unfolding evaluate evaluate-coded
-    unknown e = simp (eq-eqb _ _ whole, sym k-is, e)
-
-    known : (s : SurfaceCoating) → k ≡ Coated s → evaluate-surface s (layers flat) n-incident n-substrate angle wavelength ≡ evaluate code design n-incident n-substrate angle wavelength flat
-    unfolding evaluate evaluate-coded
-    known s e = simp (eq-eqb _ _ whole, sym k-is, e)
 
 returns : tie.Need-returns
 returns c = ragged _ _ _ _ _ _ _ (c .if1 .taken)

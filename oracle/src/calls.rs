@@ -1,0 +1,80 @@
+// The calls that one law covers: each is made of the library with the arguments of a record, and what it returns and leaves is held
+// to the record's results, which are the original Rust's.
+
+use crate::arguments::random;
+use crate::dihkelu;
+use crate::exports::returned;
+use crate::functions::{table, Function};
+use crate::progress::Progress;
+use crate::record::{bits, Arguments};
+use crate::values::Rng;
+
+/// The numbers of these calls.
+pub const NUMBERS: std::ops::RangeInclusive<u16> = 206..=207;
+
+/// A list as it is lent.
+fn lent(room: u64) -> Vec<f64> {
+    vec![-7.25; room as usize]
+}
+
+fn floats(a: &mut Arguments, count: u64) -> Vec<f64> {
+    (0..count).map(|_| a.float()).collect()
+}
+
+/// What was returned, and the whole list.
+fn left(outcome: Result<u32, dihkelu::Refusal>, list: &[f64]) -> Vec<u64> {
+    let mut words = vec![returned(outcome)];
+    words.extend(list.iter().map(|x| bits(*x)));
+    words
+}
+
+/// The results of a record's call of the library.
+fn made(number: u16, words: &[u64]) -> Vec<u64> {
+    let a = &mut Arguments::new(words);
+    match number {
+        206 => {
+            let (room, code, design) = (a.int(), a.int() as u32, a.float());
+            let (n, angles, wavelengths) = (a.floats(), a.int(), a.int());
+            let (angles, wavelengths) = (floats(a, angles), floats(a, wavelengths));
+            let count = a.int();
+            let flat = floats(a, count);
+            let mut list = lent(room);
+            let outcome =
+                dihkelu::evaluate_list(code, design, n, &angles, &wavelengths, &flat, &mut list);
+            left(outcome, &list)
+        }
+        207 => vec![u64::from(dihkelu::invalid_argument(a.floats()))],
+        _ => unreachable!("no such call"),
+    }
+}
+
+/// Holds each of these calls to the Rust on `count` records. Returns for each its name and how many differ.
+pub fn compare(seed: u64, count: u64, spoiled: Option<u64>) -> Vec<(&'static str, u64)> {
+    let calls = table().into_iter().filter(|f| NUMBERS.contains(&f.number));
+    calls
+        .map(|function| (function.name, differ(&function, seed, count, spoiled)))
+        .collect()
+}
+
+fn differ(function: &Function, seed: u64, count: u64, spoiled: Option<u64>) -> u64 {
+    let mut rng = Rng::new(seed);
+    let mut progress = Progress::new(function.name, count);
+    let mut different = 0;
+    for number in 0..count {
+        let words = random(function.args, &mut rng);
+        let ours = made(function.number, &words);
+        let mut theirs = function.record(words.clone()).results;
+        theirs[0] ^= u64::from(spoiled == Some(number));
+        if ours != theirs {
+            if different == 0 {
+                println!(
+                    "{}: arguments {words:X?}, Rust {theirs:X?}, proved {ours:X?}",
+                    function.name
+                );
+            }
+            different += 1;
+        }
+        progress.step();
+    }
+    different
+}
