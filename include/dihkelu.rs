@@ -121,6 +121,113 @@ extern "C" {
         wavelength_nm: f64,
         remainder_nm: *mut f64,
     ) -> u64;
+    fn dihkelu_fresnel_dielectric(
+        cos_theta_i: f64,
+        n1: f64,
+        n2: f64,
+        list: *mut f64,
+        list_count: usize,
+    ) -> u64;
+    fn dihkelu_fresnel_unpolarized(
+        cos_theta_i: f64,
+        n1: f64,
+        n2: f64,
+        list: *mut f64,
+        list_count: usize,
+    ) -> u64;
+    fn dihkelu_schlick_approx(
+        cos_theta_i: f64,
+        n1: f64,
+        n2: f64,
+        list: *mut f64,
+        list_count: usize,
+    ) -> u64;
+    fn dihkelu_surface_fresnel_jones(
+        n1: f64,
+        n2: f64,
+        angle_i_rad: f64,
+        list: *mut f64,
+        list_count: usize,
+    ) -> u64;
+    fn dihkelu_quarter_wave_ar(
+        n_ambient: f64,
+        n_substrate: f64,
+        design_wavelength_nm: f64,
+        list: *mut f64,
+        list_count: usize,
+    ) -> u64;
+    fn dihkelu_bragg_mirror(
+        n_high: f64,
+        n_low: f64,
+        pairs: u32,
+        design_wavelength_nm: f64,
+        list: *mut f64,
+        list_count: usize,
+    ) -> u64;
+    fn dihkelu_coating_from_name(name: *const u8, name_count: usize) -> u64;
+    fn dihkelu_to_stokes(
+        field: *const f64,
+        field_count: usize,
+        list: *mut f64,
+        list_count: usize,
+    ) -> u64;
+    fn dihkelu_jones_normalize(
+        field: *const f64,
+        field_count: usize,
+        list: *mut f64,
+        list_count: usize,
+    ) -> u64;
+    fn dihkelu_jones_intensity(
+        field: *const f64,
+        field_count: usize,
+        list: *mut f64,
+        list_count: usize,
+    ) -> u64;
+    fn dihkelu_stokes_figures(
+        beam: *const f64,
+        beam_count: usize,
+        list: *mut f64,
+        list_count: usize,
+    ) -> u64;
+    fn dihkelu_jones_apply(
+        matrix: *const f64,
+        matrix_count: usize,
+        field: *const f64,
+        field_count: usize,
+        list: *mut f64,
+        list_count: usize,
+    ) -> u64;
+    fn dihkelu_jones_mul(
+        left: *const f64,
+        left_count: usize,
+        right: *const f64,
+        right_count: usize,
+        list: *mut f64,
+        list_count: usize,
+    ) -> u64;
+    fn dihkelu_mueller_apply(
+        matrix: *const f64,
+        matrix_count: usize,
+        beam: *const f64,
+        beam_count: usize,
+        list: *mut f64,
+        list_count: usize,
+    ) -> u64;
+    fn dihkelu_diattenuator(
+        amplitudes: *const f64,
+        amplitudes_count: usize,
+        list: *mut f64,
+        list_count: usize,
+    ) -> u64;
+    fn dihkelu_linear_polarizer(angle_rad: f64, list: *mut f64, list_count: usize) -> u64;
+    fn dihkelu_retarder(
+        retardance_rad: f64,
+        fast_axis_rad: f64,
+        list: *mut f64,
+        list_count: usize,
+    ) -> u64;
+    fn dihkelu_quarter_wave_plate(fast_axis_rad: f64, list: *mut f64, list_count: usize) -> u64;
+    fn dihkelu_half_wave_plate(fast_axis_rad: f64, list: *mut f64, list_count: usize) -> u64;
 }
 
 /// The version that these declarations are of: major × 2^16 + minor.
@@ -378,6 +485,179 @@ pub fn quarter_waves(
     remainder_nm: &mut f64,
 ) -> Result<u32, Refusal> {
     outcome(unsafe { dihkelu_quarter_waves(n, thickness_nm, wavelength_nm, remainder_nm) })
+}
+
+/// Rs and Rp of a dielectric interface: writes both, gives 2.
+pub fn fresnel_dielectric(
+    cos_theta_i: f64,
+    n1: f64,
+    n2: f64,
+    list: &mut [f64],
+) -> Result<u32, Refusal> {
+    let (at, count) = (list.as_mut_ptr(), list.len());
+    outcome(unsafe { dihkelu_fresnel_dielectric(cos_theta_i, n1, n2, at, count) })
+}
+
+/// R and T of unpolarized light: writes both, gives 2.
+pub fn fresnel_unpolarized(
+    cos_theta_i: f64,
+    n1: f64,
+    n2: f64,
+    list: &mut [f64],
+) -> Result<u32, Refusal> {
+    let (at, count) = (list.as_mut_ptr(), list.len());
+    outcome(unsafe { dihkelu_fresnel_unpolarized(cos_theta_i, n1, n2, at, count) })
+}
+
+/// Schlick's approximation: writes it, gives 1.
+pub fn schlick_approx(
+    cos_theta_i: f64,
+    n1: f64,
+    n2: f64,
+    list: &mut [f64],
+) -> Result<u32, Refusal> {
+    let (at, count) = (list.as_mut_ptr(), list.len());
+    outcome(unsafe { dihkelu_schlick_approx(cos_theta_i, n1, n2, at, count) })
+}
+
+/// The Jones matrices of a bare surface, reflected and transmitted: writes them, gives 16.
+pub fn surface_fresnel_jones(
+    n1: f64,
+    n2: f64,
+    angle_i_rad: f64,
+    list: &mut [f64],
+) -> Result<u32, Refusal> {
+    let (at, count) = (list.as_mut_ptr(), list.len());
+    outcome(unsafe { dihkelu_surface_fresnel_jones(n1, n2, angle_i_rad, at, count) })
+}
+
+/// A quarter-wave layer: writes n, k, thickness, gives 3.
+pub fn quarter_wave_ar(
+    n_ambient: f64,
+    n_substrate: f64,
+    design_wavelength_nm: f64,
+    list: &mut [f64],
+) -> Result<u32, Refusal> {
+    let (at, count) = (list.as_mut_ptr(), list.len());
+    outcome(unsafe {
+        dihkelu_quarter_wave_ar(n_ambient, n_substrate, design_wavelength_nm, at, count)
+    })
+}
+
+/// (H L)^pairs H: writes n, k, thickness of one layer after the other, gives how many numbers these are.
+pub fn bragg_mirror(
+    n_high: f64,
+    n_low: f64,
+    pairs: u32,
+    design_wavelength_nm: f64,
+    list: &mut [f64],
+) -> Result<u32, Refusal> {
+    let (at, count) = (list.as_mut_ptr(), list.len());
+    outcome(unsafe { dihkelu_bragg_mirror(n_high, n_low, pairs, design_wavelength_nm, at, count) })
+}
+
+/// The code that `evaluate` has the coating of a name by; 0 for none.
+pub fn coating_from_name(name: &[u8]) -> Result<u32, Refusal> {
+    outcome(unsafe { dihkelu_coating_from_name(name.as_ptr(), name.len()) })
+}
+
+/// The Stokes vector of a Jones vector: writes it, gives 4.
+pub fn to_stokes(field: &[f64], list: &mut [f64]) -> Result<u32, Refusal> {
+    let (at, count) = (list.as_mut_ptr(), list.len());
+    outcome(unsafe { dihkelu_to_stokes(field.as_ptr(), field.len(), at, count) })
+}
+
+/// A Jones vector at intensity 1: writes it, gives 4.
+pub fn jones_normalize(field: &[f64], list: &mut [f64]) -> Result<u32, Refusal> {
+    let (at, count) = (list.as_mut_ptr(), list.len());
+    outcome(unsafe { dihkelu_jones_normalize(field.as_ptr(), field.len(), at, count) })
+}
+
+/// A Jones vector's intensity: writes it, gives 1.
+pub fn jones_intensity(field: &[f64], list: &mut [f64]) -> Result<u32, Refusal> {
+    let (at, count) = (list.as_mut_ptr(), list.len());
+    outcome(unsafe { dihkelu_jones_intensity(field.as_ptr(), field.len(), at, count) })
+}
+
+/// A Stokes vector's degrees of polarization, orientation and ellipticity: writes them, gives 5.
+pub fn stokes_figures(beam: &[f64], list: &mut [f64]) -> Result<u32, Refusal> {
+    let (at, count) = (list.as_mut_ptr(), list.len());
+    outcome(unsafe { dihkelu_stokes_figures(beam.as_ptr(), beam.len(), at, count) })
+}
+
+/// A Jones matrix applied to a Jones vector: writes it, gives 4.
+pub fn jones_apply(matrix: &[f64], field: &[f64], list: &mut [f64]) -> Result<u32, Refusal> {
+    let (at, count) = (list.as_mut_ptr(), list.len());
+    outcome(unsafe {
+        dihkelu_jones_apply(
+            matrix.as_ptr(),
+            matrix.len(),
+            field.as_ptr(),
+            field.len(),
+            at,
+            count,
+        )
+    })
+}
+
+/// The product of two Jones matrices: writes it, gives 8.
+pub fn jones_mul(left: &[f64], right: &[f64], list: &mut [f64]) -> Result<u32, Refusal> {
+    let (at, count) = (list.as_mut_ptr(), list.len());
+    outcome(unsafe {
+        dihkelu_jones_mul(
+            left.as_ptr(),
+            left.len(),
+            right.as_ptr(),
+            right.len(),
+            at,
+            count,
+        )
+    })
+}
+
+/// A Mueller matrix applied to a Stokes vector: writes it, gives 4.
+pub fn mueller_apply(matrix: &[f64], beam: &[f64], list: &mut [f64]) -> Result<u32, Refusal> {
+    let (at, count) = (list.as_mut_ptr(), list.len());
+    outcome(unsafe {
+        dihkelu_mueller_apply(
+            matrix.as_ptr(),
+            matrix.len(),
+            beam.as_ptr(),
+            beam.len(),
+            at,
+            count,
+        )
+    })
+}
+
+/// A diattenuator of two amplitudes: writes its Jones matrix, gives 8.
+pub fn diattenuator(amplitudes: &[f64], list: &mut [f64]) -> Result<u32, Refusal> {
+    let (at, count) = (list.as_mut_ptr(), list.len());
+    outcome(unsafe { dihkelu_diattenuator(amplitudes.as_ptr(), amplitudes.len(), at, count) })
+}
+
+/// A linear polarizer at an angle: writes its Jones matrix, gives 8.
+pub fn linear_polarizer(angle_rad: f64, list: &mut [f64]) -> Result<u32, Refusal> {
+    let (at, count) = (list.as_mut_ptr(), list.len());
+    outcome(unsafe { dihkelu_linear_polarizer(angle_rad, at, count) })
+}
+
+/// A retarder: writes its Jones matrix, gives 8.
+pub fn retarder(retardance_rad: f64, fast_axis_rad: f64, list: &mut [f64]) -> Result<u32, Refusal> {
+    let (at, count) = (list.as_mut_ptr(), list.len());
+    outcome(unsafe { dihkelu_retarder(retardance_rad, fast_axis_rad, at, count) })
+}
+
+/// A quarter-wave plate: writes its Jones matrix, gives 8.
+pub fn quarter_wave_plate(fast_axis_rad: f64, list: &mut [f64]) -> Result<u32, Refusal> {
+    let (at, count) = (list.as_mut_ptr(), list.len());
+    outcome(unsafe { dihkelu_quarter_wave_plate(fast_axis_rad, at, count) })
+}
+
+/// A half-wave plate: writes its Jones matrix, gives 8.
+pub fn half_wave_plate(fast_axis_rad: f64, list: &mut [f64]) -> Result<u32, Refusal> {
+    let (at, count) = (list.as_mut_ptr(), list.len());
+    outcome(unsafe { dihkelu_half_wave_plate(fast_axis_rad, at, count) })
 }
 
 /// Whether subnormals are kept and rounding is to nearest, as dihkelu_environment_ok of the header finds out. A Rust

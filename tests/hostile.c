@@ -373,6 +373,72 @@ static void mueller_calls(void) {
     free(jones);
 }
 
+/* Single functions of the Rust: what each returns and writes, whatever its numbers. */
+static void single_calls(void) {
+    typedef uint64_t Three(double, double, double, double *, size_t);
+    typedef uint64_t One(const double *, size_t, double *, size_t);
+    typedef uint64_t Two(const double *, size_t, const double *, size_t, double *, size_t);
+    static Three *const threes[] = {dihkelu_fresnel_dielectric, dihkelu_fresnel_unpolarized, dihkelu_schlick_approx,
+                                    dihkelu_surface_fresnel_jones, dihkelu_quarter_wave_ar};
+    static const size_t three_gives[] = {2, 2, 1, 16, 3};
+    static One *const ones[] = {dihkelu_to_stokes, dihkelu_jones_normalize, dihkelu_jones_intensity, dihkelu_stokes_figures, dihkelu_diattenuator};
+    static const size_t one_gives[] = {4, 4, 1, 5, 8};
+    static Two *const twos[] = {dihkelu_jones_apply, dihkelu_jones_mul, dihkelu_mueller_apply};
+    static const size_t two_takes[][2] = {{8, 4}, {8, 8}, {16, 4}}, two_gives[] = {4, 8, 4};
+    const uint64_t short_list = 8ull << 32, none = 1ull << 32;
+    size_t i = below(5), n = below(20);
+    List l = lend(n);
+    uint64_t r = threes[i](any(), any(), any(), (double *)l.now, n);
+    if (r != (n < three_gives[i] ? short_list : three_gives[i]) && !(i == 3 && r == none)) wrong("a single function", "another number", r);
+    leave("a single function", l, r, BIT(8) | (i == 3 ? BIT(1) : 0u), three_gives[i]);
+
+    size_t count = below(4) ? 4 : below(8);
+    double *numbers = block(8 * count);
+    for (size_t j = 0; j < count; j++) numbers[j] = any();
+    i = below(5), n = below(12), l = lend(n);
+    r = ones[i](numbers, count, (double *)l.now, n);
+    if (r != (count != 4 ? none : n < one_gives[i] ? short_list : one_gives[i])) wrong("a function of 4 numbers", "another number", r);
+    leave("a function of 4 numbers", l, r, BIT(1) | BIT(8), one_gives[i]);
+    free(numbers);
+
+    i = below(3), n = below(12), l = lend(n);
+    size_t first = below(6) ? two_takes[i][0] : below(20), second = below(6) ? two_takes[i][1] : below(20);
+    double *matrix = block(8 * first);
+    numbers = block(8 * second);
+    for (size_t j = 0; j < first; j++) matrix[j] = any();
+    for (size_t j = 0; j < second; j++) numbers[j] = any();
+    r = twos[i](matrix, first, numbers, second, (double *)l.now, n);
+    int fit = first == two_takes[i][0] && second == two_takes[i][1];
+    if (r != (!fit ? none : n < two_gives[i] ? short_list : two_gives[i])) wrong("a function of two lists", "another number", r);
+    leave("a function of two lists", l, r, BIT(1) | BIT(8), two_gives[i]);
+    free(matrix);
+    free(numbers);
+
+    n = below(12), l = lend(n);
+    i = below(4);
+    double *out = (double *)l.now;
+    r = i == 0 ? dihkelu_linear_polarizer(any(), out, n) : i == 1 ? dihkelu_retarder(any(), any(), out, n) : i == 2 ? dihkelu_quarter_wave_plate(any(), out, n) : dihkelu_half_wave_plate(any(), out, n);
+    if (r != (n < 8 ? short_list : 8)) wrong("a plate", "another number", r);
+    leave("a plate", l, r, BIT(8), 8);
+
+    uint32_t pairs = below(4) ? (uint32_t)below(40) : (uint32_t)draw();
+    size_t layers = pairs > 31 ? 0 : 3 * (2 * (size_t)pairs + 1);
+    n = below(3) ? below(200) : layers, l = lend(n);
+    r = dihkelu_bragg_mirror(any(), any(), pairs, any(), (double *)l.now, n);
+    if (r != (pairs > 31 ? 3ull << 32 : n < layers ? short_list : layers)) wrong("bragg_mirror", "another number", r);
+    leave("bragg_mirror", l, r, BIT(3) | BIT(8), layers);
+
+    size_t size = below(8) ? below(12) : below(50), over = 0;
+    uint8_t *name = block(size);
+    for (size_t j = 0; j < size; j++) name[j] = below(60) ? (uint8_t)(32 + below(96)) : (uint8_t)draw();
+    while (over < size && name[over] < 128) over++;
+    r = dihkelu_coating_from_name(name, size);
+    calls++;
+    if (size > 32 ? r != (2ull << 32 | 32) : over < size ? r != (2ull << 32 | over) : r > 4) wrong("coating_from_name", "another number", r);
+    refusals[dihkelu_refusal(r)]++;
+    free(name);
+}
+
 /* An index: an end of what is allowed or a neighbour of it, an index of glass, or any number. */
 static double range_end(void) {
     static const double some[] = {1.0, 4.0, 1.38, 1.5, 1.52, 2.3, 3.0, 0.99999999999999989, 1.0000000000000002, 3.9999999999999996, 4.0000000000000009};
@@ -470,6 +536,11 @@ static void null_calls(void) {
     w = 550.0;
     expect("evaluate_list", dihkelu_evaluate_list(1, 0.0, 1.0, 1.5, &s, 1, &w, 1, NULL, 0, NULL, 0), eight);
     expect("evaluate_list", dihkelu_evaluate_list(1, 0.0, 1.0, 1.5, &s, 1, &w, 1, NULL, 0, list, 16), 16);
+    expect("to_stokes", dihkelu_to_stokes(NULL, 0, NULL, 0), 1ull << 32);
+    expect("jones_apply", dihkelu_jones_apply(NULL, 0, NULL, 0, NULL, 0), 1ull << 32);
+    expect("linear_polarizer", dihkelu_linear_polarizer(0.0, NULL, 0), eight);
+    expect("bragg_mirror", dihkelu_bragg_mirror(2.3, 1.46, 7, 550.0, NULL, 0), eight);
+    expect("coating_from_name", dihkelu_coating_from_name(NULL, 0), 0);
     for (uint32_t code = 1; code <= 8; code++) {
         expect("evaluate", dihkelu_evaluate(code, 550.0, 1.0, 1.5, 0.3, 550.0, NULL, 0, list, DIHKELU_RESPONSE), DIHKELU_RESPONSE);
         expect("evaluate", dihkelu_evaluate(code, 550.0, 1.0, 1.5, 0.3, 550.0, NULL, 0, NULL, 0), eight);
@@ -527,6 +598,7 @@ int main(int count, char **words) {
         for (int i = 0; i < 16; i++) list_calls();
         for (int i = 0; i < 16; i++) stack_calls();
         for (int i = 0; i < 16; i++) mueller_calls();
+        for (int i = 0; i < 16; i++) single_calls();
         for (int i = 0; i < 16; i++) range_calls();
         for (int i = 0; i < 16; i++) quarter_waves_calls();
     }

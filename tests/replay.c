@@ -57,6 +57,47 @@ static double *numbers_of(const uint64_t *w, size_t count) {
     return x;
 }
 
+/* A list of numbers behind its count, and the words behind it. */
+typedef struct {
+    double *numbers;
+    size_t count;
+    const uint64_t *rest;
+} Lent;
+
+static Lent lent(const uint64_t *w) {
+    Lent l = {numbers_of(w + 1, (size_t)w[0]), (size_t)w[0], w + 1 + w[0]};
+    return l;
+}
+
+/* Single functions of the Rust, 208 to 226 but 214: the list's length first, then numbers or lists of numbers. */
+static uint64_t single(unsigned function, const uint64_t *a, double *list, size_t n) {
+    double x = number(a[0]), y = number(a[1]), z = number(a[2]);
+    if (function == 208) return dihkelu_fresnel_dielectric(x, y, z, list, n);
+    if (function == 209) return dihkelu_fresnel_unpolarized(x, y, z, list, n);
+    if (function == 210) return dihkelu_schlick_approx(x, y, z, list, n);
+    if (function == 211) return dihkelu_surface_fresnel_jones(x, y, z, list, n);
+    if (function == 212) return dihkelu_quarter_wave_ar(x, y, z, list, n);
+    if (function == 213) return dihkelu_bragg_mirror(x, y, (uint32_t)a[2], number(a[3]), list, n);
+    if (function == 223) return dihkelu_linear_polarizer(x, list, n);
+    if (function == 224) return dihkelu_retarder(x, y, list, n);
+    if (function == 225) return dihkelu_quarter_wave_plate(x, list, n);
+    if (function == 226) return dihkelu_half_wave_plate(x, list, n);
+    Lent one = lent(a), two = {NULL, 0, NULL};
+    if (function >= 219 && function <= 221) two = lent(one.rest);
+    uint64_t returned = 0;
+    if (function == 215) returned = dihkelu_to_stokes(one.numbers, one.count, list, n);
+    if (function == 216) returned = dihkelu_jones_normalize(one.numbers, one.count, list, n);
+    if (function == 217) returned = dihkelu_jones_intensity(one.numbers, one.count, list, n);
+    if (function == 218) returned = dihkelu_stokes_figures(one.numbers, one.count, list, n);
+    if (function == 219) returned = dihkelu_jones_apply(one.numbers, one.count, two.numbers, two.count, list, n);
+    if (function == 220) returned = dihkelu_jones_mul(one.numbers, one.count, two.numbers, two.count, list, n);
+    if (function == 221) returned = dihkelu_mueller_apply(one.numbers, one.count, two.numbers, two.count, list, n);
+    if (function == 222) returned = dihkelu_diattenuator(one.numbers, one.count, list, n);
+    free(one.numbers);
+    free(two.numbers);
+    return returned;
+}
+
 /* A call of a record: writes its results to `found` and gives how many; 0 for a function that is no call of the header. */
 static size_t call(unsigned function) {
     const uint64_t *a = arguments;
@@ -111,9 +152,16 @@ static size_t call(unsigned function) {
         found[0] = dihkelu_invalid_argument(number(a[0]), number(a[1]), number(a[2]), number(a[3]));
         return 1;
     }
-    if (function != 205 && function != 206 && (function < 183 || function > 189)) return 0;
+    if (function == 214) {
+        bytes = bytes_of(a, &count);
+        found[0] = dihkelu_coating_from_name(bytes, count);
+        free(bytes);
+        return 1;
+    }
+    if ((function < 205 || function > 226) && (function < 183 || function > 189)) return 0;
     double *list = block(8 * list_count);
     for (size_t i = 0; i < list_count; i++) list[i] = -7.25;
+    if (function > 207) found[0] = single(function, a + 1, list, list_count);
     if (function == 183) found[0] = dihkelu_run(bytes, count, list, list_count);
     if (function == 205) {
         size_t lines = (size_t)a[1], weighed = (size_t)a[2];

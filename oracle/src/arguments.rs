@@ -1,7 +1,7 @@
 // Arguments of the recorded functions: what each may be, and random choices.
 
 use crate::band;
-use crate::functions::{born_wolf, edition_1, exports, names, quarter_waves, shorthand, train};
+use crate::functions::{born_wolf, calls, edition_1, exports, names, quarter_waves, shorthand, train};
 use crate::ranges;
 use crate::section2::{PI, T};
 use crate::values::{any, multiple, neighbour, optical, short, square, subnormal, Rng, CORE};
@@ -91,6 +91,12 @@ pub enum Arg {
     CasesRoom,
     /// Counts of angles and of wavelengths, seldom unequal, then each of these.
     Cases,
+    /// The length of a list that holds what a single function gives.
+    CallRoom,
+    /// A count of numbers, seldom other than 4, and the numbers.
+    Four,
+    /// The same of 16.
+    Sixteen,
 }
 
 /// How an argument is chosen.
@@ -233,6 +239,9 @@ impl Arg {
             Arg::Flat => exports::push_flat(rng, style, words),
             Arg::CasesRoom => words.push(rng.pick(&exports::CASES_ROOMS)),
             Arg::Cases => exports::push_cases(rng, style, words),
+            Arg::CallRoom => words.push(rng.pick(&calls::CALL_ROOMS)),
+            Arg::Four => calls::push_numbers(rng, style, 4, words),
+            Arg::Sixteen => calls::push_numbers(rng, style, 16, words),
             _ => words.push(self.float(rng, style).to_bits()),
         }
     }

@@ -10,7 +10,7 @@ use crate::record::{bits, Arguments};
 use crate::values::Rng;
 
 /// The numbers of these calls.
-pub const NUMBERS: std::ops::RangeInclusive<u16> = 206..=207;
+pub const NUMBERS: std::ops::RangeInclusive<u16> = 206..=226;
 
 /// A list as it is lent.
 fn lent(room: u64) -> Vec<f64> {
@@ -44,6 +44,42 @@ fn made(number: u16, words: &[u64]) -> Vec<u64> {
             left(outcome, &list)
         }
         207 => vec![u64::from(dihkelu::invalid_argument(a.floats()))],
+        214 => vec![returned(dihkelu::coating_from_name(&a.bytes()))],
+        _ => {
+            let mut list = lent(a.int());
+            let outcome = single(number, a, &mut list);
+            left(outcome, &list)
+        }
+    }
+}
+
+/// A count, then so many numbers.
+fn numbers(a: &mut Arguments) -> Vec<f64> {
+    let count = a.int();
+    floats(a, count)
+}
+
+/// A call that writes to a list and takes numbers and lists of them alone.
+fn single(number: u16, a: &mut Arguments, list: &mut [f64]) -> Result<u32, dihkelu::Refusal> {
+    match number {
+        208 => dihkelu::fresnel_dielectric(a.float(), a.float(), a.float(), list),
+        209 => dihkelu::fresnel_unpolarized(a.float(), a.float(), a.float(), list),
+        210 => dihkelu::schlick_approx(a.float(), a.float(), a.float(), list),
+        211 => dihkelu::surface_fresnel_jones(a.float(), a.float(), a.float(), list),
+        212 => dihkelu::quarter_wave_ar(a.float(), a.float(), a.float(), list),
+        213 => dihkelu::bragg_mirror(a.float(), a.float(), a.int() as u32, a.float(), list),
+        215 => dihkelu::to_stokes(&numbers(a), list),
+        216 => dihkelu::jones_normalize(&numbers(a), list),
+        217 => dihkelu::jones_intensity(&numbers(a), list),
+        218 => dihkelu::stokes_figures(&numbers(a), list),
+        219 => dihkelu::jones_apply(&numbers(a), &numbers(a), list),
+        220 => dihkelu::jones_mul(&numbers(a), &numbers(a), list),
+        221 => dihkelu::mueller_apply(&numbers(a), &numbers(a), list),
+        222 => dihkelu::diattenuator(&numbers(a), list),
+        223 => dihkelu::linear_polarizer(a.float(), list),
+        224 => dihkelu::retarder(a.float(), a.float(), list),
+        225 => dihkelu::quarter_wave_plate(a.float(), list),
+        226 => dihkelu::half_wave_plate(a.float(), list),
         _ => unreachable!("no such call"),
     }
 }

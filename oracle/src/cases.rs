@@ -2,7 +2,7 @@
 
 use crate::arguments::{Arg, Style};
 use crate::band;
-use crate::functions::{born_wolf, edition_1, exports, names, quarter_waves, shorthand, train};
+use crate::functions::{born_wolf, calls, edition_1, exports, names, quarter_waves, shorthand, train};
 use crate::section2::PI;
 use crate::values::{neighbour, specials, Rng, CORE};
 
@@ -65,6 +65,9 @@ impl Arg {
             Arg::Flat => exports::flat_cases(),
             Arg::CasesRoom => single(&exports::CASES_ROOMS),
             Arg::Cases => exports::case_cases(),
+            Arg::CallRoom => single(&calls::CALL_ROOMS),
+            Arg::Four => calls::number_cases(4),
+            Arg::Sixteen => calls::number_cases(16),
             _ => CORE.iter().map(|x| vec![x.to_bits()]).collect(),
         }
     }

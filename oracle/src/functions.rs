@@ -6,6 +6,7 @@ use crate::record::{Arguments, Record, Words};
 use crate::values::Rng;
 
 pub mod born_wolf;
+pub mod calls;
 pub mod complex;
 pub mod edition_1;
 pub mod exports;
@@ -18,7 +19,7 @@ pub mod thin_film;
 pub mod train;
 
 /// The groups, in the order of their numbers.
-pub const GROUPS: [&str; 14] = [
+pub const GROUPS: [&str; 15] = [
     "ieee",
     "elementary",
     "complex",
@@ -33,6 +34,7 @@ pub const GROUPS: [&str; 14] = [
     "train",
     "exports",
     "edition_1",
+    "calls",
 ];
 
 /// The default sample: the fewest records in all, the fewest random ones, and the most bytes, which win.
@@ -87,6 +89,7 @@ pub fn table() -> Vec<Function> {
     all.extend(train::table());
     all.extend(exports::table());
     all.extend(edition_1::table());
+    all.extend(calls::table());
     all.sort_by_key(|f| f.number);
     all
 }

@@ -24,6 +24,10 @@ rust-numbers r =
 abbrev pub response-numbers : CoatingResponse → List Float
 response-numbers r = rust-numbers r ++ r .«absorptance_s» ∷ r .«absorptance_p» ∷ []
 
+-- one number
+abbrev pub alone : Float → Reply
+alone x = counted (x ∷ [])
+
 -- two numbers, and what is returned for them
 abbrev pub both : ℕ → Float → Float → Reply
 both returned a b = reply returned (a ∷ b ∷ [])
@@ -41,6 +45,14 @@ abbrev pub jones-numbers : JonesMatrix → List Float
 jones-numbers j =
     Jones.entry j 0 .re ∷ Jones.entry j 0 .im ∷ Jones.entry j 1 .re ∷ Jones.entry j 1 .im
     ∷ Jones.entry j 2 .re ∷ Jones.entry j 2 .im ∷ Jones.entry j 3 .re ∷ Jones.entry j 3 .im ∷ []
+
+-- a Jones matrix: 8 numbers
+abbrev pub entries : JonesMatrix → Reply
+entries j = counted (jones-numbers j)
+
+-- one, then another: 16 numbers
+abbrev pub two-entries : JonesMatrix → JonesMatrix → Reply
+two-entries j k = counted (jones-numbers j ++ jones-numbers k)
 
 -- row after row
 abbrev pub mueller-numbers : MuellerMatrix → List Float

@@ -5,7 +5,7 @@ ghost use mathlib.Core.List.{_++_};
 ghost use Prim.Native.Nat.{_+_, _%_, _^_, _≤_};
 ghost use lib.ListN.{length, take, drop};
 ghost use Rattle.c_call.specs.Call.{done, packed, reply, written};
-ghost use Rattle.c_call.specs.Layout.{response-numbers, jones-numbers, mueller-numbers, rows, head, common, both, evaluated, surface-answered};
+ghost use Rattle.c_call.specs.Layout.{response-numbers, jones-numbers, mueller-numbers, rows, head, common, alone, both, entries, two-entries, evaluated, surface-answered};
 use polarization_mueller::JonesMatrix;
 use polarization_mueller::MuellerMatrix;
 use refusal::Refusal;
@@ -32,7 +32,7 @@ fn place(at: usize, numbers: &[f64], list: &mut [f64])
 }
 
 // Numbers at the front of a list that is long enough, and what is returned for them.
-fn put(returned: u64, numbers: &[f64], list: &mut [f64]) -> u64
+pub fn put(returned: u64, numbers: &[f64], list: &mut [f64]) -> u64
     ensures { λ n. ⌜ done n (now (list .exit)) ≡ written (reply returned (now (numbers .entry))) (now (list .entry)) ⌝ }
 {
     if list.len() < numbers.len() {
@@ -48,6 +48,14 @@ pub fn put_both(returned: u64, a: f64, b: f64, list: &mut [f64]) -> u64
 {
     let numbers = [a, b];
     put(returned, &numbers, list)
+}
+
+// One number alone.
+pub fn put_one(x: f64, list: &mut [f64]) -> u64
+    ensures { λ n. ⌜ done n (now (list .exit)) ≡ written (alone x) (now (list .entry)) ⌝ }
+{
+    let numbers = [x];
+    put(1, &numbers, list)
 }
 
 // ---- a response
@@ -98,6 +106,48 @@ fn jones(j: JonesMatrix) -> [f64; 8]
     let c = m[2];
     let d = m[3];
     [a.re, a.im, b.re, b.im, c.re, c.im, d.re, d.im]
+}
+
+// A Jones matrix by its numbers.
+pub fn put_jones(j: JonesMatrix, list: &mut [f64]) -> u64
+    ensures { λ n. ⌜ done n (now (list .exit)) ≡ written (entries j) (now (list .entry)) ⌝ }
+{
+    let numbers = jones(j);
+    put(8, &numbers, list)
+}
+
+// Two Jones matrices, one after the other.
+fn two_jones(j: JonesMatrix, k: JonesMatrix) -> [f64; 16]
+    ensures { λ n. ⌜ n ≡ jones-numbers j ++ jones-numbers k ⌝ }
+{
+    let a = jones(j);
+    let b = jones(k);
+    [
+        a[0],
+        a[1],
+        a[2],
+        a[3],
+        a[4],
+        a[5],
+        a[6],
+        a[7],
+        b[0],
+        b[1],
+        b[2],
+        b[3],
+        b[4],
+        b[5],
+        b[6],
+        b[7],
+    ]
+}
+
+// The same by their numbers.
+pub fn put_two_jones(j: JonesMatrix, k: JonesMatrix, list: &mut [f64]) -> u64
+    ensures { λ n. ⌜ done n (now (list .exit)) ≡ written (two-entries j k) (now (list .entry)) ⌝ }
+{
+    let numbers = two_jones(j, k);
+    put(16, &numbers, list)
 }
 
 fn mueller(m: MuellerMatrix) -> [f64; 16]

@@ -5,3 +5,4 @@ pub mod Band
 pub mod Moved
 pub mod Rewritten
 pub mod Numbers
+pub mod Functions

@@ -52,7 +52,7 @@ use Rattle.dihkelu.proofs.Rewritten.{Fine, Small, fine}
 use Rattle.dihkelu.proofs.Band.{band-sound, band-small}
 
 -- ---- one number
-tells-answer : (n : ℕ) → n < 2 ^ 32 → Tells (answer n) n
+pub tells-answer : (n : ℕ) → n < 2 ^ 32 → Tells (answer n) n
 tells-answer n h = (omega arith, omega arith)
 
 tells-refusal : (number place : ℕ) → 0 < number → place < 2 ^ 32 → Tells (refusal number place) (packed number place)
@@ -61,7 +61,7 @@ tells-refusal number place h k = (h, (omega arith, omega arith))
 tells-short : Tells (refusal 8 0) (packed 8 0)
 tells-short = tells-refusal 8 0 (lit< tt) (lit< tt)
 
-tells-fine : (o : Outcome ℕ) → Fine Small o → Tells o (returned o)
+pub tells-fine : (o : Outcome ℕ) → Fine Small o → Tells o (returned o)
 tells-fine (answer n) h = tells-answer n h
 tells-fine (refusal number place) h = tells-refusal number place (h .0) (h .1)
 
@@ -71,7 +71,7 @@ tells-state number next (answer a) s small lent = tells-answer (number a) (small
 tells-state number next (refusal n place) s small lent = tells-refusal n place (s .0) (s .1)
 
 -- ---- a list that is lent
-tells : {A : Type 0} (layout : A → Reply) (o : Outcome A) → Sound o → ((a : A) → o ≡ answer a → layout a .returned < 2 ^ 32) → (list : List Float) → Tells (said layout o list) (answered layout o list .returned)
+pub tells : {A : Type 0} (layout : A → Reply) (o : Outcome A) → Sound o → ((a : A) → o ≡ answer a → layout a .returned < 2 ^ 32) → (list : List Float) → Tells (said layout o list) (answered layout o list .returned)
 tells layout (answer a) s small list = go (leb (length (layout a .numbers)) (length list)) (small a refl)
   where
     front : List Float

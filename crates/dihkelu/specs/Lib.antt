@@ -3,4 +3,5 @@ pub mod Train
 pub mod Edition
 pub mod Band
 pub mod Numbers
+pub mod Functions
 pub mod Version

@@ -7,8 +7,8 @@ ghost use Rattle.ieee.specs.Functions.{zero-f};
 ghost use Rattle.gate.specs.Gate as Gate;
 ghost use Rattle.gate.specs.Gate.{gated, gate};
 ghost use Rattle.c_layers.specs.Evaluate.{evaluate};
-ghost use Rattle.c_call.specs.Call.{done, Apart, returned, answered};
-ghost use Rattle.c_call.specs.Layout.{evaluated, surface-answered, rows};
+ghost use Rattle.c_call.specs.Call.{done, Apart, returned, written, answered};
+ghost use Rattle.c_call.specs.Layout.{evaluated, surface-answered, rows, alone, entries};
 ghost use Rattle.thin_film_shorthand.specs.Stack.{stack};
 ghost use Rattle.c_stack.specs.Stack.{stacked};
 ghost use Rattle.c_scan.specs.Scan.{evaluate-list, scanned};
@@ -20,6 +20,19 @@ ghost use Rattle.reflectance_range.specs.Range.{reflectance-range};
 ghost use Rattle.c_range.specs.Range.{ranged};
 ghost use Rattle.quarter_waves.specs.Waves.{quarter-waves};
 ghost use Rattle.c_quarter_waves.specs.Waves.{counted};
+ghost use Rattle.refusal.specs.Outcome.{map};
+ghost use Rattle.fresnel.specs.Fresnel.{fresnel-dielectric, fresnel-unpolarized, schlick-approx};
+ghost use Rattle.polarization.specs.Surface.{surface-fresnel-jones};
+ghost use Rattle.c_fresnel.specs.Fresnel.{reflectances, totals, matrices};
+ghost use Rattle.thin_film_coating.specs.Coating.{quarter-wave-layers};
+ghost use Rattle.c_presets.specs.Presets.{mirror};
+ghost use Rattle.name_coating.specs.Name.{from-format-name};
+ghost use Rattle.c_names.specs.Names.{named-code};
+ghost use Rattle.polarization_stokes.specs.Jones.{intensity, normalize, to-stokes};
+ghost use Rattle.polarization_mueller.specs.Jones.{linear-polarizer, retarder, quarter-wave-plate, half-wave-plate, diattenuator, apply, mul};
+ghost use Rattle.polarization_mueller.specs.Mueller.{apply-mueller};
+ghost use Rattle.c_mueller.specs.Mueller as Matrix;
+ghost use Rattle.c_polarization.specs.Numbers.{of, of-two, vector, stokes, mueller, parts, parameters, figures};
 ghost use Rattle.train_steps.specs.Train.{step, retune, run};
 ghost use Rattle.band.specs.Band.{band};
 ghost use Rattle.sheet_surfaces.specs.Surfaces.{surface-answers};
@@ -187,6 +200,201 @@ pub extern "C" fn dihkelu_quarter_waves(
     ensures { λ r. ⌜ done r (now («remainder_nm» .exit) ∷ []) ≡ answered counted (quarter-waves n «thickness_nm» «wavelength_nm») (now («remainder_nm» .entry) ∷ []) ⌝ }
 {
     c_quarter_waves::quarter_waves(n, thickness_nm, wavelength_nm, remainder_nm)
+}
+
+// ---- fresnel.rs
+
+// Rs and Rp of a dielectric interface: writes both and returns 2; or 8.
+#[no_mangle]
+pub extern "C" fn dihkelu_fresnel_dielectric(
+    cos_theta_i: f64,
+    n1: f64,
+    n2: f64,
+    list: &mut [f64],
+) -> u64
+    ensures { λ r. ⌜ done r (now (list .exit)) ≡ written (reflectances (fresnel-dielectric «cos_theta_i» n1 n2)) (now (list .entry)) ⌝ }
+{
+    c_fresnel::fresnel_dielectric(cos_theta_i, n1, n2, list)
+}
+
+// R and T of unpolarized light: writes both and returns 2; or 8.
+#[no_mangle]
+pub extern "C" fn dihkelu_fresnel_unpolarized(
+    cos_theta_i: f64,
+    n1: f64,
+    n2: f64,
+    list: &mut [f64],
+) -> u64
+    ensures { λ r. ⌜ done r (now (list .exit)) ≡ written (totals (fresnel-unpolarized «cos_theta_i» n1 n2)) (now (list .entry)) ⌝ }
+{
+    c_fresnel::fresnel_unpolarized(cos_theta_i, n1, n2, list)
+}
+
+// Schlick's approximation: writes it and returns 1; or 8.
+#[no_mangle]
+pub extern "C" fn dihkelu_schlick_approx(
+    cos_theta_i: f64,
+    n1: f64,
+    n2: f64,
+    list: &mut [f64],
+) -> u64
+    ensures { λ r. ⌜ done r (now (list .exit)) ≡ written (alone (schlick-approx «cos_theta_i» n1 n2)) (now (list .entry)) ⌝ }
+{
+    c_fresnel::schlick_approx(cos_theta_i, n1, n2, list)
+}
+
+// The Jones matrices of a bare surface, of the reflected light and of the transmitted: writes them and returns 16; or
+// a refusal: 1, then 8.
+#[no_mangle]
+pub extern "C" fn dihkelu_surface_fresnel_jones(
+    n1: f64,
+    n2: f64,
+    angle_i_rad: f64,
+    list: &mut [f64],
+) -> u64
+    ensures { λ r. ⌜ done r (now (list .exit)) ≡ answered matrices (surface-fresnel-jones n1 n2 «angle_i_rad») (now (list .entry)) ⌝ }
+{
+    c_fresnel::surface_fresnel_jones(n1, n2, angle_i_rad, list)
+}
+
+// ---- layers and names of coatings
+
+// Coating::quarter_wave_ar: writes n, k, thickness of its layer and returns 3; or 8.
+#[no_mangle]
+pub extern "C" fn dihkelu_quarter_wave_ar(
+    n_ambient: f64,
+    n_substrate: f64,
+    design_wavelength_nm: f64,
+    list: &mut [f64],
+) -> u64
+    ensures { λ r. ⌜ done r (now (list .exit)) ≡ written (stacked (quarter-wave-layers «n_ambient» «n_substrate» «design_wavelength_nm»)) (now (list .entry)) ⌝ }
+{
+    c_presets::quarter_wave_ar(n_ambient, n_substrate, design_wavelength_nm, list)
+}
+
+// Coating::bragg_mirror: writes n, k, thickness of one layer after the other and returns the count of these numbers; or
+// a refusal: 3 for more than 31 pairs, then 8.
+#[no_mangle]
+pub extern "C" fn dihkelu_bragg_mirror(
+    n_high: f64,
+    n_low: f64,
+    pairs: u32,
+    design_wavelength_nm: f64,
+    list: &mut [f64],
+) -> u64
+    ensures { λ r. ⌜ done r (now (list .exit)) ≡ answered stacked (mirror «n_high» «n_low» pairs «design_wavelength_nm») (now (list .entry)) ⌝ }
+{
+    c_presets::bragg_mirror(n_high, n_low, pairs, design_wavelength_nm, list)
+}
+
+// SurfaceCoating::from_format_name: returns the code that dihkelu_evaluate has the coating by, 0 for none; or a
+// refusal: 2.
+#[no_mangle]
+pub extern "C" fn dihkelu_coating_from_name(name: &[u8]) -> u64
+    ensures { λ r. ⌜ r ≡ returned (map named-code (from-format-name (now (name .entry)))) ⌝ }
+{
+    c_names::coating_from_name(name)
+}
+
+// ---- Jones and Stokes vectors: 4 numbers each, else 1; then 8
+
+// JonesVector::to_stokes: writes S0 to S3 and returns 4.
+#[no_mangle]
+pub extern "C" fn dihkelu_to_stokes(field: &[f64], list: &mut [f64]) -> u64
+    ensures { λ r. ⌜ done r (now (list .exit)) ≡ answered parameters (of 4 (λ given. to-stokes (vector given)) (now (field .entry))) (now (list .entry)) ⌝ }
+{
+    c_polarization::to_stokes(field, list)
+}
+
+// JonesVector::normalize: writes the vector and returns 4.
+#[no_mangle]
+pub extern "C" fn dihkelu_jones_normalize(field: &[f64], list: &mut [f64]) -> u64
+    ensures { λ r. ⌜ done r (now (list .exit)) ≡ answered parts (of 4 (λ given. normalize (vector given)) (now (field .entry))) (now (list .entry)) ⌝ }
+{
+    c_polarization::jones_normalize(field, list)
+}
+
+// JonesVector::intensity: writes it and returns 1.
+#[no_mangle]
+pub extern "C" fn dihkelu_jones_intensity(field: &[f64], list: &mut [f64]) -> u64
+    ensures { λ r. ⌜ done r (now (list .exit)) ≡ answered alone (of 4 (λ given. intensity (vector given)) (now (field .entry))) (now (list .entry)) ⌝ }
+{
+    c_polarization::jones_intensity(field, list)
+}
+
+// The degrees of polarization, of linear and of circular polarization, the orientation and the ellipticity: writes
+// them and returns 5.
+#[no_mangle]
+pub extern "C" fn dihkelu_stokes_figures(beam: &[f64], list: &mut [f64]) -> u64
+    ensures { λ r. ⌜ done r (now (list .exit)) ≡ answered figures (of 4 (λ given. stokes given) (now (beam .entry))) (now (list .entry)) ⌝ }
+{
+    c_polarization::stokes_figures(beam, list)
+}
+
+// ---- Jones matrices, 8 numbers, and Mueller matrices, 16
+
+// JonesMatrix::apply: writes the vector and returns 4.
+#[no_mangle]
+pub extern "C" fn dihkelu_jones_apply(matrix: &[f64], field: &[f64], list: &mut [f64]) -> u64
+    ensures { λ r. ⌜ done r (now (list .exit)) ≡ answered parts (of-two 8 4 (λ given other. apply (Matrix.jones given) (vector other)) (now (matrix .entry)) (now (field .entry))) (now (list .entry)) ⌝ }
+{
+    c_polarization::jones_apply(matrix, field, list)
+}
+
+// JonesMatrix::mul: writes the product and returns 8.
+#[no_mangle]
+pub extern "C" fn dihkelu_jones_mul(left: &[f64], right: &[f64], list: &mut [f64]) -> u64
+    ensures { λ r. ⌜ done r (now (list .exit)) ≡ answered entries (of-two 8 8 (λ given other. mul (Matrix.jones given) (Matrix.jones other)) (now (left .entry)) (now (right .entry))) (now (list .entry)) ⌝ }
+{
+    c_polarization::jones_mul(left, right, list)
+}
+
+// MuellerMatrix::apply: writes the Stokes vector and returns 4.
+#[no_mangle]
+pub extern "C" fn dihkelu_mueller_apply(matrix: &[f64], beam: &[f64], list: &mut [f64]) -> u64
+    ensures { λ r. ⌜ done r (now (list .exit)) ≡ answered parameters (of-two 16 4 (λ given other. apply-mueller (mueller given) (stokes other)) (now (matrix .entry)) (now (beam .entry))) (now (list .entry)) ⌝ }
+{
+    c_polarization::mueller_apply(matrix, beam, list)
+}
+
+// JonesMatrix::diattenuator of two amplitudes, each re, im: writes the matrix and returns 8.
+#[no_mangle]
+pub extern "C" fn dihkelu_diattenuator(amplitudes: &[f64], list: &mut [f64]) -> u64
+    ensures { λ r. ⌜ done r (now (list .exit)) ≡ answered entries (of 4 (λ given. diattenuator (vector given .ex) (vector given .ey)) (now (amplitudes .entry))) (now (list .entry)) ⌝ }
+{
+    c_polarization::diattenuator(amplitudes, list)
+}
+
+// JonesMatrix::linear_polarizer: writes the matrix and returns 8; or 8.
+#[no_mangle]
+pub extern "C" fn dihkelu_linear_polarizer(angle_rad: f64, list: &mut [f64]) -> u64
+    ensures { λ r. ⌜ done r (now (list .exit)) ≡ written (entries (linear-polarizer «angle_rad»)) (now (list .entry)) ⌝ }
+{
+    c_polarization::linear_polarizer(angle_rad, list)
+}
+
+// JonesMatrix::retarder.
+#[no_mangle]
+pub extern "C" fn dihkelu_retarder(retardance_rad: f64, fast_axis_rad: f64, list: &mut [f64]) -> u64
+    ensures { λ r. ⌜ done r (now (list .exit)) ≡ written (entries (retarder «retardance_rad» «fast_axis_rad»)) (now (list .entry)) ⌝ }
+{
+    c_polarization::retarder(retardance_rad, fast_axis_rad, list)
+}
+
+// JonesMatrix::quarter_wave_plate.
+#[no_mangle]
+pub extern "C" fn dihkelu_quarter_wave_plate(fast_axis_rad: f64, list: &mut [f64]) -> u64
+    ensures { λ r. ⌜ done r (now (list .exit)) ≡ written (entries (quarter-wave-plate «fast_axis_rad»)) (now (list .entry)) ⌝ }
+{
+    c_polarization::quarter_wave_plate(fast_axis_rad, list)
+}
+
+// JonesMatrix::half_wave_plate.
+#[no_mangle]
+pub extern "C" fn dihkelu_half_wave_plate(fast_axis_rad: f64, list: &mut [f64]) -> u64
+    ensures { λ r. ⌜ done r (now (list .exit)) ≡ written (entries (half-wave-plate «fast_axis_rad»)) (now (list .entry)) ⌝ }
+{
+    c_polarization::half_wave_plate(fast_axis_rad, list)
 }
 
 // ---- the gate and the train

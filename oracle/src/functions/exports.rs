@@ -28,16 +28,16 @@ pub const STACK_ROOMS: [u64; 10] = [0, 2, 3, 5, 6, 44, 45, 191, 192, 200];
 
 type Call = fn(&mut Arguments, &mut Words);
 
-fn packed(refusal: Refusal) -> u64 {
+pub fn packed(refusal: Refusal) -> u64 {
     refusal.number << 32 | refusal.place
 }
 
-fn refused(number: u64) -> Refusal {
+pub fn refused(number: u64) -> Refusal {
     Refusal { number, place: 0 }
 }
 
 /// What is returned, and the list of `room` numbers: those written at its front; 8 where they do not fit.
-fn leave(r: &mut Words, room: u64, answer: Result<(u64, Vec<f64>), Refusal>) {
+pub fn leave(r: &mut Words, room: u64, answer: Result<(u64, Vec<f64>), Refusal>) {
     let room = room as usize;
     let (returned, written) = match answer {
         Err(refusal) => (packed(refusal), Vec::new()),
@@ -188,7 +188,7 @@ pub fn stack(text: &[u8], n: [f64; 3], design: f64) -> Result<(u64, Vec<f64>), R
 }
 
 /// A count, then so many numbers.
-fn floats(a: &mut Arguments) -> Vec<f64> {
+pub fn floats(a: &mut Arguments) -> Vec<f64> {
     (0..a.int()).map(|_| a.float()).collect()
 }
 

@@ -1,0 +1,2 @@
+-- What is answered for a bare surface.
+pub mod Surface

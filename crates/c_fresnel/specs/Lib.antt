@@ -1,0 +1,2 @@
+-- What the calls of a bare surface write.
+pub mod Fresnel

@@ -1,0 +1,2 @@
+-- The codes that names of coatings stand for.
+pub mod Names

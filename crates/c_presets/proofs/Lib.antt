@@ -1,0 +1,2 @@
+-- The layers of a mirror by their numbers.
+pub mod Mirror

@@ -1,0 +1,2 @@
+-- The layers of a mirror, or its refusal.
+pub mod Presets
