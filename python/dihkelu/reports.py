@@ -1,0 +1,259 @@
+"""What the command prints, as data: losses surface by surface, sweeps, bands, quarter waves. Every power is a proved call's answer."""
+from __future__ import annotations
+
+import math
+from dataclasses import dataclass
+from typing import Any, Iterable, Sequence
+
+from . import explain
+from .calls import answers, band, edition_1, quarter_waves, run
+from .refusals import Refused
+from .sheet import Coating, Sheet, Surface
+from .text import COATINGS, DIRECTIONS, Made, Plan, Wrong, counted, edition, in_line, index_at, met, written
+
+
+def powers(made: Made) -> list[tuple[float, float]]:
+    """s and p after each surface."""
+    data = made.sheet.to_bytes()
+    try:
+        return run(data)
+    except Refused as refused:
+        raise explain.Turned(refused, explain.sentence(refused, data, made)) from None
+
+
+def percent_of(part: float, whole: float) -> float | None:
+    """None of nothing."""
+    return 100 * part / whole if whole else None
+
+
+# ---- losses
+
+
+@dataclass(frozen=True)
+class Loss:
+    """A surface, s and p after it, and in percent what of the light that came to it was lost; `left` is of the beam."""
+
+    number: int
+    surface: str
+    coating: str
+    follows: str
+    line: int | None
+    wavelength_nm: float
+    n_incident: float
+    n_substrate: float
+    angle_rad: float
+    s: float
+    p: float
+    s_lost_percent: float | None
+    p_lost_percent: float | None
+    lost_percent: float | None
+    stays_in_the_glass_percent: float | None  # a bare surface has no response
+    left_percent: float | None
+    lost_of_the_beam_percent: float | None
+
+
+@dataclass(frozen=True)
+class Losses:
+    surfaces: list[Loss]
+    s: float
+    p: float
+    sum: float
+    lost_percent: float | None
+    left_percent: float | None
+
+
+def called(surface: Surface) -> str:
+    layers = f", {counted(len(surface.layers), 'layer')}" if surface.layers else ""
+    ends = f"{surface.n_incident:g} to {surface.n_substrate:g}"
+    return f"{COATINGS[surface.coating]} {ends} at {math.degrees(surface.angle_rad):.2f} deg{layers}"
+
+
+def stays(data: bytes, count: int, surface: Surface, s: float, p: float) -> float | None:
+    """What of the light that comes to a coated surface is neither reflected nor transmitted, in percent (document 02, slip 2)."""
+    if surface.coating == Coating.BARE or not s + p:
+        return None
+    response = answers(data, count).response
+    return None if response is None else percent_of(s * response.absorptance_s + p * response.absorptance_p, s + p)
+
+
+def losses(made: Made, after: Sequence[tuple[float, float]] | None = None) -> Losses:
+    """What each surface loses. `after` has s and p after each, where another program has worked them out."""
+    sheet, data = made.sheet, made.sheet.to_bytes()
+    after = powers(made) if after is None else after
+    s, p = sheet.s, sheet.p
+    start, found = s + p, []
+    for count, (surface, wavelength, (new_s, new_p)) in enumerate(zip(sheet.surfaces, met(sheet), after)):
+        lost = (s + p) - (new_s + new_p)
+        found.append(
+            Loss(
+                count + 1, called(surface), COATINGS[surface.coating], DIRECTIONS[surface.reflected], made.plan.faces[count].line, wavelength,
+                surface.n_incident, surface.n_substrate, surface.angle_rad, new_s, new_p, percent_of(s - new_s, s), percent_of(p - new_p, p),
+                percent_of(lost, s + p), stays(data, count, surface, s, p), percent_of(new_s + new_p, start), percent_of(lost, start),
+            )
+        )
+        s, p = new_s, new_p
+    end = s + p
+    return Losses(found, s, p, end, percent_of(start - end, start), percent_of(end, start))
+
+
+# ---- sweeps
+
+
+@dataclass(frozen=True)
+class Point:
+    """One sheet of a sweep: s and p after each surface, or why it was refused."""
+
+    at: float
+    after: list[tuple[float, float]]
+    s: float | None
+    p: float | None
+    lost_percent: float | None
+    refused: str = ""
+
+
+def sweep_angle(plan: Plan, degrees: Iterable[float], surfaces: Sequence[int] = (1,)) -> list[Point]:
+    """The train at each angle of these surfaces, counted from 1; a window's second face follows."""
+    faces = plan.swept(list(surfaces))
+    return [_point(plan, at, None, {face: math.radians(at) for face in faces}) for at in degrees]
+
+
+def sweep_wavelength(plan: Plan, nanometres: Iterable[float]) -> list[Point]:
+    """The train at each wavelength of the beam; glasses by name have their index there."""
+    return [_point(plan, at, at, None) for at in nanometres]
+
+
+def _point(plan: Plan, at: float, wavelength: float | None, angles: dict[int, float] | None) -> Point:
+    try:
+        made = plan.make(wavelength, angles)
+        after = powers(made)
+    except Wrong as wrong:
+        return Point(at, [], None, None, None, str(wrong))
+    s, p = after[-1] if after else (plan.s, plan.p)
+    return Point(at, after, s, p, percent_of((plan.s + plan.p) - (s + p), plan.s + plan.p))
+
+
+# ---- bands
+
+
+def band_means(made: Made, lines: list[tuple[float, int, int]]) -> tuple[float, float]:
+    """The weighed means of s and of p."""
+    data = made.sheet.to_bytes()
+    try:
+        return band(data, [(wavelength, weight) for wavelength, weight, _ in lines])
+    except Refused as refused:
+        raise explain.Turned(refused, explain.band_sentence(refused, data, lines, made)) from None
+
+
+def band_each(made: Made, lines: list[tuple[float, int, int]]) -> list[tuple[float, float]]:
+    """s and p of each line alone."""
+    return [band_means(made, [(wavelength, 1, line)]) for wavelength, _, line in lines]
+
+
+# ---- quarter waves
+
+
+@dataclass(frozen=True)
+class Quarters:
+    """A layer in whole quarter waves, and what is over."""
+
+    surface: int
+    layer: int
+    n: float
+    thickness_nm: float
+    quarter_waves: int
+    over_nm: float
+
+
+def quarters(made: Made) -> list[Quarters]:
+    """Each layer of the custom surfaces, at the beam's wavelength."""
+    found, wavelength = [], made.sheet.wavelength_nm
+    for count, (face, surface) in enumerate(zip(made.plan.faces, made.sheet.surfaces), 1):
+        for number, (film, layer) in enumerate(zip(face.films, surface.layers), 1):
+            n, thickness = index_at(layer, wavelength), layer.thickness_nm
+            try:
+                found.append(Quarters(count, number, n, thickness, *quarter_waves(n, thickness, wavelength)))
+            except Refused as refused:
+                name = f"layer {number} of surface {count}{in_line(film.line)}"
+                raise explain.Turned(refused, f"{name}: {explain.film_missed(n, thickness, wavelength)}") from None
+    if not found:
+        raise Wrong("no surface has layers of its own")
+    return found
+
+
+# ---- sheets
+
+
+def for_edition_1(made: Made) -> bytes:
+    """The sheet for programs that read edition 1 only."""
+    data = made.sheet.to_bytes()
+    try:
+        return edition_1(data)
+    except Refused as refused:
+        raise explain.Turned(refused, explain.sentence(refused, data, made)) from None
+
+
+def summary(sheet: Sheet) -> str:
+    return f"{counted(len(sheet.surfaces), 'surface')}, edition {edition(sheet)}, {counted(len(sheet.to_bytes()), 'byte')}"
+
+
+# ---- tables of the reports
+
+
+def percent(x: float | None) -> str:
+    """Four places; what rounds to zero has no sign."""
+    return "-" if x is None else f"{x:.4f}".replace("-0.0000", "0.0000")
+
+
+def aligned(rows: list[list[str]], left: Sequence[int] = ()) -> str:
+    """Columns with two spaces between; those of `left` begin in one line."""
+    widths = [max(len(row[i]) for row in rows) for i in range(len(rows[0]))]
+    cells = ([cell.ljust(width) if i in left else cell.rjust(width) for i, (cell, width) in enumerate(zip(row, widths))] for row in rows)
+    return "".join("  ".join(row).rstrip() + "\n" for row in cells)
+
+
+def losses_table(found: Losses) -> str:
+    rows = [["", "surface", "nm", "follows", "s lost %", "p lost %", "lost %", "stays in the glass %", "left of the beam %"]]
+    for one in found.surfaces:
+        shares = [one.s_lost_percent, one.p_lost_percent, one.lost_percent, one.stays_in_the_glass_percent, one.left_percent]
+        rows.append([str(one.number), one.surface, f"{one.wavelength_nm:g}", one.follows, *map(percent, shares)])
+    ends = f"s {found.s + 0.0:.6g}, p {found.p + 0.0:.6g}, sum {found.sum + 0.0:.6g}"  # + 0.0 takes the sign from a zero
+    return aligned(rows, (1, 3)) + f"whole train: {percent(found.lost_percent)} % lost, {percent(found.left_percent)} % left ({ends})\n"
+
+
+def quarters_table(found: list[Quarters], wavelength: float) -> str:
+    rows = [["surface", "layer", "n", "thickness nm", "quarter waves", "over nm"]]
+    rows += [[str(x.surface), str(x.layer), written(x.n), written(x.thickness_nm), str(x.quarter_waves), written(x.over_nm)] for x in found]
+    return f"a quarter wave of {written(wavelength)} nm is {written(wavelength / 4)} nm\n" + aligned(rows)
+
+
+def band_table(lines: list[tuple[float, int, int]], each: list[tuple[float, float]], mean: tuple[float, float]) -> str:
+    rows = [["line", "nm", "weight", "s", "p", "sum"]]
+    for count, ((wavelength, weight, _), (s, p)) in enumerate(zip(lines, each)):
+        rows.append([str(count), written(wavelength), str(weight), f"{s:.6f}", f"{p:.6f}", f"{s + p:.6f}"])
+    total = sum(weight for _, weight, _ in lines)
+    means = f"s {mean[0]:.6g}, p {mean[1]:.6g}, sum {mean[0] + mean[1]:.6g}"
+    return aligned(rows) + f"band of {counted(len(lines), 'line')}, weights {total} in all: {means}\n"
+
+
+def sweep_table(points: list[Point], over: str) -> str:
+    rows = [[over, "s", "p", "sum", "lost %", ""]]
+    for one in points:
+        if one.s is None or one.p is None:
+            rows.append([written(one.at), "-", "-", "-", "-", one.refused])
+        else:
+            rows.append([written(one.at), f"{one.s:.6f}", f"{one.p:.6f}", f"{one.s + one.p:.6f}", percent(one.lost_percent), ""])
+    return aligned(rows, (5,))
+
+
+def sweep_rows(points: list[Point], over: str, each: bool) -> list[dict[str, Any]]:
+    """The rows of a sweep's CSV or JSON: exact powers, and the loss in percent."""
+    most = max((len(one.after) for one in points), default=0)
+    rows = []
+    for one in points:
+        total = None if one.s is None or one.p is None else one.s + one.p
+        row: dict[str, Any] = {over: one.at, "s": one.s, "p": one.p, "sum": total, "lost_percent": one.lost_percent}
+        for count in range(most if each else 0):
+            s, p = one.after[count] if one.after else (None, None)
+            row |= {f"s_{count + 1}": s, f"p_{count + 1}": p}
+        rows.append(row | {"refused": one.refused})
+    return rows

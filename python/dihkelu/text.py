@@ -1,0 +1,540 @@
+"""The text of a sheet that people write and read: docs/SHEETS.md has its lines.
+
+A text is read to a plan, in which an index may be a glass's name and a window is its two faces. A plan makes its sheet at the beam's
+wavelength or at another, with other angles if need be, and says what it has worked out itself.
+"""
+from __future__ import annotations
+
+import math
+import re
+import struct
+from dataclasses import dataclass, field, replace
+from typing import Iterator, Union
+
+from . import glasses
+from .calls import stack
+from .refusals import NoStack, Refused, StackTooLong
+from .sheet import Coating, Glass, Layer, Sheet, Surface
+
+COATINGS = [coating.name.lower().replace("_", "-") for coating in Coating]
+DIRECTIONS = ["transmitted", "reflected"]
+MOST_SURFACES, MOST_LAYERS = 64, 16
+STEEPEST = math.asin(0.875)  # of a window in its medium: the gate takes n_incident times sin up to 0.875 of the second index
+
+EDITION_FORM = "edition 1|2"
+BEAM_FORM = "beam NUMBER nm|um s NUMBER p NUMBER"
+SURFACE_FORM = "surface COATING transmitted|reflected from INDEX to INDEX at NUMBER deg|rad"
+WINDOW_FORM = "window INDEX at NUMBER deg|rad [in INDEX]"
+FACE_FORM = "front|back|both COATING"
+LAYER_FORM = "layer INDEX thickness NUMBER nm|um [k NUMBER]"
+QUARTER_FORM = "layer INDEX quarter-waves NUMBER at NUMBER nm|um"
+GLASS_FORM = "glass a NUMBER b NUMBER c NUMBER thickness NUMBER nm|um"
+RETUNE_FORM = "retune to NUMBER nm|um"
+STACK_FORM = "stack TEXT with H INDEX L INDEX [M INDEX] at NUMBER nm|um"
+BAND_FORM = "NUMBER nm|um weight NUMBER"
+HEADS = "edition, beam, retune, surface, window, front, back, both, layer, glass, stack"
+UNITS = {"nm": 1.0, "um": 1000.0, "deg": math.pi / 180, "rad": 1.0}
+WHAT = {"transmitted": "direction", "1": "edition", "front": "face"}  # what alternatives are; else units
+
+
+class Wrong(Exception):
+    """What is wrong, in words."""
+
+
+# ---- numbers
+
+
+def number(token: str) -> float:
+    """A decimal number, or the 16 hexadecimal digits of an f64's bits after 0x."""
+    if re.fullmatch(r"0x[0-9A-Fa-f]{16}", token):
+        return struct.unpack(">d", bytes.fromhex(token[2:]))[0]
+    if not re.fullmatch(r"[+-]?([0-9]+\.?[0-9]*|\.[0-9]+)([eE][+-]?[0-9]+)?", token):
+        raise Wrong(f"'{token}' is no number")
+    return float(token)
+
+
+def written(x: float) -> str:
+    """The shortest number that reads back to the same bits."""
+    if math.isnan(x) or math.isinf(x):
+        return "0x" + struct.pack(">d", x).hex().upper()
+    text = repr(x)
+    return text[:-2] if text.endswith(".0") else text
+
+
+def counted(count: int, what: str) -> str:
+    return f"{count} {what}" + ("" if count == 1 else "s")
+
+
+# ---- a plan
+
+
+@dataclass(frozen=True)
+class Index:
+    """A number, or a glass by its name."""
+
+    number: float = 0.0
+    glass: glasses.Glass | None = None
+
+    def at(self, wavelength_nm: float) -> float:
+        return self.number if self.glass is None else self.glass.index(wavelength_nm)
+
+
+@dataclass(frozen=True)
+class Film:
+    """A layer as it was written: `thickness_nm` is known, its index may be a glass's. `given` is its own Cauchy glass."""
+
+    line: int | None
+    thickness_nm: float
+    index: Index = Index()
+    k: float = 0.0
+    given: Glass | None = None
+
+    def at(self, wavelength_nm: float) -> Union[Layer, Glass]:
+        return self.given or Layer(self.index.at(wavelength_nm), self.k, self.thickness_nm)
+
+
+@dataclass
+class Face:
+    """A surface as it was written. `second` is that of a window: its angle follows from the face before it."""
+
+    line: int | None
+    coating: Coating
+    before: Index
+    after: Index
+    angle_rad: float
+    reflected: bool = False
+    second: bool = False
+    coated: bool = False  # whether a line has said so of a window's face
+    films: list[Film] = field(default_factory=list)
+    retune_nm: float | None = None
+    retune_line: int | None = None
+
+
+def where(line: int | None) -> str:
+    return f"line {line}: " if line else ""
+
+
+def in_line(line: int | None) -> str:
+    return f" (line {line})" if line else ""
+
+
+@dataclass
+class Plan:
+    """A sheet before its wavelength is settled."""
+
+    edition: int | None = None
+    wavelength_nm: float = math.nan
+    s: float = math.nan
+    p: float = math.nan
+    beam_line: int | None = None
+    faces: list[Face] = field(default_factory=list)
+
+    def make(self, wavelength_nm: float | None = None, angles: dict[int, float] | None = None) -> Made:
+        """The sheet at a wavelength, the beam's own unless given, with other angles in radians by the faces' numbers from 0."""
+        nm = self.wavelength_nm if wavelength_nm is None else wavelength_nm
+        made = Made(self, Sheet(nm, self.s, self.p, edition=self.edition), [], [])
+        surfaces: list[Surface] = []
+        for count, face in enumerate(self.faces):
+            nm = nm if face.retune_nm is None else face.retune_nm
+            angle = (angles or {}).get(count, face.angle_rad)
+            try:
+                surfaces.append(_surface(face, nm, angle, surfaces, made))
+            except glasses.OutOfRange as wrong:
+                raise Wrong(f"{where(face.line)}{wrong}") from None
+        made.sheet = replace(made.sheet, surfaces=tuple(surfaces))
+        return made
+
+    def swept(self, numbers: list[int]) -> list[int]:
+        """The faces from 0 whose angle is swept with these surfaces, counted from 1: of a window its first face."""
+        for count in numbers:
+            if not 1 <= count <= len(self.faces):
+                raise Wrong(f"there is no surface {count}; the sheet has {counted(len(self.faces), 'surface')}")
+        return [count - 2 if self.faces[count - 1].second else count - 1 for count in numbers]
+
+
+@dataclass
+class Made:
+    """A plan's sheet, with what was worked out for it and what is hardly meant."""
+
+    plan: Plan
+    sheet: Sheet
+    notes: list[str]
+    hints: list[str]
+
+
+def _surface(face: Face, nm: float, angle: float, before: list[Surface], made: Made) -> Surface:
+    """A face at its wavelength; notes of the indices and the angle that were worked out."""
+    n0, n1 = face.before.at(nm), face.after.at(nm)
+    layers = tuple(film.at(nm) for film in face.films)
+    for index in [] if face.second else [face.before, face.after]:
+        _note_index(made, face.line, index, nm)
+    for film in face.films:
+        _note_index(made, film.line, film.index, nm)
+    if face.second:
+        angle = inside(before[-1].angle_rad, n1, n0, face.line)
+        made.notes.append(f"{where(face.line)}the light is at {math.degrees(angle):.4f} deg inside the window, by Snell's law")
+        if abs(before[-1].angle_rad) > STEEPEST:
+            outer, most = math.degrees(before[-1].angle_rad), math.degrees(STEEPEST)
+            made.hints.append(f"{where(face.line)}the window is at {outer:.2f} deg; past {most:.2f} deg its second face is outside the gate")
+    return Surface(face.coating, n0, n1, angle, face.reflected, layers, face.retune_nm)
+
+
+def _note_index(made: Made, line: int | None, index: Index, nm: float) -> None:
+    if index.glass is not None and index.glass.coloured:
+        note = f"{where(line)}{index.glass.name} has n {index.at(nm):.7g} at {written(nm)} nm, by {index.glass.source}"
+        if note not in made.notes:
+            made.notes.append(note)
+
+
+def inside(angle_rad: float, n0: float, n1: float, line: int | None = None) -> float:
+    """The angle in index n1 of light that comes in index n0 at an angle, by Snell's law."""
+    sine = n0 * math.sin(angle_rad) / n1 if math.isfinite(angle_rad) and n1 else math.nan
+    if not abs(sine) <= 1:
+        raise Wrong(f"{where(line)}no light at {math.degrees(angle_rad):.2f} deg in index {written(n0)} comes into index {written(n1)}")
+    return math.asin(sine)
+
+
+def of_sheet(sheet: Sheet) -> Plan:
+    """The plan that makes a sheet as it is."""
+    plan = Plan(sheet.edition, sheet.wavelength_nm, sheet.s, sheet.p)
+    for one in sheet.surfaces:
+        films = [
+            Film(None, x.thickness_nm, given=x) if isinstance(x, Glass) else Film(None, x.thickness_nm, Index(x.n), x.k)
+            for x in one.layers
+        ]
+        ends = Index(one.n_incident), Index(one.n_substrate)
+        plan.faces.append(Face(None, one.coating, *ends, one.angle_rad, one.reflected, films=films, retune_nm=one.retune_nm))
+    return plan
+
+
+# ---- words of a line
+
+
+def choice(token: str, names: list[str], what: str) -> int:
+    if token.lower() not in names:
+        raise Wrong(f"there is no {what} '{token}'; there are {', '.join(names)}")
+    return names.index(token.lower())
+
+
+def index(token: str) -> Index:
+    """A number or a glass's name."""
+    if re.match(r"[+-]?\.?[0-9]", token):
+        return Index(number(token))
+    try:
+        return Index(glass=glasses.glass(token))
+    except glasses.UnknownGlass as wrong:
+        raise Wrong(f"'{token}' is no number; {wrong}" if "there is no glass" in str(wrong) else str(wrong)) from None
+
+
+def match(tokens: list[str], form: str) -> list:
+    """What stands at the places of NUMBER, INDEX, COATING and the alternatives of the form; its other words must stand there.
+
+    A NUMBER before a unit is in nanometres or radians."""
+    optional = form.split(" [")
+    wanted = optional[0].split()
+    if len(optional) == 2 and len(tokens) > len(wanted):
+        wanted += optional[1].rstrip("]").split()
+    found: list = []
+    for place, want in enumerate(wanted):
+        if place == len(tokens):
+            raise Wrong(f"the line ends where {want} should stand: {form}")
+        token = tokens[place]
+        if want == "NUMBER":
+            found.append(number(token))
+        elif want == "INDEX":
+            found.append(index(token))
+        elif want == "COATING":
+            found.append(Coating(choice(token, COATINGS, "coating")))
+        elif "|" in want:
+            names = want.split("|")
+            chosen = choice(token, names, WHAT.get(names[0], "unit"))
+            if names[0] in WHAT:
+                found.append(chosen)
+            else:
+                found[-1] = in_unit(found[-1], names[chosen])
+        elif token.lower() != want:
+            raise Wrong(f"'{token}' stands where '{want}' should: {form}")
+    if len(tokens) > len(wanted):
+        raise Wrong(f"'{tokens[len(wanted)]}' is more than the line takes: {form}")
+    return found
+
+
+def in_unit(x: float, unit: str) -> float:
+    """In nanometres or radians: multiplied once."""
+    return x if UNITS[unit] == 1.0 else x * UNITS[unit]
+
+
+# ---- stacks
+
+
+def stack_refused(text: str, refused: Refused) -> str:
+    if isinstance(refused, StackTooLong):
+        return f"'{text}' has more than 64 layers"
+    if not isinstance(refused, NoStack):
+        return "an index or the design wavelength is not positive and finite"
+    data = text.encode()
+    if len(data) > 255:
+        return f"the stack has {len(data)} bytes; a stack has 255 at most"
+    if refused.place == len(data):
+        return f"'{text}' stops early"
+    stands = data[refused.place :].decode("utf-8", "replace")[0]
+    return f"'{text}' is no stack: '{stands}' cannot stand at its byte {refused.place}, counted from 0"
+
+
+def stack_films(text: str, letters: list[Index], design_nm: float, line: int | None) -> list[Film]:
+    """The layers of a text in shorthand, the indices of H, L and M being those at the design wavelength."""
+    try:
+        layers = stack(text, *(letter.at(design_nm) for letter in letters), design_nm)
+        named = stack(text, 1.0, 2.0, 3.0, design_nm)  # the letter of each layer
+    except Refused as refused:
+        raise Wrong(f"refused {refused.number} {refused.place}: {stack_refused(text, refused)}") from None
+    except glasses.OutOfRange as wrong:
+        raise Wrong(str(wrong)) from None
+    return [Film(line, layer.thickness_nm, letters[int(name.n) - 1]) for layer, name in zip(layers, named)]
+
+
+def stack_line(content: str, line: int) -> list[Film]:
+    """The layers of a line `stack TEXT with ..`. A letter that is not given takes H's index, and must not occur."""
+    parts = re.fullmatch(r"\s*stack\s+(.*\S)\s+with\s+(.*?)\s*", content, re.IGNORECASE)
+    if not parts:
+        raise Wrong(f"a stack has its text, the word with, and what the letters are: {STACK_FORM}")
+    text, tokens = parts[1], parts[2].split()
+    with_m = len(tokens) > 4 and tokens[4].lower() == "m"
+    if "M" in text and not with_m:
+        raise Wrong(f"M stands in '{text}' and has no index: {STACK_FORM}")
+    form = "h INDEX l INDEX m INDEX at NUMBER nm|um" if with_m else "h INDEX l INDEX at NUMBER nm|um"
+    try:
+        given = match(tokens, form)
+    except Wrong as wrong:
+        raise Wrong(str(wrong).replace(form, STACK_FORM)) from None
+    return stack_films(text, [given[0], given[1], given[2] if with_m else given[0]], given[-1], line)
+
+
+def layer_line(tokens: list[str], line: int) -> Film:
+    if len(tokens) > 2 and tokens[2].lower() == "quarter-waves":
+        n, count, design = match(tokens, QUARTER_FORM)
+        (one,) = stack_films("H", [n, n, n], design, line)
+        return replace(one, thickness_nm=count * one.thickness_nm)
+    n, thickness, k = (match(tokens, LAYER_FORM) + [0.0])[:3]
+    return Film(line, thickness, n, k)
+
+
+# ---- text to plan
+
+
+class Reader:
+    """Takes one line after the other."""
+
+    def __init__(self) -> None:
+        self.plan = Plan()
+        self.waiting: tuple[float, int] | None = None  # a retune's wavelength and line, until its surface comes
+        self.under: list[Face] = []  # the faces that a layer belongs to
+
+    def take(self, content: str, line: int) -> None:
+        tokens = content.split()
+        head = tokens[0].lower()
+        if self.waiting and head not in ("surface", "window"):
+            raise Wrong(f"a surface must follow the retune of line {self.waiting[1]}")
+        if head in ("surface", "window", "retune") and self.plan.beam_line is None:
+            raise Wrong(f"a {head} before the beam")
+        if head not in HEADS.split(", "):
+            raise Wrong(f"'{tokens[0]}' begins no line; a line begins with {HEADS} or #")
+        if head == "stack":
+            self.add_films(stack_line(content, line))
+        elif head in ("front", "back", "both"):
+            self.face(tokens)
+        else:
+            getattr(self, head)(tokens, line)
+
+    def edition(self, tokens: list[str], line: int) -> None:
+        if self.plan.beam_line is not None or self.plan.edition is not None:
+            raise Wrong("an edition stands once, before the beam")
+        self.plan.edition = 1 + match(tokens, EDITION_FORM)[0]
+
+    def beam(self, tokens: list[str], line: int) -> None:
+        if self.plan.beam_line is not None:
+            raise Wrong(f"a second beam; the first is in line {self.plan.beam_line}")
+        self.plan.wavelength_nm, self.plan.s, self.plan.p = match(tokens, BEAM_FORM)
+        self.plan.beam_line = line
+
+    def surface(self, tokens: list[str], line: int) -> None:
+        coating, reflected, n0, n1, angle = match(tokens, SURFACE_FORM)
+        self.add_faces([Face(line, coating, n0, n1, angle, bool(reflected))])
+        self.under = self.plan.faces[-1:]
+
+    def window(self, tokens: list[str], line: int) -> None:
+        """Two faces, bare until the next lines say otherwise."""
+        n, angle, medium = (match(tokens, WINDOW_FORM) + [Index(1.0)])[:3]
+        front = Face(line, Coating.BARE, medium, n, angle)
+        self.add_faces([front, Face(line, Coating.BARE, n, medium, angle, second=True)])
+        self.under = []
+
+    def face(self, tokens: list[str]) -> None:
+        which, coating = match(tokens, FACE_FORM)
+        pair = self.plan.faces[-2:]
+        if len(pair) < 2 or not pair[1].second:
+            raise Wrong(f"'{tokens[0]}' stands only under a window")
+        self.under = [pair[0:1], pair[1:2], pair][which]
+        for face in self.under:
+            if face.coated:
+                raise Wrong(f"the window's {('front', 'back')[face.second]} has its coating already")
+            face.coating, face.coated = coating, True
+
+    def retune(self, tokens: list[str], line: int) -> None:
+        if self.plan.edition == 1:
+            raise Wrong("a retune stands only in a sheet of edition 2")
+        self.waiting = match(tokens, RETUNE_FORM)[0], line
+
+    def layer(self, tokens: list[str], line: int) -> None:
+        self.add_films([layer_line(tokens, line)])
+
+    def glass(self, tokens: list[str], line: int) -> None:
+        if self.plan.edition == 1:
+            raise Wrong("a glass stands only in a sheet of edition 2")
+        a, b, c, thickness = match(tokens, GLASS_FORM)
+        self.add_films([Film(line, thickness, given=Glass(a, b, c, thickness))])
+
+    def add_faces(self, faces: list[Face]) -> None:
+        if len(self.plan.faces) + len(faces) > MOST_SURFACES:
+            raise Wrong(f"a sheet has at most {MOST_SURFACES} surfaces")
+        if self.waiting:
+            faces[0].retune_nm, faces[0].retune_line = self.waiting
+        self.waiting = None
+        self.plan.faces.extend(faces)
+
+    def add_films(self, films: list[Film]) -> None:
+        if not self.under or any(face.coating != Coating.CUSTOM for face in self.under):
+            raise Wrong("a layer stands only under a surface whose coating is custom")
+        for face in self.under:
+            total = len(face.films) + len(films)
+            if total > MOST_LAYERS:
+                raise Wrong(f"a surface has at most {MOST_LAYERS} layers" + (f"; with this stack it has {total}" if len(films) > 1 else ""))
+            face.films.extend(films)
+
+    def end(self) -> Plan:
+        if self.plan.beam_line is None:
+            raise Wrong(f"the text ends without a beam: {BEAM_FORM}")
+        if self.waiting:
+            raise Wrong(f"a surface must follow the retune of line {self.waiting[1]}")
+        return self.plan
+
+
+UTF_16 = "the text is in UTF-16; save it as UTF-8"
+
+
+def is_utf_16(data: bytes) -> bool:
+    """By its mark, or by a text's first letters with a zero byte beside each."""
+    return data[:2] in (b"\xff\xfe", b"\xfe\xff") or re.match(rb"(\0[ -~\t\r\n]){4}|([ -~\t\r\n]\0){4}", data) is not None
+
+
+def without_mark(data: bytes) -> bytes:
+    """What stands behind UTF-8's byte order mark."""
+    return data[3:] if data[:3] == b"\xef\xbb\xbf" else data
+
+
+def is_text(data: bytes) -> bool:
+    """A text is UTF-8 with hardly a control byte; a sheet begins with OPEN's byte 0x10 and is full of them."""
+    if is_utf_16(data):
+        return True
+    controls = sum(byte < 32 and byte not in (9, 10, 13) for byte in data)
+    try:
+        without_mark(data).decode("utf-8")
+    except UnicodeDecodeError:
+        return not controls
+    return data[:1] != b"\x10" and 8 * controls <= len(data)
+
+
+def lines_of(data: bytes) -> Iterator[tuple[int, str]]:
+    """The lines of a text, ended by a line feed, a carriage return or both; nothing else ends one."""
+    if is_utf_16(data):
+        raise Wrong(UTF_16)
+    for line, content in enumerate(re.split(rb"\r\n|\n|\r", without_mark(data)), 1):
+        control = next((byte for byte in content if byte < 32 and byte != 9 or byte == 127), None)
+        if control is not None:
+            raise Wrong(f"line {line}: the control byte 0x{control:02X} stands in the text")
+        try:
+            yield line, content.decode("utf-8")
+        except UnicodeDecodeError as error:
+            raise Wrong(f"line {line}: the byte 0x{content[error.start]:02X} is not UTF-8; save the text as UTF-8") from None
+
+
+def read(data: Union[str, bytes]) -> Plan:
+    """The plan of a text."""
+    reader, line = Reader(), 0
+    for line, content in lines_of(data.encode() if isinstance(data, str) else data):
+        content = content.split("#")[0]
+        try:
+            if content.split():
+                reader.take(content, line)
+        except Wrong as wrong:
+            raise Wrong(f"line {line}: {wrong}") from None
+    try:
+        return reader.end()
+    except Wrong as wrong:
+        raise Wrong(f"line {line}: {wrong}") from None
+
+
+def read_band(data: Union[str, bytes]) -> list[tuple[float, int, int]]:
+    """The lines of a band: a wavelength, a weight and the text's line of each."""
+    found = []
+    for line, content in lines_of(data.encode() if isinstance(data, str) else data):
+        tokens = content.split("#")[0].split()
+        if not tokens:
+            continue
+        try:
+            wavelength, weight = match(tokens, BAND_FORM)
+        except Wrong as wrong:
+            raise Wrong(f"the band's line {line}: {wrong}") from None
+        if not (0 <= weight < 2**32 and weight.is_integer()):
+            raise Wrong(f"the band's line {line}: {written(weight)} is no whole weight")
+        found.append((wavelength, int(weight), line))
+    return found
+
+
+# ---- sheet to text
+
+
+def met(sheet: Sheet) -> list[float]:
+    """The wavelength that each surface is met with: that of the last retune up to it, else the beam's."""
+    wavelength, out = sheet.wavelength_nm, []
+    for surface in sheet.surfaces:
+        wavelength = wavelength if surface.retune_nm is None else surface.retune_nm
+        out.append(wavelength)
+    return out
+
+
+def index_at(layer: Union[Layer, Glass], wavelength_nm: float) -> float:
+    """The index of a layer at a wavelength: that of a glass is a + (b + c/u2)/u2 (document 02, slip 3)."""
+    if isinstance(layer, Layer):
+        return layer.n
+    u2 = (wavelength_nm / 1000) * (wavelength_nm / 1000)
+    return layer.a + (layer.b + layer.c / u2) / u2 if u2 else math.nan
+
+
+def layer_text(layer: Union[Layer, Glass], wavelength_nm: float) -> str:
+    """A layer's line."""
+    thickness = written(layer.thickness_nm)
+    if isinstance(layer, Glass):
+        a, b, c = map(written, (layer.a, layer.b, layer.c))
+        return f"glass a {a} b {b} c {c} thickness {thickness} nm  # n {index_at(layer, wavelength_nm):.6g}"
+    lossless = layer.k == 0 and math.copysign(1, layer.k) > 0
+    return f"layer {written(layer.n)} thickness {thickness} nm" + ("" if lossless else f" k {written(layer.k)}")
+
+
+def edition(sheet: Sheet) -> int:
+    """A sheet's edition: 2 where it says so, or where a glass or a retune needs it."""
+    return sheet.to_bytes()[3]
+
+
+def write(sheet: Sheet) -> str:
+    """The text of a sheet, every number with all its bits."""
+    lines = ["edition 2"] if edition(sheet) == 2 else []
+    lines += [f"beam {written(sheet.wavelength_nm)} nm s {written(sheet.s)} p {written(sheet.p)}"]
+    for place, (one, wavelength) in enumerate(zip(sheet.surfaces, met(sheet)), 1):
+        if one.retune_nm is not None:
+            lines.append(f"retune to {written(wavelength)} nm")
+        n0, n1, angle = map(written, (one.n_incident, one.n_substrate, one.angle_rad))
+        name, direction = COATINGS[one.coating], DIRECTIONS[one.reflected]
+        lines.append(f"surface {name} {direction} from {n0} to {n1} at {angle} rad  # {place}: {math.degrees(one.angle_rad):.4f} deg")
+        lines += ["  " + layer_text(layer, wavelength) for layer in one.layers]
+    return "\n".join(lines) + "\n"
