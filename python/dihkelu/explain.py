@@ -5,13 +5,14 @@ That a sheet is refused, and where, is the proved library's answer. Which limit 
 from __future__ import annotations
 
 import math
+import re
 import struct
 from typing import Iterator, Union
 
 from .calls import gate
 from .refusals import Refused
 from .sheet import Coating, Glass, Layer, Sheet, Surface
-from .text import Made, Wrong, counted, in_line, index_at, met, of_sheet, written
+from .text import Made, Wrong, counted, in_line, index_at, met, of_sheet, without_mark, written
 
 PRESET_INDICES = {Coating.MGF2: [1.38], Coating.BROADBAND_AR: [1.46, 2.3], Coating.MIRROR: [2.3, 1.46]}  # which the gate tests too
 PRESET_NM = 550.0
@@ -63,10 +64,15 @@ def joined(said: list[str]) -> str:
     return "; ".join(one for one in said if one)
 
 
+def folded(angle: float) -> float:
+    """An angle as the documents' sine and cosine take it: beyond 2^20 without whole turns of the f64 next to 2 pi."""
+    return math.fmod(angle, 2 * math.pi) if abs(angle) > 2**20 else angle
+
+
 def bends(surface: Surface, name: str, n: float) -> str:
     if not math.isfinite(surface.angle_rad):
         return ""
-    bent, most = surface.n_incident * abs(math.sin(surface.angle_rad)), 0.875 * n
+    bent, most = surface.n_incident * abs(math.sin(folded(surface.angle_rad))), 0.875 * n
     return "" if bent <= most else f"n_incident times sin is {written(bent)}, more than 0.875 of {name} {written(n)}, {written(most)}"
 
 
@@ -80,8 +86,8 @@ def surface_missed(surface: Surface) -> str:
     angle = surface.angle_rad
     if not math.isfinite(angle):
         said.append("the angle is not finite")
-    elif math.cos(angle) < 0.25:
-        said.append(f"the angle's cosine is {written(math.cos(angle))}, less than 0.25")
+    elif math.cos(folded(angle)) < 0.25:
+        said.append(f"the angle's cosine is {written(math.cos(folded(angle)))}, less than 0.25")
     said.append(bends(surface, "the second index", surface.n_substrate))
     said += [bends(surface, "the coating's index", n) for n in PRESET_INDICES.get(surface.coating, [])]
     return joined(said)
@@ -171,6 +177,18 @@ def film_missed(n: float, thickness_nm: float, wavelength_nm: float) -> str:
     """Which limits the numbers of refusal 14 miss."""
     limits = [("n", n, 1, 4), ("the thickness", thickness_nm, 0, 100000), ("the wavelength", wavelength_nm, 100, 10000)]
     return joined([within(*limit) for limit in limits])
+
+
+def line_of(said: str) -> int | None:
+    """The text's line that a sentence names."""
+    found = re.search(r"^line ([0-9]+): |\(line ([0-9]+)\)", said)
+    return int(found[1] or found[2]) if found else None
+
+
+def content(data: bytes, line: int) -> str:
+    """A line of a text, as far as it can be read."""
+    lines = re.split(rb"\r\n|\n|\r", without_mark(data))
+    return lines[line - 1].decode("utf-8", "replace").strip() if line <= len(lines) else ""
 
 
 # ---- hints

@@ -144,6 +144,15 @@ class Plan:
         made.sheet = replace(made.sheet, surfaces=tuple(surfaces))
         return made
 
+    def names(self) -> list[str]:
+        """Each face by its window or coating, short enough for a picture."""
+        found: list[str] = []
+        for face in self.faces:
+            if face.second:
+                found[-1] = "window, front"
+            found.append("window, back" if face.second else f"{COATINGS[face.coating]}, {DIRECTIONS[face.reflected]}")
+        return found
+
     def swept(self, numbers: list[int]) -> list[int]:
         """The faces from 0 whose angle is swept with these surfaces, counted from 1: of a window its first face."""
         for count in numbers:
@@ -166,22 +175,20 @@ def _surface(face: Face, nm: float, angle: float, before: list[Surface], made: M
     """A face at its wavelength; notes of the indices and the angle that were worked out."""
     n0, n1 = face.before.at(nm), face.after.at(nm)
     layers = tuple(film.at(nm) for film in face.films)
-    for index in [] if face.second else [face.before, face.after]:
-        _note_index(made, face.line, index, nm)
-    for film in face.films:
-        _note_index(made, film.line, film.index, nm)
+    for index in [face.before, face.after, *(film.index for film in face.films)]:
+        _note_index(made, index, nm)
     if face.second:
         angle = inside(before[-1].angle_rad, n1, n0, face.line)
-        made.notes.append(f"{where(face.line)}the light is at {math.degrees(angle):.4f} deg inside the window, by Snell's law")
+        made.notes.append(f"{where(face.line)}inside the window the light is at {math.degrees(angle):.4f} deg, by Snell's law")
         if abs(before[-1].angle_rad) > STEEPEST:
             outer, most = math.degrees(before[-1].angle_rad), math.degrees(STEEPEST)
             made.hints.append(f"{where(face.line)}the window is at {outer:.2f} deg; past {most:.2f} deg its second face is outside the gate")
     return Surface(face.coating, n0, n1, angle, face.reflected, layers, face.retune_nm)
 
 
-def _note_index(made: Made, line: int | None, index: Index, nm: float) -> None:
+def _note_index(made: Made, index: Index, nm: float) -> None:
     if index.glass is not None and index.glass.coloured:
-        note = f"{where(line)}{index.glass.name} has n {index.at(nm):.7g} at {written(nm)} nm, by {index.glass.source}"
+        note = f"{index.glass.name} has n {index.at(nm):.7g} at {written(nm)} nm, by {index.glass.source}"
         if note not in made.notes:
             made.notes.append(note)
 

@@ -1,0 +1,395 @@
+"""The command `dihkelu`: losses, sweeps, bands and sheets for people who plan windows and mirrors."""
+from __future__ import annotations
+
+import argparse
+import csv
+import dataclasses
+import decimal
+import io
+import json
+import math
+import sys
+from pathlib import Path
+from typing import Any, Iterable, Sequence
+
+from . import batch, explain, files, glasses, plots, reports, text
+from .calls import version
+from .files import Failed
+from .text import Made, Plan, Wrong, written
+
+MOST_POINTS = 100_000  # of a sweep
+STATUSES = "The status is 0, 1 where a text, sheet or point was refused, or 2 where the input or output failed or the call is none."
+
+
+# ---- input
+
+
+def plan_of(name: str) -> Plan:
+    """The plan of a text or of a sheet."""
+    data = files.load(name)
+    return text.read(data) if text.is_text(data) else explain.read_sheet(data).plan
+
+
+def made_of(given: argparse.Namespace) -> Made:
+    """The sheet of the file at the wavelength given; what was worked out for it is said."""
+    made = plan_of(given.file).make(given.wavelength)
+    said(given, made)
+    return made
+
+
+def said(given: argparse.Namespace, made: Made) -> None:
+    """Notes and hints on standard error; in JSON they stand in the answer."""
+    if given.quiet or getattr(given, "format", "") == "json":
+        return
+    for note in made.notes:
+        print(f"{given.file}: note: {note}", file=sys.stderr)
+    for hint in explain.hints(made):
+        print(f"{given.file}: hint: {hint}", file=sys.stderr)
+
+
+def remarks(made: Made) -> dict[str, list[str]]:
+    return {"notes": made.notes, "hints": explain.hints(made)}
+
+
+# ---- output
+
+
+def put(given: argparse.Namespace, data: str | bytes) -> None:
+    """To the file given, else to standard output."""
+    data = data.encode() if isinstance(data, str) else data
+    if given.output is None:
+        files.emit(data)
+    else:
+        files.save(given.output, data)
+
+
+def put_sheet(given: argparse.Namespace, data: bytes) -> None:
+    if given.output is None and sys.stdout is not None and sys.stdout.isatty():
+        raise Failed("a sheet is bytes and no text for a terminal: say -o FILE")
+    put(given, data)
+
+
+def put_rows(given: argparse.Namespace, table: str, rows: list[dict[str, Any]], whole: dict[str, Any]) -> None:
+    """The table, the rows as CSV, or `whole` as JSON. Numbers are the shortest that read back to the same bits."""
+    if given.format == "csv":
+        put(given, as_csv(rows))
+    elif given.format == "json":
+        put(given, json.dumps(whole, indent=2, allow_nan=False) + "\n")
+    else:
+        put(given, table)
+
+
+def as_csv(rows: list[dict[str, Any]]) -> str:
+    out = io.StringIO()
+    if rows:
+        writer = csv.DictWriter(out, list(rows[0]), lineterminator="\n")
+        writer.writeheader()
+        writer.writerows({key: "" if x is None else repr(x) if isinstance(x, float) else x for key, x in row.items()} for row in rows)
+    return out.getvalue()
+
+
+def title(given: argparse.Namespace) -> str:
+    return given.title or Path(given.file).name
+
+
+def draw(given: argparse.Namespace, make: Any) -> None:
+    if given.plot:
+        plots.save(make(), given.plot)
+
+
+# ---- the commands
+
+
+def losses(given: argparse.Namespace) -> int:
+    made = made_of(given)
+    found = reports.losses(made)
+    draw(given, lambda: plots.losses(found, title(given)))
+    scale = made.sheet.s + made.sheet.p
+    scaled = f"scale factor of a return: {scale / found.sum:.6f}\n" if found.sum else ""
+    rows = [dataclasses.asdict(one) for one in found.surfaces]
+    whole = dataclasses.asdict(found) | {"scale_factor": scale / found.sum if found.sum else None}
+    put_rows(given, reports.losses_table(found) + scaled, rows, {"file": given.file, **whole, **remarks(made)})
+    return 0
+
+
+def write(given: argparse.Namespace) -> int:
+    put_sheet(given, made_of(given).sheet.to_bytes())
+    return 0
+
+
+def show(given: argparse.Namespace) -> int:
+    made = made_of(given)
+    if given.format == "json":
+        put(given, made.sheet.to_json() + "\n")
+    else:
+        put(given, "".join(f"# {note}\n" for note in made.notes) + text.write(made.sheet))
+    return 0
+
+
+def edition1(given: argparse.Namespace) -> int:
+    put_sheet(given, reports.for_edition_1(made_of(given)))
+    return 0
+
+
+def quarter_waves(given: argparse.Namespace) -> int:
+    made = made_of(given)
+    found = reports.quarters(made)
+    rows = [dataclasses.asdict(one) for one in found]
+    put_rows(given, reports.quarters_table(found, made.sheet.wavelength_nm), rows, {"file": given.file, "layers": rows, **remarks(made)})
+    return 0
+
+
+def band(given: argparse.Namespace) -> int:
+    made = made_of(given)
+    lines = text.read_band(files.load(given.lines))
+    mean, each = reports.band_means(made, lines), reports.band_each(made, lines)
+    if any(film.index.glass for face in made.plan.faces for film in face.films) and not given.quiet:
+        print(f"{given.file}: hint: glasses by name have their index at {written(made.sheet.wavelength_nm)} nm in every line", file=sys.stderr)
+    draw(given, lambda: plots.band(lines, each, mean, title(given)))
+    rows = [{"wavelength_nm": nm, "weight": weight, "s": s, "p": p, "sum": s + p} for (nm, weight, _), (s, p) in zip(lines, each)]
+    whole = {"file": given.file, "lines": rows, "s": mean[0], "p": mean[1], "sum": mean[0] + mean[1], **remarks(made)}
+    put_rows(given, reports.band_table(lines, each, mean), rows, whole)
+    return 0
+
+
+def steps(first: decimal.Decimal, last: decimal.Decimal, step: decimal.Decimal) -> list[float]:
+    """first, first + step and so on up to last, each the float next to the decimal number."""
+    if not step or (last - first) / step < 0:
+        raise Failed(f"no step of {step} leads from {first} to {last}")
+    count = int((last - first) / step) + 1
+    if count > MOST_POINTS:
+        raise Failed(f"a sweep has at most {MOST_POINTS} points; this has {count}")
+    return [float(first + i * step) for i in range(count)]
+
+
+def sweep(given: argparse.Namespace) -> int:
+    plan = plan_of(given.file)
+    if given.angle:
+        values, over, column = steps(*given.angle), "angle deg", "angle_deg"
+        points = reports.sweep_angle(plan, values, given.surface or [1])
+        ends = [plan.make(angles={face: math.radians(x) for face in plan.swept(given.surface or [1])}) for x in _ends(points)]
+    else:
+        values, over, column = steps(*given.wavelength), "nm", "wavelength_nm"
+        points = reports.sweep_wavelength(plan, values)
+        ends = [plan.make(x) for x in _ends(points)]
+    seen: dict[str, None] = {}  # in order
+    for made in ends:
+        seen.update(dict.fromkeys(made.notes))
+    for note in [] if given.quiet or given.format == "json" else seen:
+        print(f"{given.file}: note: {note}", file=sys.stderr)
+    names = [f"{count}: {name}" for count, name in enumerate(plan.names(), 1)]
+    label = "wavelength, nm" if given.wavelength else "angle, degrees"
+    draw(given, lambda: plots.sweep(points, (plan.s, plan.p), label, names, title(given)))
+    rows = reports.sweep_rows(points, column, given.each or given.format == "json")
+    put_rows(given, reports.sweep_table(points, over), rows, {"file": given.file, "points": rows, "notes": list(seen)})
+    return int(any(point.refused for point in points))
+
+
+def _ends(points: list[reports.Point]) -> list[float]:
+    """The first and the last point that were not refused."""
+    good = [point.at for point in points if not point.refused]
+    return [good[0], good[-1]] if good else []
+
+
+def stack(given: argparse.Namespace) -> int:
+    letters = [given.H, given.L, given.M or given.H]
+    films = text.stack_films(given.text, letters, given.at, None)
+    if "M" in given.text and given.M is None:
+        raise Wrong(f"M stands in '{given.text}' and has no index: say --M")
+    layers = [film.at(given.at) for film in films]
+    rows = [{"layer": count, "n": layer.n, "thickness_nm": layer.thickness_nm} for count, layer in enumerate(layers, 1)]
+    if given.format == "text":
+        put(given, "".join(text.layer_text(layer, given.at) + "\n" for layer in layers))
+    else:
+        table = [["layer", "n", "thickness nm"]] + [[written(float(x)) for x in row.values()] for row in rows]
+        put_rows(given, reports.aligned(table), rows, {"text": given.text, "design_nm": given.at, "layers": rows})
+    return 0
+
+
+def check(given: argparse.Namespace) -> int:
+    """Whether a sheet is admitted, and if not why; all blocks that are outside, not the first alone."""
+    data = files.load(given.file)
+    answer: dict[str, Any] = {"file": given.file, "admitted": True}
+    missed: list[tuple[int, str]] = []
+    try:
+        made = (text.read(data) if text.is_text(data) else explain.read_sheet(data).plan).make(given.wavelength)
+        said(given, made)
+        missed = [(place, f"{name}{text.in_line(line)}: {why}") for place, name, line, why in explain.blocks(made) if why]
+        reports.powers(made)
+        answer |= {"sheet": reports.summary(made.sheet), **remarks(made)}
+        sentences = [f"{given.file}: admitted: {answer['sheet']}"]
+    except Wrong as wrong:
+        if isinstance(wrong, Failed):
+            raise
+        line = explain.line_of(str(wrong))
+        also = [why for place, why in missed if place != getattr(wrong, "place", place)]
+        answer |= {"admitted": False, "sentence": str(wrong), "line": line, "also": also}
+        if isinstance(wrong, explain.Turned):
+            answer |= {"refused": wrong.number, "place": wrong.place}
+        sentences = [f"{given.file}: {wrong}"]
+        if line is not None and text.is_text(data):
+            answer["text"] = explain.content(data, line)
+            sentences.append(f"  {line} | {answer['text']}")
+        sentences += [f"  also {one}" for one in also]
+    rows = [{key: x for key, x in answer.items() if key in ("file", "admitted", "refused", "place", "line", "sentence")}]
+    put_rows(given, "\n".join(sentences) + "\n", rows, answer)
+    return 0 if answer["admitted"] else 1
+
+
+def many(given: argparse.Namespace) -> int:
+    names = batch.files(given.files)
+    results = batch.run(names, given.jobs, (lambda count: None) if given.quiet else batch.bar(len(names)))
+    rows = [dataclasses.asdict(one) for one in results]
+    table = [["file", "surfaces", "s", "p", "sum", "lost %", ""]]
+    for one in results:
+        powers = ["-"] * 4 if one.sum is None else [f"{one.s:.6f}", f"{one.p:.6f}", f"{one.sum:.6f}", reports.percent(one.lost_percent)]
+        table.append([one.file, "-" if one.surfaces is None else str(one.surfaces), *powers, one.refused])
+    refused = sum(bool(one.status) for one in results)
+    last = f"{text.counted(len(results), 'sheet')}, {refused} refused or unread\n"
+    put_rows(given, reports.aligned(table, (0, 6)) + last, rows, {"sheets": rows})
+    return max((one.status for one in results), default=0)
+
+
+def list_glasses(given: argparse.Namespace) -> int:
+    rows = []
+    for glass in glasses.TABLE.values():
+        known = glass.from_nm <= given.at <= glass.to_nm
+        row = {"name": glass.name, "from_nm": glass.from_nm, "to_nm": glass.to_nm if glass.coloured else None}
+        row |= {"n": glass.index(given.at) if known else None, "formula": glass.formula(), "source": glass.source, "remark": glass.remark}
+        rows.append(row)
+    table = [["glass", "from nm", "to nm", f"n at {written(given.at)} nm", "source"]]
+    for row in rows:
+        ends = [f"{row['from_nm']:g}", f"{row['to_nm']:g}"] if row["to_nm"] else ["", ""]
+        table.append([row["name"], *ends, "-" if row["n"] is None else f"{row['n']:.6f}", row["source"] or row["remark"]])
+    others = ", ".join(f"{name} is {of}" for name, of in glasses.OTHER_NAMES.items())
+    put_rows(given, reports.aligned(table, (0, 4)) + f"{others}\n", rows, {"at_nm": given.at, "glasses": rows})
+    return 0
+
+
+def completion(given: argparse.Namespace) -> int:
+    """A script for bash: eval "$(dihkelu completion)"."""
+    put(given, completion_script(arguments()))
+    return 0
+
+
+def completion_script(parser: argparse.ArgumentParser) -> str:
+    cases = []
+    for name, one in subcommands(parser).items():
+        words = " ".join(option for action in one._actions for option in action.option_strings)
+        cases.append(f"    {name}) words='{words}' ;;")
+    return "\n".join([
+        "_dihkelu() {",
+        '    local word=${COMP_WORDS[COMP_CWORD]} words',
+        f"    if [ \"$COMP_CWORD\" = 1 ]; then COMPREPLY=($(compgen -W '{' '.join(subcommands(parser))} --help --version' -- \"$word\")); return; fi",
+        "    case ${COMP_WORDS[1]} in",
+        *cases,
+        "    esac",
+        '    case $word in -*) COMPREPLY=($(compgen -W "$words" -- "$word")) ;; *) COMPREPLY=($(compgen -f -- "$word")) ;; esac',
+        "}",
+        "complete -o filenames -F _dihkelu dihkelu",
+        "",
+    ])
+
+
+# ---- arguments
+
+
+def decimal_number(word: str) -> decimal.Decimal:
+    try:
+        text.number(word)
+        return decimal.Decimal(word)
+    except (Wrong, decimal.InvalidOperation):
+        raise argparse.ArgumentTypeError(f"'{word}' is no decimal number") from None
+
+
+def number(word: str) -> float:
+    try:
+        return text.number(word)
+    except Wrong as wrong:
+        raise argparse.ArgumentTypeError(str(wrong)) from None
+
+
+def index(word: str) -> text.Index:
+    try:
+        return text.index(word)
+    except Wrong as wrong:
+        raise argparse.ArgumentTypeError(str(wrong)) from None
+
+
+def whole(word: str) -> int:
+    if not word.isascii() or not word.isdigit() or int(word) == 0:
+        raise argparse.ArgumentTypeError(f"'{word}' is no whole number from 1 on")
+    return int(word)
+
+
+def arguments() -> argparse.ArgumentParser:
+    parser = argparse.ArgumentParser(prog="dihkelu", description=__doc__, epilog=STATUSES)
+    parser.add_argument("--version", action="version", version="%(prog)s {}.{}".format(*version()))
+    commands = parser.add_subparsers(dest="command", required=True, metavar="COMMAND")
+
+    def add(name: str, run: Any, about: str, file: bool = True, formats: Sequence[str] = (), plot: bool = False, nm: bool = True) -> argparse.ArgumentParser:
+        one = commands.add_parser(name, help=about, description=about[0].upper() + about[1:] + ".", epilog=STATUSES)
+        one.set_defaults(run=run, plot=None)
+        if file:
+            one.add_argument("file", metavar="FILE", help="a text or a sheet; - is standard input")
+        if file and nm:
+            one.add_argument("--wavelength", type=number, metavar="NM", help="in the place of the beam's wavelength")
+        if formats:
+            one.add_argument("-f", "--format", choices=formats, default=formats[0], help="of the output, %(default)s unless given")
+        if plot:
+            one.add_argument("--plot", metavar="FILE", help="draw it too: .png, .svg or .pdf")
+            one.add_argument("--title", help="above the picture")
+        one.add_argument("-o", "--output", metavar="FILE", help="write there and not to standard output")
+        one.add_argument("-q", "--quiet", action="store_true", help="no notes, no hints and no progress bar")
+        return one
+
+    rows = ("table", "csv", "json")
+    add("losses", losses, "show what each surface loses", formats=rows, plot=True)
+    one = add("sweep", sweep, "run the train over a range of angles or wavelengths", formats=rows, plot=True, nm=False)
+    over = one.add_mutually_exclusive_group(required=True)
+    range_ = {"nargs": 3, "type": decimal_number, "metavar": ("FROM", "TO", "STEP")}
+    over.add_argument("--angle", help="in degrees", **range_)
+    over.add_argument("--wavelength", help="of the beam, in nm", **range_)
+    one.add_argument("--surface", type=whole, nargs="+", metavar="N", help="whose angle is swept, counted from 1; the first unless given")
+    one.add_argument("--each", action="store_true", help="s and p after each surface, in columns of their own")
+    one = add("band", band, "show s and p at each line of a band, and their weighed means", formats=rows, plot=True)
+    one.add_argument("lines", metavar="LINES", help=f"a file of lines, each {text.BAND_FORM}")
+    add("check", check, "say whether a sheet is admitted, and if not why", formats=rows)
+    one = add("batch", many, "run many texts and sheets, on all cores", file=False, formats=rows)
+    one.add_argument("files", metavar="FILE", nargs="+", help="texts and sheets, or folders of .txt and .sheet")
+    one.add_argument("-j", "--jobs", type=whole, metavar="N", help="processes; as many as there are cores unless given")
+    add("write", write, "write the sheet of a text")
+    add("show", show, "print a sheet, or what is made of a text, as a text", formats=("text", "json"))
+    add("edition1", edition1, "write the sheet for programs that read edition 1")
+    add("quarter-waves", quarter_waves, "count each layer in quarter waves", formats=rows)
+    one = add("stack", stack, "print the layers of a stack in shorthand", file=False, formats=("table", "csv", "json", "text"))
+    one.add_argument("text", metavar="TEXT", help="such as '(HL)^7 H'")
+    for letter in "HLM":
+        one.add_argument(f"--{letter}", type=index, required=letter != "M", metavar="INDEX", help=f"of {letter}: a number or a glass")
+    one.add_argument("--at", type=number, required=True, metavar="NM", help="the design wavelength")
+    one = add("glasses", list_glasses, "list the glasses that have a name", file=False, formats=rows)
+    one.add_argument("--at", type=number, default=587.6, metavar="NM", help="the wavelength of the index shown, %(default)s unless given")
+    add("completion", completion, "print a script that completes this command in bash", file=False)
+    return parser
+
+
+def subcommands(parser: argparse.ArgumentParser) -> dict[str, argparse.ArgumentParser]:
+    (action,) = [x for x in parser._actions if isinstance(x, argparse._SubParsersAction)]
+    return dict(action.choices)
+
+
+def main(words: Iterable[str] | None = None) -> int:
+    given = arguments().parse_args(None if words is None else list(words))
+    named = f"{given.file}: " if hasattr(given, "file") else "dihkelu: "
+    try:
+        if given.plot:
+            plots.check(given.plot)
+        return given.run(given)
+    except Failed as failed:
+        print(f"{named}{failed}", file=sys.stderr)
+        return 2
+    except Wrong as wrong:
+        print(f"{named}{wrong}", file=sys.stderr)
+        return 1
+    except KeyboardInterrupt:
+        return 130

@@ -1,0 +1,361 @@
+"""Tests of the command `dihkelu`: its answers in every format, its statuses, its pictures."""
+import csv
+import io
+import json
+import math
+import os
+import pathlib
+import re
+import struct
+import subprocess
+import sys
+import tempfile
+import unittest
+from unittest import mock
+
+from common import PACKAGE, ROOT, build_train, run, train
+from dihkelu import batch, command, plots, reports, text
+
+EXAMPLES = ROOT / "examples"
+KNOWN = "beam 500 nm s 0.5 p 0.5\nsurface bare transmitted from 1 to 3 at 0 rad\n"  # document 01's known answer: 0.375 and 0.375
+SCANNER = """beam 1064 nm s 0.5 p 0.5
+window fused-silica at 20 deg
+  both custom
+  layer mgf2 quarter-waves 1 at 1064 nm
+surface custom reflected from air to bk7 at 45 deg
+  stack (HL)^7 H with H 2.1 L sio2 at 1064 nm
+"""
+
+
+def bits(x):
+    return struct.pack(">d", x).hex().upper()
+
+
+class Folder(unittest.TestCase):
+    def setUp(self):
+        kept = tempfile.TemporaryDirectory()
+        self.addCleanup(kept.cleanup)
+        self.folder = pathlib.Path(kept.name)
+
+    def file(self, name, content):
+        path = self.folder / name
+        path.write_bytes(content.encode() if isinstance(content, str) else content)
+        return path
+
+
+class Losses(Folder):
+    @classmethod
+    def setUpClass(cls):
+        build_train()
+
+    def test_the_examples(self):
+        for name in ["window", "doubled", "fold_mirror", "glasses", "metals"]:
+            status, out, said = run("losses", EXAMPLES / f"{name}.txt")
+            table, last = out.decode().rsplit("scale factor of a return: ", 1)
+            self.assertEqual((status, table, said), (0, (EXAMPLES / f"{name}.losses").read_text(), ""))
+            self.assertGreater(float(last), 1)
+
+    def test_formats_have_every_bit(self):
+        """CSV and JSON against the program `train`."""
+        data = run("write", "-", given=SCANNER)[1]
+        printed = [line.split()[2:] for line in train(data).splitlines()[:-1]]
+        whole = json.loads(run("losses", "-", "-f", "json", given=SCANNER)[1])
+        rows = list(csv.DictReader(io.StringIO(run("losses", "-", "-f", "csv", given=SCANNER)[1].decode())))
+        self.assertEqual([[bits(one["s"]), bits(one["p"])] for one in whole["surfaces"]], printed)
+        self.assertEqual([[bits(float(one["s"])), bits(float(one["p"]))] for one in rows], printed)
+        self.assertEqual(bits(whole["sum"]), train(data).split()[-1])
+        self.assertEqual(whole["scale_factor"], 1 / whole["sum"])
+        self.assertEqual(len(whole["notes"]), 4)
+        self.assertEqual([one["line"] for one in whole["surfaces"]], [2, 2, 5])
+
+    def test_notes_and_hints(self):
+        status, _, said = run("losses", "-", given=SCANNER)
+        self.assertEqual((status, said.count("-: note: "), said.count("hint")), (0, 4, 0))
+        self.assertEqual(run("losses", "-", "--quiet", given=SCANNER)[2], "")
+        said = run("losses", "-", given="beam 1064 nm s 1 p 1\nsurface mgf2 transmitted from 1 to 1.5 at 0 deg\n")[2]
+        self.assertEqual(said, "-: hint: surface 1 (line 2) has the preset mgf2, designed for 550 nm; the light has 1064 nm\n")
+
+    def test_another_wavelength(self):
+        other = SCANNER.replace("beam 1064 nm", "beam 532 nm")
+        self.assertEqual(run("losses", "-", "--wavelength", "532", given=SCANNER), run("losses", "-", given=other))
+
+    def test_no_light(self):
+        status, out, _ = run("losses", "-", given="beam 500 nm s 0 p 0\n")
+        self.assertEqual((status, out.decode().splitlines()[-1]), (0, "whole train: - % lost, - % left (s 0, p 0, sum 0)"))
+
+    def test_refused(self):
+        status, out, said = run("losses", "-", given="beam 99 nm s 1 p 1\n")
+        self.assertEqual((status, out, said), (1, b"", "-: refused 6 1: the beam (line 1) is outside the gate: the wavelength is 99, not from 100 to 10000\n"))
+
+
+class Sheets(Folder):
+    def test_written_shown_and_written(self):
+        sheet = self.folder / "scanner.sheet"
+        status, out, _ = run("write", "-", "-o", sheet, given=SCANNER)
+        self.assertEqual((status, out), (0, b""))
+        shown = run("show", sheet)[1]
+        self.assertEqual(run("write", "-", given=shown)[1], sheet.read_bytes())
+        whole = run("show", "-", given=SCANNER)[1].decode()
+        self.assertEqual(whole.count("# "), 4 + 3)  # four notes, and three surfaces with their degrees
+        self.assertEqual(whole.split("\n", 4)[4].encode(), shown)
+        self.assertEqual(json.loads(run("show", sheet, "-f", "json")[1])["p"], (0.5).hex())
+
+    def test_edition_1(self):
+        status, out, _ = run("edition1", EXAMPLES / "glasses.txt")
+        self.assertEqual((status, out[:4].hex()), (0, "10000001"))
+        status, _, said = run("edition1", EXAMPLES / "doubled.txt")
+        self.assertEqual((status, "refused 12 " in said), (1, True))
+
+    def test_no_bytes_on_a_terminal(self):
+        with mock.patch("common.Stream.isatty", return_value=True):
+            status, out, said = run("write", "-", given=KNOWN)
+        self.assertEqual((status, out, said), (2, b"", "-: a sheet is bytes and no text for a terminal: say -o FILE\n"))
+
+    def test_quarter_waves(self):
+        self.assertEqual(run("quarter-waves", EXAMPLES / "window.txt"), (0, (EXAMPLES / "window.waves").read_bytes(), ""))
+        rows = json.loads(run("quarter-waves", EXAMPLES / "window.txt", "-f", "json")[1])["layers"]
+        self.assertEqual([one["quarter_waves"] for one in rows], [1, 2, 1])
+
+    def test_stack(self):
+        words = ["stack", "(HL)^2 M", "--H", "2.3", "--L", "sio2", "--M", "1.7", "--at", "1064"]
+        lines = run(*words, "-f", "text")[1].decode()
+        self.assertEqual(lines.splitlines()[0], f"layer 2.3 thickness {1064 / (4 * 2.3)!r} nm")
+        self.assertEqual(len(json.loads(run(*words, "-f", "json")[1])["layers"]), 5)
+        self.assertEqual(run("stack", "HM", "--H", "2", "--L", "1.5", "--at", "1064")[0], 1)
+        self.assertEqual(run("stack", "H^32H", "--H", "2", "--L", "1.5", "--at", "1064")[2], "dihkelu: refused 9 3: 'H^32H' is no stack: '2' cannot stand at its byte 3, counted from 0\n")
+
+    def test_glasses(self):
+        status, out, _ = run("glasses", "--at", "300")
+        self.assertEqual((status, b"sapphire" in out, b"Malitson" in out), (0, True, True))
+        rows = json.loads(run("glasses", "--at", "5000", "-f", "json")[1])["glasses"]
+        self.assertEqual([one["name"] for one in rows if one["n"] is None], ["fused-silica", "n-bk7"])
+
+
+class Sweeps(Folder):
+    def rows(self, *words, given=SCANNER):
+        status, out, _ = run("sweep", "-", *words, "-f", "csv", given=given)
+        return status, list(csv.DictReader(io.StringIO(out.decode())))
+
+    def test_angles_are_single_runs(self):
+        _, rows = self.rows("--angle", "0", "60", "0.5")
+        self.assertEqual(len(rows), 121)
+        for row in rows[::10]:
+            alone = json.loads(run("losses", "-", "-f", "json", given=SCANNER.replace("at 20 deg", f"at {row['angle_deg']} deg"))[1])
+            self.assertEqual((float(row["s"]), float(row["p"]), float(row["lost_percent"])), (alone["s"], alone["p"], alone["lost_percent"]))
+
+    def test_wavelengths_are_single_runs(self):
+        _, rows = self.rows("--wavelength", "500", "1100", "3", "--each")
+        self.assertEqual(len(rows), 201)
+        for row in rows[::20]:
+            alone = json.loads(run("losses", "-", "-f", "json", "--wavelength", row["wavelength_nm"], given=SCANNER)[1])
+            self.assertEqual([(float(row[f"s_{i}"]), float(row[f"p_{i}"])) for i in (1, 2, 3)], [(one["s"], one["p"]) for one in alone["surfaces"]])
+
+    def test_which_surface(self):
+        _, first = self.rows("--angle", "0", "40", "20")
+        for words in (["--surface", "1"], ["--surface", "2"], ["--surface", "1", "2"]):
+            self.assertEqual(self.rows("--angle", "0", "40", "20", *words)[1], first)
+        self.assertNotEqual(self.rows("--angle", "0", "40", "20", "--surface", "3")[1], first)
+        self.assertEqual(run("sweep", "-", "--angle", "0", "40", "20", "--surface", "4", given=SCANNER)[::2], (1, "-: there is no surface 4; the sheet has 3 surfaces\n"))
+
+    def test_a_refused_point(self):
+        status, rows = self.rows("--angle", "60", "62", "1")
+        self.assertEqual((status, [bool(row["s"]) for row in rows]), (1, [True, True, False]))
+        self.assertIn("refused 6 22: surface 2 (line 2) is outside the gate", rows[2]["refused"])
+        status, rows = self.rows("--wavelength", "100", "300", "100")
+        self.assertIn("fused-silica is known from 210 to 3710 nm", rows[0]["refused"])
+        self.assertEqual(status, 1)
+
+    def test_steps(self):
+        _, rows = self.rows("--angle", "0", "0.3", "0.1")
+        self.assertEqual([row["angle_deg"] for row in rows], ["0.0", "0.1", "0.2", "0.3"])
+        _, rows = self.rows("--angle", "-10", "-20", "-5")
+        self.assertEqual([row["angle_deg"] for row in rows], ["-10.0", "-15.0", "-20.0"])
+        for words in (["0", "1", "0"], ["0", "1", "-1"], ["0", "1", "1e-9"]):
+            self.assertEqual(run("sweep", "-", "--angle", *words, given=SCANNER)[0], 2)
+
+    def test_of_a_sheet(self):
+        """A sheet of bytes is swept too; the text's window is two surfaces there, of which one is swept."""
+        data = run("write", "-", given=KNOWN)[1]
+        status, rows = self.rows("--angle", "0", "10", "10", given=data)
+        self.assertEqual((status, float(rows[0]["s"])), (0, 0.375))
+
+    def test_table(self):
+        status, out, _ = run("sweep", "-", "--angle", "0", "70", "70", "--quiet", given=KNOWN)
+        self.assertEqual((status, out.decode().splitlines()[1]), (0, "        0  0.375000  0.375000  0.750000  25.0000"))
+
+
+class Bands(Folder):
+    def test_band(self):
+        status, out, _ = run("band", EXAMPLES / "window.txt", EXAMPLES / "daylight.lines")
+        self.assertEqual((status, out), (0, (EXAMPLES / "window.band").read_bytes()))
+        whole = json.loads(run("band", EXAMPLES / "window.txt", EXAMPLES / "daylight.lines", "-f", "json")[1])
+        self.assertEqual((len(whole["lines"]), round(whole["s"], 6)), (5, 0.335561))
+
+    def test_glasses_by_name(self):
+        said = run("band", "-", EXAMPLES / "daylight.lines", given=SCANNER)[2]
+        self.assertIn("hint: glasses by name have their index at 1064 nm in every line", said)
+
+    def test_refused(self):
+        lines = self.file("x.lines", "500 nm weight 0\n")
+        self.assertEqual(run("band", "-", lines, given=KNOWN)[::2], (1, "-: refused 15 0: the band's line 1: the weight is 0, not from 1 to 1000\n"))
+
+
+class Check(Folder):
+    def test_admitted(self):
+        self.assertEqual(run("check", "-", given=KNOWN), (0, b"-: admitted: 1 surface, edition 1, 64 bytes\n", ""))
+        self.assertTrue(json.loads(run("check", "-", "-f", "json", given=KNOWN)[1])["admitted"])
+
+    def test_refused(self):
+        bad = KNOWN.replace("to 3", "to 5") + "surface bare transmitted from 5 to 1 at 80 deg\n"
+        status, out, _ = run("check", "-", "-q", given=bad)
+        self.assertEqual((status, out.decode().splitlines()), (1, [
+            "-: refused 6 8: surface 1 (line 2) is outside the gate: the second index is 5, not from 1 to 4",
+            "  2 | surface bare transmitted from 1 to 5 at 0 rad",
+            "  also surface 2 (line 3): the first index is 5, not from 1 to 4; the angle's cosine is 0.17364817766693041, less than 0.25; "
+            "n_incident times sin is 4.92403876506104, more than 0.875 of the second index 1, 0.875",
+        ]))
+        whole = json.loads(run("check", "-", "-f", "json", given=bad)[1])
+        self.assertEqual((whole["admitted"], whole["refused"], whole["place"], whole["line"]), (False, 6, 8, 2))
+
+    def test_no_text(self):
+        status, out, _ = run("check", "-", given=KNOWN + "lens 5\n")
+        self.assertEqual((status, out.decode().splitlines()[1]), (1, "  3 | lens 5"))
+        status, out, _ = run("check", EXAMPLES / "refused_5_no_beam.sheet")
+        self.assertEqual((status, ": refused 5 1: word 1 is " in out.decode()), (1, True))
+
+    def test_every_example(self):
+        """Refused where `train` refuses, with its number and place."""
+        for out in sorted(EXAMPLES.glob("*.out")):
+            status, said, _ = run("check", out.with_suffix(".sheet"), "-q")
+            printed = out.read_text()
+            if out.stem == "refused_4_nothing":
+                continue  # nothing is a text too
+            self.assertEqual(status, int(printed.startswith("refused")))
+            if status:
+                self.assertIn(f": {printed.strip()}: ", said.decode())
+
+
+class Batch(Folder):
+    def test_a_refused_one_does_not_stop_the_rest(self):
+        good, bad = self.file("a.txt", KNOWN), self.file("b.txt", "beam 99 nm s 1 p 1\n")
+        status, out, _ = run("batch", good, bad, good, "-f", "csv")
+        rows = list(csv.DictReader(io.StringIO(out.decode())))
+        self.assertEqual((status, [row["sum"] for row in rows], [row["status"] for row in rows]), (1, ["0.75", "", "0.75"], ["0", "1", "0"]))
+        status, out, _ = run("batch", good, self.folder / "none.txt")
+        self.assertEqual((status, b"No such file or directory" in out, out.endswith(b"2 sheets, 1 refused or unread\n")), (2, True, True))
+
+    def test_many_processes(self):
+        names = [str(self.file(f"{i:03}.txt", KNOWN.replace("0 rad", f"{i / 300} rad"))) for i in range(300)]
+        self.assertGreater(len(names), batch.FEW)
+        self.assertEqual(batch.run(names, 2), batch.run(names, 1))
+        self.assertEqual(batch.files([str(self.folder)]), names)
+
+    def test_progress(self):
+        with mock.patch.object(sys, "stderr", io.StringIO()) as said:
+            said.isatty = lambda: True
+            show = batch.bar(3)
+            for count in (1, 2, 3):
+                show(count)
+        self.assertTrue(said.getvalue().endswith(" 3 of 3\n"))
+
+
+@unittest.skipUnless(plots.available(), "matplotlib is not installed for this Python")
+class Pictures(Folder):
+    def test_drawn(self):
+        from matplotlib import image
+
+        text_file = self.file("scanner.txt", SCANNER)
+        for name, words in [
+            ("losses", ["losses", text_file]),
+            ("angle", ["sweep", text_file, "--angle", "0", "70", "2"]),
+            ("wavelength", ["sweep", text_file, "--wavelength", "500", "1200", "5"]),
+            ("band", ["band", EXAMPLES / "window.txt", EXAMPLES / "daylight.lines"]),
+            ("dark", ["losses", self.file("dark.txt", "beam 500 nm s 0 p 0\nsurface bare transmitted from 1 to 2 at 0 deg\n")]),
+            ("nothing", ["sweep", self.file("nothing.txt", "beam 500 nm s 1 p 0\nsurface bare transmitted from 1 to 2 at 0 deg\n"), "--angle", "80", "85", "1"]),
+        ]:
+            for ending, begins in [(".png", b"\x89PNG"), (".svg", b"<?xml"), (".pdf", b"%PDF")]:
+                with self.subTest(name + ending):
+                    path = self.folder / (name + ending)
+                    self.assertLess(run(*words, "--plot", path, "--quiet")[0], 2)
+                    self.assertTrue(path.read_bytes().startswith(begins))
+            pixels = image.imread(self.folder / (name + ".png"))
+            self.assertGreater(pixels.std(), 0.02, name)
+
+    def test_what_is_drawn(self):
+        plan = text.read(SCANNER)
+        points = reports.sweep_angle(plan, range(0, 65, 5))
+        figure = plots.sweep(points, (plan.s, plan.p), "angle", plan.names(), "x")
+        above, below = figure.axes
+        self.assertEqual([line.get_label() for line in above.lines], ["s", "p", "both"])
+        both = above.lines[2].get_ydata()
+        stacked = plots.surface_losses(points, (plan.s, plan.p))
+        self.assertEqual((len(below.collections), len(stacked)), (3, 3))
+        for i, point in enumerate(points):
+            if point.refused:
+                self.assertTrue(math.isnan(both[i]))
+            else:
+                self.assertAlmostEqual(both[i], point.lost_percent)
+                self.assertAlmostEqual(sum(row[i] for row in stacked), point.lost_percent)
+
+    def test_same_bytes(self):
+        first, second = self.folder / "a.svg", self.folder / "b.svg"
+        for path in (first, second):
+            run("losses", "-", "--plot", path, "--title", "x", given=SCANNER)
+        self.assertEqual(first.read_bytes(), second.read_bytes())
+
+    def test_not_written(self):
+        self.assertEqual(run("losses", "-", "--plot", self.folder / "none" / "x.png", given=KNOWN)[0], 2)
+
+
+class Ends(Folder):
+    def test_without_matplotlib(self):
+        with mock.patch.dict(sys.modules, {"matplotlib": None, "matplotlib.figure": None}):
+            status, out, said = run("losses", "-", "--plot", "x.png", given=KNOWN)
+            self.assertEqual((status, out, "-: x.png cannot be drawn: matplotlib is not installed for " in said), (2, b"", True))
+            self.assertEqual(run("losses", "-", given=KNOWN)[0], 0)
+        self.assertEqual(run("losses", "-", "--plot", "x.gif", given=KNOWN)[::2], (2, "-: x.gif ends with none of .png, .svg, .pdf\n"))
+
+    def test_statuses(self):
+        for status, words in [
+            (0, ["--version"]), (0, ["--help"]), (0, ["sweep", "--help"]), (2, []), (2, ["lens"]), (2, ["losses"]), (2, ["losses", "/nowhere"]), (2, ["losses", "/"]),
+            (2, ["sweep", "-"]), (2, ["sweep", "-", "--angle", "0", "1"]), (2, ["sweep", "-", "--angle", "0", "x", "1"]), (2, ["batch"]), (2, ["batch", "x", "--jobs", "0"]),
+            (2, ["losses", "-", "-o", "/nowhere/x"]), (2, ["losses", "-", "--format", "xml"]), (1, ["losses", EXAMPLES / "refused_4_nothing.sheet"]), (1, ["losses", "-"]),
+        ]:
+            with self.subTest(words):
+                given = KNOWN if "-o" in words else b""
+                found, _, said = run(*words, given=given)
+                self.assertEqual((found, "Traceback" in said), (status, False), said)
+
+    def test_as_a_process(self):
+        environment = {**os.environ, "PYTHONPATH": str(PACKAGE)}
+        module = [sys.executable, "-m", "dihkelu"]
+        done = subprocess.run([*module, "losses", str(EXAMPLES / "window.txt")], capture_output=True, env=environment, check=False)
+        self.assertEqual((done.returncode, done.stdout), run("losses", EXAMPLES / "window.txt")[:2])
+        if os.path.exists("/dev/full"):
+            with open("/dev/full", "wb") as full:
+                done = subprocess.run([*module, "losses", str(EXAMPLES / "window.txt")], stdout=full, stderr=subprocess.PIPE, env=environment, check=False)
+            self.assertEqual((done.returncode, b"cannot be written: No space left on device" in done.stderr), (2, True))
+        done = subprocess.run(["sh", "-c", '"$@" losses - <&-', "sh", *module], capture_output=True, env=environment, check=False)
+        self.assertEqual((done.returncode, b"Traceback" in done.stderr), (2, False), done.stderr)
+
+
+class Pages(unittest.TestCase):
+    """The manual page and the completion know every command and option."""
+
+    def test_manual(self):
+        page = (ROOT / "python" / "man" / "dihkelu.1").read_text().replace("\\-", "-")
+        for name, one in command.subcommands(command.arguments()).items():
+            self.assertRegex(page, rf"(?m)^\.B {name}\b")
+            for option in (x for action in one._actions for x in action.option_strings):
+                self.assertIsNotNone(re.search(rf"(?<![-\w]){re.escape(option)}(?![-\w])", page.replace("\\fB", " ").replace("\\fR", " ")), (name, option))
+
+    def test_completion(self):
+        script = run("completion")[1].decode()
+        asked = script + 'COMP_WORDS=(dihkelu {}); COMP_CWORD={}; _dihkelu; echo "${{COMPREPLY[@]}}"\n'
+        for words, at, found in [("s", 1, "sweep show stack"), ("sweep --a", 2, "--angle"), ("losses --pl", 2, "--plot")]:
+            done = subprocess.run(["bash", "-c", asked.replace("{}", words, 1).replace("{}", str(at), 1).replace("{{", "{").replace("}}", "}")], capture_output=True, text=True, check=False)
+            self.assertEqual((done.stdout.strip(), done.stderr), (found, ""))
+
+
+if __name__ == "__main__":
+    unittest.main()
