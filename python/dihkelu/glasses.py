@@ -18,7 +18,7 @@ class OutOfRange(ValueError):
     """The formula is not known at this wavelength."""
 
 
-@dataclass(frozen=True)
+@dataclass(frozen=True, eq=False)
 class Glass:
     """n^2 = constant + the sum of b u^2 / (u^2 - c) over `terms`, (b, c) each, u being the wavelength in micrometres.
 

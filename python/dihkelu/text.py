@@ -68,6 +68,9 @@ def counted(count: int, what: str) -> str:
 # ---- a plan
 
 
+Known = dict[tuple[glasses.Glass, float], float]  # indices that were worked out, by glass and wavelength
+
+
 @dataclass(frozen=True)
 class Index:
     """A number, or a glass by its name."""
@@ -75,22 +78,33 @@ class Index:
     number: float = 0.0
     glass: glasses.Glass | None = None
 
-    def at(self, wavelength_nm: float) -> float:
-        return self.number if self.glass is None else self.glass.index(wavelength_nm)
+    def at(self, wavelength_nm: float, known: Known | None = None) -> float:
+        """The index at a wavelength; that of a glass is put into `known`."""
+        if self.glass is None:
+            return self.number
+        known = {} if known is None else known
+        key = self.glass, wavelength_nm
+        if key not in known:
+            known[key] = self.glass.index(wavelength_nm)
+        return known[key]
 
 
 @dataclass(frozen=True)
 class Film:
-    """A layer as it was written: `thickness_nm` is known, its index may be a glass's. `given` is its own Cauchy glass."""
+    """A layer as it was written: itself, or where its index is that of a glass, the rest of it."""
 
     line: int | None
-    thickness_nm: float
     index: Index = Index()
     k: float = 0.0
-    given: Glass | None = None
+    thickness_nm: float = 0.0
+    given: Union[Layer, Glass, None] = None
 
-    def at(self, wavelength_nm: float) -> Union[Layer, Glass]:
-        return self.given or Layer(self.index.at(wavelength_nm), self.k, self.thickness_nm)
+    def at(self, wavelength_nm: float, known: Known | None = None) -> Union[Layer, Glass]:
+        return self.given or Layer(self.index.at(wavelength_nm, known), self.k, self.thickness_nm)
+
+
+def film(line: int | None, index: Index, k: float, thickness_nm: float) -> Film:
+    return Film(line, index, k, thickness_nm, Layer(index.number, k, thickness_nm) if index.glass is None else None)
 
 
 @dataclass
@@ -132,7 +146,7 @@ class Plan:
     def make(self, wavelength_nm: float | None = None, angles: dict[int, float] | None = None) -> Made:
         """The sheet at a wavelength, the beam's own unless given, with other angles in radians by the faces' numbers from 0."""
         nm = self.wavelength_nm if wavelength_nm is None else wavelength_nm
-        made = Made(self, Sheet(nm, self.s, self.p, edition=self.edition), [], [])
+        made = Made(self, Sheet(nm, self.s, self.p, edition=self.edition))
         surfaces: list[Surface] = []
         for count, face in enumerate(self.faces):
             nm = nm if face.retune_nm is None else face.retune_nm
@@ -163,34 +177,37 @@ class Plan:
 
 @dataclass
 class Made:
-    """A plan's sheet, with what was worked out for it and what is hardly meant."""
+    """A plan's sheet, the indices of its glasses, and for each window its line, the angle outside and the angle inside."""
 
     plan: Plan
     sheet: Sheet
-    notes: list[str]
-    hints: list[str]
+    known: Known = field(default_factory=dict)
+    windows: list[tuple[int | None, float, float]] = field(default_factory=list)
+
+    @property
+    def notes(self) -> list[str]:
+        """What was worked out for the sheet."""
+        indices = [f"{glass.name} has n {n:.7g} at {written(nm)} nm, by {glass.source}" for (glass, nm), n in self.known.items() if glass.coloured]
+        angles = [f"{where(line)}inside the window the light is at {math.degrees(inner):.4f} deg, by Snell's law" for line, _, inner in self.windows]
+        return indices + angles
+
+    @property
+    def hints(self) -> list[str]:
+        """The windows that are too steep for the gate."""
+        past = f"past {math.degrees(STEEPEST):.2f} deg its second face is outside the gate"
+        steep = [(line, math.degrees(outer)) for line, outer, _ in self.windows if abs(outer) > STEEPEST]
+        return [f"{where(line)}the window is at {outer:.2f} deg; {past}" for line, outer in steep]
 
 
 def _surface(face: Face, nm: float, angle: float, before: list[Surface], made: Made) -> Surface:
-    """A face at its wavelength; notes of the indices and the angle that were worked out."""
-    n0, n1 = face.before.at(nm), face.after.at(nm)
-    layers = tuple(film.at(nm) for film in face.films)
-    for index in [face.before, face.after, *(film.index for film in face.films)]:
-        _note_index(made, index, nm)
+    """A face at its wavelength; the second of a window at the angle that the first leads to."""
+    n0, n1 = face.before.at(nm, made.known), face.after.at(nm, made.known)
+    layers = tuple([film.at(nm, made.known) for film in face.films])
     if face.second:
-        angle = inside(before[-1].angle_rad, n1, n0, face.line)
-        made.notes.append(f"{where(face.line)}inside the window the light is at {math.degrees(angle):.4f} deg, by Snell's law")
-        if abs(before[-1].angle_rad) > STEEPEST:
-            outer, most = math.degrees(before[-1].angle_rad), math.degrees(STEEPEST)
-            made.hints.append(f"{where(face.line)}the window is at {outer:.2f} deg; past {most:.2f} deg its second face is outside the gate")
+        outer = before[-1].angle_rad
+        angle = inside(outer, n1, n0, face.line)
+        made.windows.append((face.line, outer, angle))
     return Surface(face.coating, n0, n1, angle, face.reflected, layers, face.retune_nm)
-
-
-def _note_index(made: Made, index: Index, nm: float) -> None:
-    if index.glass is not None and index.glass.coloured:
-        note = f"{index.glass.name} has n {index.at(nm):.7g} at {written(nm)} nm, by {index.glass.source}"
-        if note not in made.notes:
-            made.notes.append(note)
 
 
 def inside(angle_rad: float, n0: float, n1: float, line: int | None = None) -> float:
@@ -205,10 +222,7 @@ def of_sheet(sheet: Sheet) -> Plan:
     """The plan that makes a sheet as it is."""
     plan = Plan(sheet.edition, sheet.wavelength_nm, sheet.s, sheet.p)
     for one in sheet.surfaces:
-        films = [
-            Film(None, x.thickness_nm, given=x) if isinstance(x, Glass) else Film(None, x.thickness_nm, Index(x.n), x.k)
-            for x in one.layers
-        ]
+        films = [Film(None, given=x) for x in one.layers]
         ends = Index(one.n_incident), Index(one.n_substrate)
         plan.faces.append(Face(None, one.coating, *ends, one.angle_rad, one.reflected, films=films, retune_nm=one.retune_nm))
     return plan
@@ -297,7 +311,7 @@ def stack_films(text: str, letters: list[Index], design_nm: float, line: int | N
         raise Wrong(f"refused {refused.number} {refused.place}: {stack_refused(text, refused)}") from None
     except glasses.OutOfRange as wrong:
         raise Wrong(str(wrong)) from None
-    return [Film(line, layer.thickness_nm, letters[int(name.n) - 1]) for layer, name in zip(layers, named)]
+    return [film(line, letters[int(name.n) - 1], 0.0, layer.thickness_nm) for layer, name in zip(layers, named)]
 
 
 def stack_line(content: str, line: int) -> list[Film]:
@@ -321,9 +335,9 @@ def layer_line(tokens: list[str], line: int) -> Film:
     if len(tokens) > 2 and tokens[2].lower() == "quarter-waves":
         n, count, design = match(tokens, QUARTER_FORM)
         (one,) = stack_films("H", [n, n, n], design, line)
-        return replace(one, thickness_nm=count * one.thickness_nm)
+        return film(line, n, 0.0, count * one.thickness_nm)
     n, thickness, k = (match(tokens, LAYER_FORM) + [0.0])[:3]
-    return Film(line, thickness, n, k)
+    return film(line, n, k, thickness)
 
 
 # ---- text to plan
@@ -399,7 +413,7 @@ class Reader:
         if self.plan.edition == 1:
             raise Wrong("a glass stands only in a sheet of edition 2")
         a, b, c, thickness = match(tokens, GLASS_FORM)
-        self.add_films([Film(line, thickness, given=Glass(a, b, c, thickness))])
+        self.add_films([Film(line, given=Glass(a, b, c, thickness))])
 
     def add_faces(self, faces: list[Face]) -> None:
         if len(self.plan.faces) + len(faces) > MOST_SURFACES:
