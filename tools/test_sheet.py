@@ -60,7 +60,7 @@ GLASS = "glass A 1.5046 B 0.0042 C 0 thickness 80 nm\n"
 BAD_TEXTS = [
     ("", "line 1: the text ends without a beam: beam NUMBER nm|um s NUMBER p NUMBER"),
     ("# nothing\n", "line 2: the text ends without a beam: beam NUMBER nm|um s NUMBER p NUMBER"),
-    (BEAM + "\nlens 3\n", "line 3: 'lens' begins no line; a line begins with edition, beam, retune, surface, window, front, back, both, layer, glass, stack or #"),
+    (BEAM + "\nlens 3\n", "line 3: 'lens' begins no line; a line begins with edition, material, beam, retune, surface, window, front, back, both, layer, glass, stack or #"),
     ("beam 500 nm s half p 0.5\n", "line 1: 'half' is no number"),
     ("beam 500 s 0.5 p 0.5\n", "line 1: there is no unit 's'; there are nm, um"),
     ("beam 500 nm s 0.5\n", "line 1: the line ends where p should stand: beam NUMBER nm|um s NUMBER p NUMBER"),

@@ -2,7 +2,7 @@
 
 The coefficients are written from memory of the papers and of the maker's data sheet; a test holds each glass to a well-known index.
 Films of TiO2, Ta2O5 and other oxides are left out: their index depends on how the film was made, so that the coating maker's own
-coefficients belong into a `glass` line. Air is 1, as in the sheets.
+coefficients belong into a `material` line. Air is 1, as in the sheets.
 """
 from __future__ import annotations
 
@@ -83,17 +83,15 @@ TABLE = {
     ]
 }
 OTHER_NAMES = {"vacuum": "air", "silica": "fused-silica", "sio2": "fused-silica", "bk7": "n-bk7"}
-LEFT_OUT = {
-    name: "a film's index depends on how it was made: write the maker's coefficients as a line glass a .. b .. c .., or the index itself"
-    for name in ("tio2", "ta2o5", "al2o3", "hfo2", "nb2o5", "zro2")
-}
+LEFT_OUT = ("tio2", "ta2o5", "al2o3", "hfo2", "nb2o5", "zro2")
 
 
 def glass(name: str) -> Glass:
     """The glass of a name, in letters of either size."""
     key = OTHER_NAMES.get(name.lower(), name.lower())
     if key in LEFT_OUT:
-        raise UnknownGlass(f"'{name}' has no index by its name: {LEFT_OUT[key]}")
+        made = "a film's index depends on how it was made"
+        raise UnknownGlass(f"'{name}' has no index by its name: {made}; give the maker's coefficients, material {name} a .. b .. c .., or a number")
     if key not in TABLE:
         raise UnknownGlass(f"there is no glass '{name}'; there are {', '.join([*TABLE, *OTHER_NAMES])}")
     return TABLE[key]

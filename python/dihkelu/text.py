@@ -28,11 +28,12 @@ WINDOW_FORM = "window INDEX at NUMBER deg|rad [in INDEX]"
 FACE_FORM = "front|back|both COATING"
 LAYER_FORM = "layer INDEX thickness NUMBER nm|um [k NUMBER]"
 QUARTER_FORM = "layer INDEX quarter-waves NUMBER at NUMBER nm|um"
+MATERIAL_FORM = "material NAME a NUMBER b NUMBER c NUMBER"
 GLASS_FORM = "glass a NUMBER b NUMBER c NUMBER thickness NUMBER nm|um"
 RETUNE_FORM = "retune to NUMBER nm|um"
 STACK_FORM = "stack TEXT with H INDEX L INDEX [M INDEX] at NUMBER nm|um"
 BAND_FORM = "NUMBER nm|um weight NUMBER"
-HEADS = "edition, beam, retune, surface, window, front, back, both, layer, glass, stack"
+HEADS = "edition, material, beam, retune, surface, window, front, back, both, layer, glass, stack"
 UNITS = {"nm": 1.0, "um": 1000.0, "deg": math.pi / 180, "rad": 1.0}
 WHAT = {"transmitted": "direction", "1": "edition", "front": "face"}  # what alternatives are; else units
 
@@ -73,13 +74,16 @@ Known = dict[tuple[glasses.Glass, float], float]  # indices that were worked out
 
 @dataclass(frozen=True)
 class Index:
-    """A number, or a glass by its name."""
+    """A number, a glass by its name, or a material of the text by its coefficients (document 02, slip 3)."""
 
     number: float = 0.0
     glass: glasses.Glass | None = None
+    material: tuple[float, float, float] | None = None
 
     def at(self, wavelength_nm: float, known: Known | None = None) -> float:
         """The index at a wavelength; that of a glass is put into `known`."""
+        if self.material is not None:
+            return cauchy(*self.material, wavelength_nm)
         if self.glass is None:
             return self.number
         known = {} if known is None else known
@@ -87,6 +91,12 @@ class Index:
         if key not in known:
             known[key] = self.glass.index(wavelength_nm)
         return known[key]
+
+
+def cauchy(a: float, b: float, c: float, wavelength_nm: float) -> float:
+    """a + (b + c/u2)/u2, in the order of document 02's slip 3."""
+    u2 = (wavelength_nm / 1000) * (wavelength_nm / 1000)
+    return a + (b + c / u2) / u2 if u2 else math.nan
 
 
 @dataclass(frozen=True)
@@ -104,6 +114,11 @@ class Film:
 
 
 def film(line: int | None, index: Index, k: float, thickness_nm: float) -> Film:
+    """A layer; one of a material of the text changes with colour in the sheet itself, as a glass does."""
+    if index.material is not None:
+        if k != 0:
+            raise Wrong(f"a layer of a material with coefficients has no k; this has {written(k)}")
+        return Film(line, index, 0.0, thickness_nm, Glass(*index.material, thickness_nm))
     return Film(line, index, k, thickness_nm, Layer(index.number, k, thickness_nm) if index.glass is None else None)
 
 
@@ -230,6 +245,8 @@ def of_sheet(sheet: Sheet) -> Plan:
 
 # ---- words of a line
 
+Materials = dict[str, Index]  # of the text, by their names
+
 
 def choice(token: str, names: list[str], what: str) -> int:
     if token.lower() not in names:
@@ -237,18 +254,29 @@ def choice(token: str, names: list[str], what: str) -> int:
     return names.index(token.lower())
 
 
-def index(token: str) -> Index:
-    """A number or a glass's name."""
+def index(token: str, materials: Materials = {}) -> Index:
+    """A number, the name of a material of the text, or that of a glass."""
     if re.match(r"[+-]?\.?[0-9]", token):
         return Index(number(token))
+    if token.lower() in materials:
+        return materials[token.lower()]
     try:
         return Index(glass=glasses.glass(token))
     except glasses.UnknownGlass as wrong:
         raise Wrong(f"'{token}' is no number; {wrong}" if "there is no glass" in str(wrong) else str(wrong)) from None
 
 
-def match(tokens: list[str], form: str) -> list:
-    """What stands at the places of NUMBER, INDEX, COATING and the alternatives of the form; its other words must stand there.
+def name(token: str) -> str:
+    """A name for a material of the text, in small letters."""
+    if not re.fullmatch(r"[A-Za-z][A-Za-z0-9_.-]*", token):
+        raise Wrong(f"'{token}' is no name: a name is a letter, then letters, digits, '-', '_' and '.'")
+    if token.lower() in {**glasses.TABLE, **glasses.OTHER_NAMES}:
+        raise Wrong(f"'{token}' is a glass that has its name already")
+    return token.lower()
+
+
+def match(tokens: list[str], form: str, materials: Materials = {}) -> list:
+    """What stands at the places of NUMBER, INDEX, NAME, COATING and the alternatives of the form; its other words must stand there.
 
     A NUMBER before a unit is in nanometres or radians."""
     optional = form.split(" [")
@@ -263,7 +291,9 @@ def match(tokens: list[str], form: str) -> list:
         if want == "NUMBER":
             found.append(number(token))
         elif want == "INDEX":
-            found.append(index(token))
+            found.append(index(token, materials))
+        elif want == "NAME":
+            found.append(name(token))
         elif want == "COATING":
             found.append(Coating(choice(token, COATINGS, "coating")))
         elif "|" in want:
@@ -314,7 +344,7 @@ def stack_films(text: str, letters: list[Index], design_nm: float, line: int | N
     return [film(line, letters[int(name.n) - 1], 0.0, layer.thickness_nm) for layer, name in zip(layers, named)]
 
 
-def stack_line(content: str, line: int) -> list[Film]:
+def stack_line(content: str, line: int, materials: Materials) -> list[Film]:
     """The layers of a line `stack TEXT with ..`. A letter that is not given takes H's index, and must not occur."""
     parts = re.fullmatch(r"\s*stack\s+(.*\S)\s+with\s+(.*?)\s*", content, re.IGNORECASE)
     if not parts:
@@ -325,18 +355,18 @@ def stack_line(content: str, line: int) -> list[Film]:
         raise Wrong(f"M stands in '{text}' and has no index: {STACK_FORM}")
     form = "h INDEX l INDEX m INDEX at NUMBER nm|um" if with_m else "h INDEX l INDEX at NUMBER nm|um"
     try:
-        given = match(tokens, form)
+        given = match(tokens, form, materials)
     except Wrong as wrong:
         raise Wrong(str(wrong).replace(form, STACK_FORM)) from None
     return stack_films(text, [given[0], given[1], given[2] if with_m else given[0]], given[-1], line)
 
 
-def layer_line(tokens: list[str], line: int) -> Film:
+def layer_line(tokens: list[str], line: int, materials: Materials) -> Film:
     if len(tokens) > 2 and tokens[2].lower() == "quarter-waves":
-        n, count, design = match(tokens, QUARTER_FORM)
+        n, count, design = match(tokens, QUARTER_FORM, materials)
         (one,) = stack_films("H", [n, n, n], design, line)
         return film(line, n, 0.0, count * one.thickness_nm)
-    n, thickness, k = (match(tokens, LAYER_FORM) + [0.0])[:3]
+    n, thickness, k = (match(tokens, LAYER_FORM, materials) + [0.0])[:3]
     return film(line, n, k, thickness)
 
 
@@ -348,6 +378,7 @@ class Reader:
 
     def __init__(self) -> None:
         self.plan = Plan()
+        self.materials: Materials = {}
         self.waiting: tuple[float, int] | None = None  # a retune's wavelength and line, until its surface comes
         self.under: list[Face] = []  # the faces that a layer belongs to
 
@@ -361,7 +392,7 @@ class Reader:
         if head not in HEADS.split(", "):
             raise Wrong(f"'{tokens[0]}' begins no line; a line begins with {HEADS} or #")
         if head == "stack":
-            self.add_films(stack_line(content, line))
+            self.add_films(stack_line(content, line, self.materials))
         elif head in ("front", "back", "both"):
             self.face(tokens)
         else:
@@ -379,13 +410,13 @@ class Reader:
         self.plan.beam_line = line
 
     def surface(self, tokens: list[str], line: int) -> None:
-        coating, reflected, n0, n1, angle = match(tokens, SURFACE_FORM)
+        coating, reflected, n0, n1, angle = match(tokens, SURFACE_FORM, self.materials)
         self.add_faces([Face(line, coating, n0, n1, angle, bool(reflected))])
         self.under = self.plan.faces[-1:]
 
     def window(self, tokens: list[str], line: int) -> None:
         """Two faces, bare until the next lines say otherwise."""
-        n, angle, medium = (match(tokens, WINDOW_FORM) + [Index(1.0)])[:3]
+        n, angle, medium = (match(tokens, WINDOW_FORM, self.materials) + [Index(1.0)])[:3]
         front = Face(line, Coating.BARE, medium, n, angle)
         self.add_faces([front, Face(line, Coating.BARE, n, medium, angle, second=True)])
         self.under = []
@@ -407,13 +438,17 @@ class Reader:
         self.waiting = match(tokens, RETUNE_FORM)[0], line
 
     def layer(self, tokens: list[str], line: int) -> None:
-        self.add_films([layer_line(tokens, line)])
+        self.add_films([layer_line(tokens, line, self.materials)])
 
     def glass(self, tokens: list[str], line: int) -> None:
-        if self.plan.edition == 1:
-            raise Wrong("a glass stands only in a sheet of edition 2")
         a, b, c, thickness = match(tokens, GLASS_FORM)
-        self.add_films([Film(line, given=Glass(a, b, c, thickness))])
+        self.add_films([film(line, Index(material=(a, b, c)), 0.0, thickness)])
+
+    def material(self, tokens: list[str], line: int) -> None:
+        called, *coefficients = match(tokens, MATERIAL_FORM)
+        if called in self.materials:
+            raise Wrong(f"there is a material '{called}' already")
+        self.materials[called] = Index(material=tuple(coefficients))
 
     def add_faces(self, faces: list[Face]) -> None:
         if len(self.plan.faces) + len(faces) > MOST_SURFACES:
@@ -424,6 +459,8 @@ class Reader:
         self.plan.faces.extend(faces)
 
     def add_films(self, films: list[Film]) -> None:
+        if self.plan.edition == 1 and any(isinstance(one.given, Glass) for one in films):
+            raise Wrong("a glass stands only in a sheet of edition 2")
         if not self.under or any(face.coating != Coating.CUSTOM for face in self.under):
             raise Wrong("a layer stands only under a surface whose coating is custom")
         for face in self.under:
@@ -525,11 +562,8 @@ def met(sheet: Sheet) -> list[float]:
 
 
 def index_at(layer: Union[Layer, Glass], wavelength_nm: float) -> float:
-    """The index of a layer at a wavelength: that of a glass is a + (b + c/u2)/u2 (document 02, slip 3)."""
-    if isinstance(layer, Layer):
-        return layer.n
-    u2 = (wavelength_nm / 1000) * (wavelength_nm / 1000)
-    return layer.a + (layer.b + layer.c / u2) / u2 if u2 else math.nan
+    """The index of a layer at a wavelength."""
+    return layer.n if isinstance(layer, Layer) else cauchy(layer.a, layer.b, layer.c, wavelength_nm)
 
 
 def layer_text(layer: Union[Layer, Glass], wavelength_nm: float) -> str:

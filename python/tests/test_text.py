@@ -118,7 +118,7 @@ class Windows(unittest.TestCase):
             (32 * "window 1.5 at 3 deg\n" + "window 1.5 at 3 deg\n", "line 34: a sheet has at most 64 surfaces"),
             ("window 1 at 50 deg in 1.5\n", "line 2: no light at 50.00 deg in index 1.5 comes into index 1"),
             ("retune to 5 um\nwindow bk7 at 0 deg\n", "line 3: n-bk7 is known from 300 to 2500 nm (Schott, data sheet of N-BK7); the wavelength is 5000.0 nm"),
-            ("surface custom transmitted from 1 to 1.5 at 0 deg\nlayer Ta2O5 thickness 9 nm\n", "line 3: 'Ta2O5' has no index by its name: a film's index depends on how it was made: write the maker's coefficients as a line glass a .. b .. c .., or the index itself"),
+            ("surface custom transmitted from 1 to 1.5 at 0 deg\nlayer Ta2O5 thickness 9 nm\n", "line 3: 'Ta2O5' has no index by its name: a film's index depends on how it was made; give the maker's coefficients, material Ta2O5 a .. b .. c .., or a number"),
             ("surface custom transmitted from 1 to 1.5 at 0 deg\nlayer bk7 quarter-waves 1 at 99 nm\n", "line 3: n-bk7 is known from 300 to 2500 nm (Schott, data sheet of N-BK7); the wavelength is 99.0 nm"),
             ("surface custom transmitted from 1 to 1.5 at 0 deg\nlayer 1.5 quarter-waves 1\n", "line 3: the line ends where at should stand: layer INDEX quarter-waves NUMBER at NUMBER nm|um"),
             ("surface custom transmitted from 1 to 1.5 at 0 deg\nlayer 0 quarter-waves 1 at 550 nm\n", "line 3: refused 1 0: an index or the design wavelength is not positive and finite"),
@@ -155,6 +155,26 @@ class Layers(unittest.TestCase):
         plan = text.read(self.CUSTOM + f"stack HL with H {n!r} L sio2 at 1064 nm\n")
         high, low = plan.make(532.0).sheet.surfaces[0].layers
         self.assertEqual((high.n, low.n), (n, glasses.glass("sio2").index(532)))
+
+    def test_materials(self):
+        """Layers of a material are kind 6, as a glass is; where a surface begins or ends its index is worked out."""
+        tantala = "material Ta2O5 a 2.06 b 0.025 c 0\n"
+        self.assertEqual(made(tantala + self.CUSTOM + "layer ta2o5 thickness 80 nm\n").sheet, made(self.CUSTOM + "glass a 2.06 b 0.025 c 0 thickness 80 nm\n").sheet)
+        n = text.cauchy(2.06, 0.025, 0.0, 1064.0)
+        found = made(tantala + self.CUSTOM + "stack HL with H Ta2O5 L sio2 at 1064 nm\nlayer Ta2O5 quarter-waves 2 at 1064 nm\n").sheet.surfaces[0].layers
+        self.assertEqual((found[0], type(found[1])), (Glass(2.06, 0.025, 0.0, 1064 / (4 * n)), Layer))
+        self.assertEqual(found[2], Glass(2.06, 0.025, 0.0, 2 * (1064 / (4 * n))))
+        self.assertEqual(made(tantala + BEAM + "window ta2o5 at 0 deg\n").sheet.surfaces[0].n_substrate, n)
+        for content, said in [
+            (2 * tantala, "line 2: there is a material 'ta2o5' already"),
+            ("material bk7 a 1 b 0 c 0\n", "line 1: 'bk7' is a glass that has its name already"),
+            ("material 2x a 1 b 0 c 0\n", "line 1: '2x' is no name: a name is a letter, then letters, digits, '-', '_' and '.'"),
+            (tantala + self.CUSTOM + "layer ta2o5 thickness 80 nm k 1\n", "line 4: a layer of a material with coefficients has no k; this has 1"),
+            ("edition 1\n" + tantala + self.CUSTOM + "layer ta2o5 thickness 80 nm\n", "line 5: a glass stands only in a sheet of edition 2"),
+        ]:
+            with self.subTest(said), self.assertRaises(text.Wrong) as caught:
+                made(content)
+            self.assertEqual(str(caught.exception), said)
 
     def test_metals_and_retunes(self):
         sheet = made(BEAM + "retune to 632.8 nm\nsurface custom reflected from air to bk7 at 0 deg\nlayer 1.37 thickness 80 nm k 7.62\n").sheet
