@@ -105,7 +105,7 @@ def losses(given: argparse.Namespace) -> int:
     found = reports.losses(made)
     draw(given, lambda: plots.losses(found, title(given)))
     scale = made.sheet.s + made.sheet.p
-    scaled = f"scale factor of a return: {scale / found.sum:.6f}\n" if found.sum else ""
+    scaled = f"scale factor {scale / found.sum:.6f}: the beam over what is left\n" if found.sum else ""
     rows = [dataclasses.asdict(one) for one in found.surfaces]
     whole = dataclasses.asdict(found) | {"scale_factor": scale / found.sum if found.sum else None}
     put_rows(given, reports.losses_table(found) + scaled, rows, {"file": given.file, **whole, **remarks(made)})
@@ -118,11 +118,12 @@ def write(given: argparse.Namespace) -> int:
 
 
 def show(given: argparse.Namespace) -> int:
-    made = made_of(given)
+    """The notes stand in the text, as comments."""
+    made = plan_of(given.file).make(given.wavelength)
     if given.format == "json":
         put(given, made.sheet.to_json() + "\n")
     else:
-        put(given, "".join(f"# {note}\n" for note in made.notes) + text.write(made.sheet))
+        put(given, "".join(f"# {note}\n" for note in ([] if given.quiet else made.notes)) + text.write(made.sheet))
     return 0
 
 

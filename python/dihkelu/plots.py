@@ -98,9 +98,9 @@ def losses(found: Losses, title: str) -> Figure:
     axes = figure.subplots()
     places = range(len(found.surfaces))
     for shift, label, colour, key in [(-0.2, "s", S, "s_lost_percent"), (0.2, "p", P, "p_lost_percent")]:
-        lost = [getattr(one, key) or 0.0 for one in found.surfaces]
-        bars = axes.barh([place + shift for place in places], lost, height=0.38, color=colour, label=label)
-        axes.bar_label(bars, labels=[f" {x:.2f}" for x in lost], fontsize=8)
+        lost = [getattr(one, key) for one in found.surfaces]
+        bars = axes.barh([place + shift for place in places], [x or 0.0 for x in lost], height=0.38, color=colour, label=label)
+        axes.bar_label(bars, labels=[" -" if x is None else f" {x:.2f}" for x in lost], fontsize=8)
     axes.set_yticks(list(places), [f"{one.number}: {one.surface}" for one in found.surfaces], fontsize=8)
     axes.invert_yaxis()
     _dress(axes, title, "lost, % of what came to the surface", "")
