@@ -135,7 +135,7 @@ def words_of(text):
 
 
 def arguments():
-    parser = argparse.ArgumentParser(description=__doc__)
+    parser = argparse.ArgumentParser(prog="sheet.py", description=__doc__)
     parser.add_argument("--version", action="version", version=f"%(prog)s {VERSION}")
     commands = parser.add_subparsers(dest="command", required=True, metavar="COMMAND")
     for command, about in [("write", "writes a text's sheet to standard output"), ("show", "prints a sheet as a text"), ("quarter-waves", "prints the layers of a sheet or text in quarter waves"), ("edition1", "writes the edition 1 sheet of a sheet or text to standard output"), ("losses", "prints what each surface of a sheet or text loses"), ("band", "prints the s and p of a sheet or text at each line of a band, and their weighed means")]:

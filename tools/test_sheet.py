@@ -6,6 +6,7 @@ oracle built, its random sheets are read and written too.
 """
 
 import argparse
+import io
 import math
 import shlex
 import struct
@@ -19,14 +20,23 @@ ROOT = Path(__file__).resolve().parent.parent
 TOOL = [sys.executable, str(ROOT / "tools" / "sheet.py")]
 ORACLE = ROOT / "oracle" / "target" / "release" / "oracle"
 EXAMPLES = ROOT / "examples"
+people = None  # the tool, once it is known that there is a program
 PROGRAM = None  # a command that gives the powers in the place of the library
 
 
-def tool(*arguments, given=b"", **more):
-    """Status, standard output, standard error; a text is passed as UTF-8."""
+def tool(*arguments, given=b""):
+    """The tool in this process: status, standard output, standard error; a text is passed as UTF-8."""
+    kept = sys.stdin, sys.stdout, sys.stderr
     given = given.encode() if isinstance(given, str) else given
-    done = subprocess.run(TOOL + list(arguments), input=given, capture_output=True, check=False, **more)
-    return done.returncode, done.stdout, done.stderr.decode()
+    sys.stdin, sys.stdout, sys.stderr = (io.TextIOWrapper(io.BytesIO(x), "utf-8", write_through=True) for x in (given, b"", b""))
+    try:
+        try:
+            status = people.main(list(arguments))
+        except SystemExit as ended:
+            status = ended.code
+        return status, sys.stdout.buffer.getvalue(), sys.stderr.buffer.getvalue().decode()
+    finally:
+        sys.stdin, sys.stdout, sys.stderr = kept
 
 
 def losses(given, program=None):
@@ -611,7 +621,7 @@ class Commands(unittest.TestCase):
 
 
 def main():
-    global PROGRAM
+    global PROGRAM, people
     parser = argparse.ArgumentParser(description=__doc__)
     parser.add_argument("--program", help="what gives the powers in the place of the library")
     given, rest = parser.parse_known_args()
@@ -628,6 +638,7 @@ def main():
     if not given.program and default[-2:] == [str(ROOT / "tools" / "run"), "train"]:
         if subprocess.run(["bash", "-c", "set -euo pipefail; . tools/lib.sh; proved train", "tools/test_sheet.py"], cwd=ROOT, check=False).returncode:
             return 1
+    import sheet as people
     print(f"program: {PROGRAM}")
     return 0 if unittest.main(argv=[sys.argv[0], *rest], exit=False).result.wasSuccessful() else 1
 
