@@ -47,8 +47,10 @@ def files(names: Iterable[str]) -> list[str]:
     found: list[str] = []
     for name in names:
         path = Path(name)
-        inner = sorted(str(x) for x in path.iterdir() if x.suffix in (".txt", ".sheet")) if path.is_dir() else [name]
-        found.extend(inner)
+        try:
+            found += sorted(str(x) for x in path.iterdir() if x.suffix in (".txt", ".sheet")) if path.is_dir() else [name]
+        except OSError as error:
+            raise Failed(f"{name} cannot be read: {error.strerror}") from None
     return found
 
 

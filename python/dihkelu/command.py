@@ -33,21 +33,20 @@ def plan_of(name: str) -> Plan:
 def made_of(given: argparse.Namespace) -> Made:
     """The sheet of the file at the wavelength given; what was worked out for it is said."""
     made = plan_of(given.file).make(given.wavelength)
-    said(given, made)
+    say(given, made.notes, explain.hints(made))
     return made
 
 
-def said(given: argparse.Namespace, made: Made) -> None:
+def say(given: argparse.Namespace, notes: list[str], hints: list[str]) -> None:
     """Notes and hints on standard error; in JSON they stand in the answer."""
     if given.quiet or getattr(given, "format", "") == "json":
         return
-    for note in made.notes:
-        print(f"{given.file}: note: {note}", file=sys.stderr)
-    for hint in explain.hints(made):
-        print(f"{given.file}: hint: {hint}", file=sys.stderr)
+    for kind, sentences in [("note", notes), ("hint", hints)]:
+        for sentence in sentences:
+            print(f"{given.file}: {kind}: {sentence}", file=sys.stderr)
 
 
-def remarks(made: Made) -> dict[str, list[str]]:
+def remarks(made: Made) -> dict[str, Any]:
     return {"notes": made.notes, "hints": explain.hints(made)}
 
 
@@ -120,6 +119,7 @@ def write(given: argparse.Namespace) -> int:
 def show(given: argparse.Namespace) -> int:
     """The notes stand in the text, as comments."""
     made = plan_of(given.file).make(given.wavelength)
+    say(given, [], explain.hints(made))
     if given.format == "json":
         put(given, made.sheet.to_json() + "\n")
     else:
@@ -144,11 +144,12 @@ def band(given: argparse.Namespace) -> int:
     made = made_of(given)
     lines = text.read_band(files.load(given.lines))
     mean, each = reports.band_means(made, lines), reports.band_each(made, lines)
-    if any(film.index.glass for face in made.plan.faces for film in face.films) and not given.quiet:
-        print(f"{given.file}: hint: glasses by name have their index at {written(made.sheet.wavelength_nm)} nm in every line", file=sys.stderr)
+    fixed = [f"glasses by name have their index at {written(made.sheet.wavelength_nm)} nm in every line"] if made.coloured else []
+    say(given, [], fixed)
     draw(given, lambda: plots.band(lines, each, mean, title(given)))
     rows = [{"wavelength_nm": nm, "weight": weight, "s": s, "p": p, "sum": s + p} for (nm, weight, _), (s, p) in zip(lines, each)]
     whole = {"file": given.file, "lines": rows, "s": mean[0], "p": mean[1], "sum": mean[0] + mean[1], **remarks(made)}
+    whole["hints"] += fixed
     put_rows(given, reports.band_table(lines, each, mean), rows, whole)
     return 0
 
@@ -157,32 +158,29 @@ def steps(first: decimal.Decimal, last: decimal.Decimal, step: decimal.Decimal) 
     """first, first + step and so on up to last, each the float next to the decimal number."""
     if not step or (last - first) / step < 0:
         raise Failed(f"no step of {step} leads from {first} to {last}")
-    count = int((last - first) / step) + 1
-    if count > MOST_POINTS:
-        raise Failed(f"a sweep has at most {MOST_POINTS} points; this has {count}")
-    return [float(first + i * step) for i in range(count)]
+    if (last - first) / step >= MOST_POINTS:
+        raise Failed(f"a sweep has at most {MOST_POINTS} points: take a larger step than {step}")
+    return [float(first + i * step) for i in range(int((last - first) / step) + 1)]
 
 
 def sweep(given: argparse.Namespace) -> int:
     plan = plan_of(given.file)
     if given.angle:
-        values, over, column = steps(*given.angle), "angle deg", "angle_deg"
-        points = reports.sweep_angle(plan, values, given.surface or [1])
-        ends = [plan.make(angles={face: math.radians(x) for face in plan.swept(given.surface or [1])}) for x in _ends(points)]
+        over, column, label = "angle deg", "angle_deg", "angle, degrees"
+        surfaces = given.surface or [1]
+        points = reports.sweep_angle(plan, steps(*given.angle), surfaces)
+        ends = [plan.make(angles={face: math.radians(x) for face in plan.swept(surfaces)}) for x in _ends(points)]
     else:
-        values, over, column = steps(*given.wavelength), "nm", "wavelength_nm"
-        points = reports.sweep_wavelength(plan, values)
+        over, column, label = "nm", "wavelength_nm", "wavelength, nm"
+        points = reports.sweep_wavelength(plan, steps(*given.wavelength))
         ends = [plan.make(x) for x in _ends(points)]
-    seen: dict[str, None] = {}  # in order
-    for made in ends:
-        seen.update(dict.fromkeys(made.notes))
-    for note in [] if given.quiet or given.format == "json" else seen:
-        print(f"{given.file}: note: {note}", file=sys.stderr)
+    notes = list(dict.fromkeys(note for made in ends for note in made.notes))
+    hints = list(dict.fromkeys(hint for made in ends for hint in explain.hints(made)))
+    say(given, notes, hints)
     names = [f"{count}: {name}" for count, name in enumerate(plan.names(), 1)]
-    label = "wavelength, nm" if given.wavelength else "angle, degrees"
     draw(given, lambda: plots.sweep(points, (plan.s, plan.p), label, names, title(given)))
     rows = reports.sweep_rows(points, column, given.each or given.format == "json")
-    put_rows(given, reports.sweep_table(points, over), rows, {"file": given.file, "points": rows, "notes": list(seen)})
+    put_rows(given, reports.sweep_table(points, over), rows, {"file": given.file, "points": rows, "notes": notes, "hints": hints})
     return int(any(point.refused for point in points))
 
 
@@ -198,7 +196,7 @@ def stack(given: argparse.Namespace) -> int:
     if "M" in given.text and given.M is None:
         raise Wrong(f"M stands in '{given.text}' and has no index: say --M")
     layers = [film.at(given.at) for film in films]
-    rows = [{"layer": count, "n": layer.n, "thickness_nm": layer.thickness_nm} for count, layer in enumerate(layers, 1)]
+    rows = [{"layer": count, "n": text.index_at(layer, given.at), "thickness_nm": layer.thickness_nm} for count, layer in enumerate(layers, 1)]
     if given.format == "text":
         put(given, "".join(text.layer_text(layer, given.at) + "\n" for layer in layers))
     else:
@@ -214,7 +212,7 @@ def check(given: argparse.Namespace) -> int:
     missed: list[tuple[int, str]] = []
     try:
         made = (text.read(data) if text.is_text(data) else explain.read_sheet(data).plan).make(given.wavelength)
-        said(given, made)
+        say(given, made.notes, explain.hints(made))
         missed = [(place, f"{name}{text.in_line(line)}: {why}") for place, name, line, why in explain.blocks(made) if why]
         reports.powers(made)
         answer |= {"sheet": reports.summary(made.sheet), **remarks(made)}
@@ -255,7 +253,7 @@ def list_glasses(given: argparse.Namespace) -> int:
     rows = []
     for glass in glasses.TABLE.values():
         known = glass.from_nm <= given.at <= glass.to_nm
-        row = {"name": glass.name, "from_nm": glass.from_nm, "to_nm": glass.to_nm if glass.coloured else None}
+        row: dict[str, Any] = {"name": glass.name, "from_nm": glass.from_nm, "to_nm": glass.to_nm if glass.coloured else None}
         row |= {"n": glass.index(given.at) if known else None, "formula": glass.formula(), "source": glass.source, "remark": glass.remark}
         rows.append(row)
     table = [["glass", "from nm", "to nm", f"n at {written(given.at)} nm", "source"]]
@@ -296,18 +294,21 @@ def completion_script(parser: argparse.ArgumentParser) -> str:
 
 
 def decimal_number(word: str) -> decimal.Decimal:
+    number(word)
     try:
-        text.number(word)
         return decimal.Decimal(word)
-    except (Wrong, decimal.InvalidOperation):
+    except decimal.InvalidOperation:
         raise argparse.ArgumentTypeError(f"'{word}' is no decimal number") from None
 
 
 def number(word: str) -> float:
     try:
-        return text.number(word)
+        found = text.number(word)
     except Wrong as wrong:
         raise argparse.ArgumentTypeError(str(wrong)) from None
+    if not math.isfinite(found):
+        raise argparse.ArgumentTypeError(f"'{word}' is no finite number")
+    return found
 
 
 def index(word: str) -> text.Index:
@@ -348,7 +349,7 @@ def arguments() -> argparse.ArgumentParser:
     add("losses", losses, "show what each surface loses", formats=rows, plot=True)
     one = add("sweep", sweep, "run the train over a range of angles or wavelengths", formats=rows, plot=True, nm=False)
     over = one.add_mutually_exclusive_group(required=True)
-    range_ = {"nargs": 3, "type": decimal_number, "metavar": ("FROM", "TO", "STEP")}
+    range_: dict[str, Any] = {"nargs": 3, "type": decimal_number, "metavar": ("FROM", "TO", "STEP")}
     over.add_argument("--angle", help="in degrees", **range_)
     over.add_argument("--wavelength", help="of the beam, in nm", **range_)
     one.add_argument("--surface", type=whole, nargs="+", metavar="N", help="whose angle is swept, counted from 1; the first unless given")

@@ -200,9 +200,14 @@ class Made:
     windows: list[tuple[int | None, float, float]] = field(default_factory=list)
 
     @property
+    def coloured(self) -> Known:
+        """The indices of glasses that change with the wavelength."""
+        return {key: n for key, n in self.known.items() if key[0].coloured}
+
+    @property
     def notes(self) -> list[str]:
         """What was worked out for the sheet."""
-        indices = [f"{glass.name} has n {n:.7g} at {written(nm)} nm, by {glass.source}" for (glass, nm), n in self.known.items() if glass.coloured]
+        indices = [f"{glass.name} has n {n:.7g} at {written(nm)} nm, by {glass.source}" for (glass, nm), n in self.coloured.items()]
         angles = [f"{where(line)}inside the window the light is at {math.degrees(inner):.4f} deg, by Snell's law" for line, _, inner in self.windows]
         return indices + angles
 
@@ -270,7 +275,7 @@ def name(token: str) -> str:
     """A name for a material of the text, in small letters."""
     if not re.fullmatch(r"[A-Za-z][A-Za-z0-9_.-]*", token):
         raise Wrong(f"'{token}' is no name: a name is a letter, then letters, digits, '-', '_' and '.'")
-    if token.lower() in {**glasses.TABLE, **glasses.OTHER_NAMES}:
+    if token.lower() in {*glasses.TABLE, *glasses.OTHER_NAMES}:
         raise Wrong(f"'{token}' is a glass that has its name already")
     return token.lower()
 
@@ -335,7 +340,8 @@ def stack_refused(text: str, refused: Refused) -> str:
 def stack_films(text: str, letters: list[Index], design_nm: float, line: int | None) -> list[Film]:
     """The layers of a text in shorthand, the indices of H, L and M being those at the design wavelength."""
     try:
-        layers = stack(text, *(letter.at(design_nm) for letter in letters), design_nm)
+        high, low, middle = (letter.at(design_nm) for letter in letters)
+        layers = stack(text, high, low, middle, design_nm)
         named = stack(text, 1.0, 2.0, 3.0, design_nm)  # the letter of each layer
     except Refused as refused:
         raise Wrong(f"refused {refused.number} {refused.place}: {stack_refused(text, refused)}") from None
@@ -445,10 +451,10 @@ class Reader:
         self.add_films([film(line, Index(material=(a, b, c)), 0.0, thickness)])
 
     def material(self, tokens: list[str], line: int) -> None:
-        called, *coefficients = match(tokens, MATERIAL_FORM)
+        called, a, b, c = match(tokens, MATERIAL_FORM)
         if called in self.materials:
             raise Wrong(f"there is a material '{called}' already")
-        self.materials[called] = Index(material=tuple(coefficients))
+        self.materials[called] = Index(material=(a, b, c))
 
     def add_faces(self, faces: list[Face]) -> None:
         if len(self.plan.faces) + len(faces) > MOST_SURFACES:

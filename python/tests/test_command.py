@@ -170,7 +170,7 @@ class Sweeps(Folder):
         self.assertEqual([row["angle_deg"] for row in rows], ["0.0", "0.1", "0.2", "0.3"])
         _, rows = self.rows("--angle", "-10", "-20", "-5")
         self.assertEqual([row["angle_deg"] for row in rows], ["-10.0", "-15.0", "-20.0"])
-        for words in (["0", "1", "0"], ["0", "1", "-1"], ["0", "1", "1e-9"]):
+        for words in (["0", "1", "0"], ["0", "1", "-1"], ["0", "1", "1e-9"], ["0", "1e300", "1e-300"], ["0", "1e999999999", "1"], ["0", "0x7FF8000000000000", "1"]):
             self.assertEqual(run("sweep", "-", "--angle", *words, given=SCANNER)[0], 2)
 
     def test_of_a_sheet(self):
@@ -319,7 +319,7 @@ class Ends(Folder):
         for status, words in [
             (0, ["--version"]), (0, ["--help"]), (0, ["sweep", "--help"]), (2, []), (2, ["lens"]), (2, ["losses"]), (2, ["losses", "/nowhere"]), (2, ["losses", "/"]),
             (2, ["sweep", "-"]), (2, ["sweep", "-", "--angle", "0", "1"]), (2, ["sweep", "-", "--angle", "0", "x", "1"]), (2, ["batch"]), (2, ["batch", "x", "--jobs", "0"]),
-            (2, ["losses", "-", "-o", "/nowhere/x"]), (2, ["losses", "-", "--format", "xml"]), (1, ["losses", EXAMPLES / "refused_4_nothing.sheet"]), (1, ["losses", "-"]),
+            (2, ["glasses", "--at", "0x7FF8000000000000", "-f", "json"]), (2, ["losses", "-", "-o", "/nowhere/x"]), (2, ["losses", "-", "--format", "xml"]), (1, ["losses", EXAMPLES / "refused_4_nothing.sheet"]), (1, ["losses", "-"]),
         ]:
             with self.subTest(words):
                 given = KNOWN if "-o" in words else b""

@@ -3,6 +3,7 @@ import math
 import os
 import pathlib
 import re
+import shlex
 import shutil
 import struct
 import subprocess
@@ -11,7 +12,7 @@ import tempfile
 import unittest
 
 from common import PACKAGE, ROOT, build_train
-from dihkelu import glasses, plots
+from dihkelu import command, glasses, plots
 
 GUIDE = ROOT / "docs" / "GUIDE.md"
 BLOCK = re.compile(r"```console\n(.*?)```\n", re.S)
@@ -76,6 +77,17 @@ class Guide(unittest.TestCase):
     def test_pictures_are_there(self):
         for picture in re.findall(r"\]\((guide/\S+\.png)\)", GUIDE.read_text()):
             self.assertTrue((ROOT / "docs" / picture).read_bytes().startswith(b"\x89PNG"))
+
+
+class Pages(unittest.TestCase):
+    def test_commands_are_commands(self):
+        """Each line of the other pages that begins with the command is one that it takes."""
+        found = 0
+        for page in ("README.md", "docs/SHEETS.md", "python/README.md"):
+            for line in re.findall(r"(?m)^(?:python3 -m )?dihkelu (.*)$", (ROOT / page).read_text()):
+                command.arguments().parse_args(shlex.split(line.split(" > ")[0]))
+                found += 1
+        self.assertGreater(found, 5)
 
 
 class Notebook(unittest.TestCase):
