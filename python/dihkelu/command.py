@@ -103,11 +103,9 @@ def losses(given: argparse.Namespace) -> int:
     made = made_of(given)
     found = reports.losses(made)
     draw(given, lambda: plots.losses(found, title(given)))
-    scale = made.sheet.s + made.sheet.p
-    scaled = f"scale factor {scale / found.sum:.6f}: the beam over what is left\n" if found.sum else ""
+    scaled = "" if found.scale_factor is None else f"scale factor {found.scale_factor:.6f}: the beam over what is left\n"
     rows = [dataclasses.asdict(one) for one in found.surfaces]
-    whole = dataclasses.asdict(found) | {"scale_factor": scale / found.sum if found.sum else None}
-    put_rows(given, reports.losses_table(found) + scaled, rows, {"file": given.file, **whole, **remarks(made)})
+    put_rows(given, reports.losses_table(found) + scaled, rows, {"file": given.file, **dataclasses.asdict(found), **remarks(made)})
     return 0
 
 

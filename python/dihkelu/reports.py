@@ -60,6 +60,7 @@ class Losses:
     sum: float
     lost_percent: float | None
     left_percent: float | None
+    scale_factor: float | None  # the beam over what is left; None of nothing, or where no float is so large
 
 
 def called(surface: Surface) -> str:
@@ -93,7 +94,8 @@ def losses(made: Made, after: Sequence[tuple[float, float]] | None = None) -> Lo
         )
         s, p = new_s, new_p
     end = s + p
-    return Losses(found, s, p, end, percent_of(start - end, start), percent_of(end, start))
+    scale = start / end if end else math.inf
+    return Losses(found, s, p, end, percent_of(start - end, start), percent_of(end, start), scale if math.isfinite(scale) else None)
 
 
 # ---- sweeps

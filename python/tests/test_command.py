@@ -83,6 +83,15 @@ class Losses(Folder):
         status, out, _ = run("losses", "-", given="beam 500 nm s 0 p 0\n")
         self.assertEqual((status, out.decode().splitlines()[-1]), (0, "whole train: - % lost, - % left (s 0, p 0, sum 0)"))
 
+    def test_hardly_any_light(self):
+        """So little is left that no float is the scale factor."""
+        dark = "beam 500 nm s 1e-308 p 1e-308\n" + 40 * "surface bare reflected from 1 to 1.5 at 0 deg\n"
+        for form in ("table", "json", "csv"):
+            self.assertEqual(run("losses", "-", "-f", form, given=dark)[0], 0)
+        dim = "beam 500 nm s 1 p 1\n" + 64 * "surface custom reflected from 1 to 1.0000001 at 0 deg\n"
+        whole = json.loads(run("losses", "-", "-f", "json", given=dim)[1])
+        self.assertIsNone(whole["scale_factor"])
+
     def test_refused(self):
         status, out, said = run("losses", "-", given="beam 99 nm s 1 p 1\n")
         self.assertEqual((status, out, said), (1, b"", "-: refused 6 1: the beam (line 1) is outside the gate: the wavelength is 99, not from 100 to 10000\n"))
