@@ -24,10 +24,13 @@ STATUSES = "The status is 0, 1 where a text, sheet or point was refused, or 2 wh
 # ---- input
 
 
-def plan_of(name: str) -> Plan:
+def plan_from(data: bytes) -> Plan:
     """The plan of a text or of a sheet."""
-    data = files.load(name)
     return text.read(data) if text.is_text(data) else explain.read_sheet(data).plan
+
+
+def plan_of(name: str) -> Plan:
+    return plan_from(files.load(name))
 
 
 def made_of(given: argparse.Namespace) -> Made:
@@ -140,7 +143,10 @@ def quarter_waves(given: argparse.Namespace) -> int:
 
 def band(given: argparse.Namespace) -> int:
     made = made_of(given)
-    lines = text.read_band(files.load(given.lines))
+    try:
+        lines = text.read_band(files.load(given.lines))
+    except Failed as failed:
+        raise Failed(f"the band's file {given.lines}: {failed}") from None
     mean, each = reports.band_means(made, lines), reports.band_each(made, lines)
     fixed = [f"glasses by name have their index at {written(made.sheet.wavelength_nm)} nm in every line"] if made.coloured else []
     say(given, [], fixed)
@@ -190,10 +196,9 @@ def _ends(points: list[reports.Point]) -> list[float]:
 
 def stack(given: argparse.Namespace) -> int:
     letters = [given.H, given.L, given.M or given.H]
-    films = text.stack_films(given.text, letters, given.at, None)
     if "M" in given.text and given.M is None:
         raise Wrong(f"M stands in '{given.text}' and has no index: say --M")
-    layers = [film.at(given.at) for film in films]
+    layers = [film.at(given.at) for film in text.stack_films(given.text, letters, given.at, None)]
     rows = [{"layer": count, "n": text.index_at(layer, given.at), "thickness_nm": layer.thickness_nm} for count, layer in enumerate(layers, 1)]
     if given.format == "text":
         put(given, "".join(text.layer_text(layer, given.at) + "\n" for layer in layers))
@@ -204,33 +209,38 @@ def stack(given: argparse.Namespace) -> int:
 
 
 def check(given: argparse.Namespace) -> int:
-    """Whether a sheet is admitted, and if not why; all blocks that are outside, not the first alone."""
+    """Whether a sheet is admitted, and if not why."""
     data = files.load(given.file)
-    answer: dict[str, Any] = {"file": given.file, "admitted": True}
+    answer = {"file": given.file, **judged(given, data)}
+    first = f"admitted: {answer['sheet']}" if answer["admitted"] else answer["sentence"]
+    lines = [f"{given.file}: {first}"] + ([f"  {answer['line']} | {answer['text']}"] if answer.get("text") else [])
+    lines += [f"  also {one}" for one in answer.get("also", [])]
+    rows = [{key: answer.get(key) for key in ("file", "admitted", "refused", "place", "line", "sentence")}]
+    put_rows(given, "\n".join(lines) + "\n", rows, answer)
+    return 0 if answer["admitted"] else 1
+
+
+def judged(given: argparse.Namespace, data: bytes) -> dict[str, Any]:
+    """What is said of a sheet: the library's refusal, and by our own arithmetic all other blocks that are outside."""
     missed: list[tuple[int, str]] = []
     try:
-        made = (text.read(data) if text.is_text(data) else explain.read_sheet(data).plan).make(given.wavelength)
+        made = plan_from(data).make(given.wavelength)
         say(given, made.notes, explain.hints(made))
         missed = [(place, f"{name}{text.in_line(line)}: {why}") for place, name, line, why in explain.blocks(made) if why]
         reports.powers(made)
-        answer |= {"sheet": reports.summary(made.sheet), **remarks(made)}
-        sentences = [f"{given.file}: admitted: {answer['sheet']}"]
+    except explain.Turned as turned:
+        also = [why for place, why in missed if place != turned.place]
+        return {**wrong_line(turned, data), "refused": turned.number, "place": turned.place, "also": also}
     except Wrong as wrong:
-        if isinstance(wrong, Failed):
-            raise
-        line = explain.line_of(str(wrong))
-        also = [why for place, why in missed if place != getattr(wrong, "place", place)]
-        answer |= {"admitted": False, "sentence": str(wrong), "line": line, "also": also}
-        if isinstance(wrong, explain.Turned):
-            answer |= {"refused": wrong.number, "place": wrong.place}
-        sentences = [f"{given.file}: {wrong}"]
-        if line is not None and text.is_text(data):
-            answer["text"] = explain.content(data, line)
-            sentences.append(f"  {line} | {answer['text']}")
-        sentences += [f"  also {one}" for one in also]
-    rows = [{key: x for key, x in answer.items() if key in ("file", "admitted", "refused", "place", "line", "sentence")}]
-    put_rows(given, "\n".join(sentences) + "\n", rows, answer)
-    return 0 if answer["admitted"] else 1
+        return wrong_line(wrong, data)
+    return {"admitted": True, "sheet": reports.summary(made.sheet), **remarks(made)}
+
+
+def wrong_line(wrong: Wrong, data: bytes) -> dict[str, Any]:
+    """A sentence, with the text's line that it names."""
+    line = explain.line_of(str(wrong))
+    content = explain.content(data, line) if line is not None and text.is_text(data) else None
+    return {"admitted": False, "sentence": str(wrong), "line": line, "text": content}
 
 
 def many(given: argparse.Namespace) -> int:

@@ -206,6 +206,7 @@ class Bands(Folder):
 
     def test_refused(self):
         lines = self.file("x.lines", "500 nm weight 0\n")
+        self.assertEqual(run("band", "-", "/nowhere", given=KNOWN)[::2], (2, "-: the band's file /nowhere: No such file or directory\n"))
         self.assertEqual(run("band", "-", lines, given=KNOWN)[::2], (1, "-: refused 15 0: the band's line 1: the weight is 0, not from 1 to 1000\n"))
 
 
