@@ -12,7 +12,7 @@ import tempfile
 import unittest
 
 from common import PACKAGE, ROOT, build_train
-from dihkelu import command, glasses, plots
+from dihkelu import command, glasses, plots, text
 
 GUIDE = ROOT / "docs" / "GUIDE.md"
 BLOCK = re.compile(r"```console\n(.*?)```\n", re.S)
@@ -88,6 +88,21 @@ class Pages(unittest.TestCase):
                 command.arguments().parse_args(shlex.split(line.split(" > ")[0]))
                 found += 1
         self.assertGreater(found, 5)
+
+
+    def test_forms_and_glasses(self):
+        """docs/SHEETS.md has every form of a line, and every glass with its range and source."""
+        page = (ROOT / "docs" / "SHEETS.md").read_text()
+        for name, form in vars(text).items():
+            if name.endswith("_FORM"):
+                self.assertIn(form, page)
+        for glass in glasses.TABLE.values():
+            row = next(line for line in page.splitlines() if line.startswith(f"| `{glass.name}`"))
+            if glass.coloured:
+                self.assertIn(f"| {glass.from_nm:g} to {glass.to_nm:g} nm |", row)
+                self.assertTrue(glass.source.split(",")[0] in row)
+        for name in glasses.OTHER_NAMES:
+            self.assertIn(f"`{name}`", page)
 
 
 class Notebook(unittest.TestCase):
