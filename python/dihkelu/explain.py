@@ -7,16 +7,18 @@ from __future__ import annotations
 import math
 import re
 import struct
-from typing import Iterator, Union
+from dataclasses import dataclass
+from typing import Iterator, Sequence, Union
 
 from .calls import gate
 from .refusals import Refused
 from .sheet import Coating, Glass, Layer, Sheet, Surface
-from .text import Made, Wrong, counted, in_line, index_at, met, of_sheet, without_mark, written
+from .text import MOST_LAYERS, MOST_SURFACES, Made, Wrong, counted, in_line, index_at, met, of_sheet, without_mark, written
 
 PRESET_INDICES = {Coating.MGF2: [1.38], Coating.BROADBAND_AR: [1.46, 2.3], Coating.MIRROR: [2.3, 1.46]}  # which the gate tests too
 PRESET_NM = 550.0
 MOST_METAL = 4  # layers of a surface with metal films
+FLOATS = {1: 0, 2: 3, 3: 3, 4: 3, 5: 0, 6: 4, 7: 1}  # after each kind word
 KINDS = {1: "OPEN", 2: "BEAM", 3: "SURFACE", 4: "LAYER", 5: "END", 6: "a glass, kind 6", 7: "a retune, kind 7"}
 
 
@@ -132,13 +134,49 @@ def most_bytes(data: bytes) -> int:
     return 39460 if data[:4] == bytes.fromhex("10000002") else 30500
 
 
+@dataclass
+class Walked:
+    """What stands before a word of a sheet: the last kind, the count of surfaces, and of the last one's layers."""
+
+    kind: int = 0
+    surfaces: int = 0
+    layers: int = 0
+    custom: bool = False
+
+
+def walked(words: Sequence[int], place: int) -> Walked:
+    found, at = Walked(), 0
+    while at < place:
+        kind, payload = words[at] >> 28, words[at] & 0xFFFFFFF
+        if kind == 3:
+            found.surfaces, found.layers, found.custom = found.surfaces + 1, 0, payload // 2 == Coating.CUSTOM
+        found.layers += kind in (4, 6)
+        found.kind, at = kind, at + 1 + 2 * FLOATS.get(kind, 0)
+    return found
+
+
 def out_of_grammar(data: bytes, place: int) -> str:
-    """What stands at the word of a refusal 5."""
-    if 4 * place >= len(data):
-        return f"word {place} is missing: END is not the last"
-    word = struct.unpack_from(">I", data, 4 * place)[0]
-    kind = KINDS.get(word >> 28, "no kind of block")
-    return f"word {place} is {word:08X}, {kind}, which may not stand there, or its payload or the count of words after it is wrong"
+    """What is wrong with the word of a refusal 5."""
+    words = struct.unpack(f">{len(data) // 4}I", data[: len(data) // 4 * 4])
+    if place >= len(words):
+        return f"word {place} is missing: the sheet ends without END"
+    kind, payload, before = words[place] >> 28, words[place] & 0xFFFFFFF, walked(words, place)
+    name = f"word {place} is {words[place]:08X}, {KINDS.get(kind, 'no kind of block')}"
+    reasons = [
+        (place == 0, "where OPEN of edition 1 or 2 should stand"),
+        (place == 1, "where BEAM should stand"),
+        (before.kind == 5, "after END"),
+        (before.kind == 7 and kind != 3, "where the SURFACE must stand that follows a retune"),
+        (kind in (6, 7) and words[0] == 0x10000001, "which edition 1 has not"),
+        (kind in (3, 7) and before.surfaces == MOST_SURFACES, f"after {MOST_SURFACES} surfaces, the most that a sheet has"),
+        (kind in (4, 6) and not before.custom, "which stands only after a SURFACE of coating custom"),
+        (kind in (4, 6) and before.layers == MOST_LAYERS, f"after {MOST_LAYERS} layers, the most that a surface has"),
+        (kind == 5 and payload != before.surfaces, f"with the count {payload}; the sheet has {counted(before.surfaces, 'surface')}"),
+        (kind == 3 and payload > 15, f"with the payload {payload}, over 15"),
+        (kind in (4, 6, 7) and payload != 0, f"with the payload {payload}, not 0"),
+        (kind in FLOATS and place + 2 * FLOATS[kind] >= len(words), "whose numbers go past the end"),
+    ]
+    return f"{name}, {next((why for holds, why in reasons if holds), 'which may not stand there')}"
 
 
 def sentence(refused: Refused, data: bytes, made: Made | None = None) -> str:

@@ -233,6 +233,29 @@ class Check(Folder):
         status, out, _ = run("check", EXAMPLES / "refused_5_no_beam.sheet")
         self.assertEqual((status, ": refused 5 1: word 1 is " in out.decode()), (1, True))
 
+    def test_out_of_grammar(self):
+        """Each sheet that is out of grammar has a reason of its own."""
+        for name, said in [
+            ("17_glasses", "a glass, kind 6, after 16 layers, the most that a surface has"),
+            ("17_layers", "LAYER, after 16 layers, the most that a surface has"),
+            ("65_surfaces", "SURFACE, after 64 surfaces, the most that a sheet has"),
+            ("count_of_surfaces", "END, with the count "),
+            ("edition_0", "word 0 is 10000000, OPEN, where OPEN of edition 1 or 2 should stand"),
+            ("edition_3", "where OPEN of edition 1 or 2 should stand"),
+            ("end_missing", " is missing: the sheet ends without END"),
+            ("glass_in_edition_1", "a glass, kind 6, which edition 1 has not"),
+            ("glass_past_the_end", "a glass, kind 6, whose numbers go past the end"),
+            ("layer_on_bare", "LAYER, which stands only after a SURFACE of coating custom"),
+            ("no_beam", "where BEAM should stand"),
+            ("payload_16", "SURFACE, with the payload 16, over 15"),
+            ("retuned_at_the_end", "where the SURFACE must stand that follows a retune"),
+            ("retuned_in_edition_1", "a retune, kind 7, which edition 1 has not"),
+            ("retuned_twice_at_once", "a retune, kind 7, where the SURFACE must stand that follows a retune"),
+            ("word_after_end", "after END"),
+            ("words_past_the_end", "whose numbers go past the end"),
+        ]:
+            self.assertIn(said, run("check", EXAMPLES / f"refused_5_{name}.sheet")[1].decode())
+
     def test_every_example(self):
         """Refused where `train` refuses, with its number and place."""
         for out in sorted(EXAMPLES.glob("*.out")):

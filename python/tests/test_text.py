@@ -4,7 +4,7 @@ import random
 import struct
 import unittest
 
-from common import build_train, train
+from common import ROOT, build_train, train
 from dihkelu import Coating, Glass, Layer, Sheet, Surface, explain, glasses, reports, run, stack, text
 
 BEAM = "beam 1064 nm s 0.5 p 0.5\n"
@@ -265,6 +265,23 @@ class Random(unittest.TestCase):
                     read(data)
                 except text.Wrong:
                     pass
+
+    def test_spoiled_sheets(self):
+        """A sheet with words changed or cut is taken or refused with the library's number and place, and a reason of its own."""
+        rng, refused = random.Random(31), 0
+        sheets = [path.read_bytes() for path in sorted((ROOT / "examples").glob("*.sheet")) if path.stat().st_size < 2000]
+        for data in sheets * 6:
+            words = [data[i : i + 4] for i in range(0, len(data), 4)]
+            for _ in range(rng.randrange(1, 3) if words else 0):
+                words[rng.randrange(len(words))] = struct.pack(">I", rng.choice([0, 1, 3, 4, 5, 6, 7, 15]) << 28 | rng.choice([0, 0, 0, 1, 2, 10, 16]))
+            spoiled = b"".join(words[: rng.randrange(9, len(words) + 1) if len(words) > 9 and rng.random() < 0.2 else len(words)])
+            try:
+                reports.losses(explain.read_sheet(spoiled))
+            except explain.Turned as turned:
+                refused += turned.number == 5
+                self.assertEqual(train(spoiled), f"refused {turned.number} {turned.place}\n")
+                self.assertNotRegex(str(turned), "(SURFACE|LAYER|END|kind [67]), which may not stand there")
+        self.assertGreater(refused, 100)
 
     def test_sheets_of_any_numbers(self):
         """Of numbers outside the gate the block at the refusal's place is named with what it misses."""
