@@ -18,12 +18,12 @@ MOST_NAMES = 12  # of surfaces in a legend
 
 
 def available() -> bool:
-    """Whether matplotlib is installed for this Python."""
+    """Whether matplotlib, 3.5 or later, is installed for this Python."""
     try:
-        import matplotlib.figure  # noqa: F401
+        import matplotlib.figure
     except ImportError:
         return False
-    return True
+    return getattr(matplotlib, "__version_info__", (0,)) >= (3, 5)
 
 
 def check(name: str) -> None:
@@ -32,7 +32,7 @@ def check(name: str) -> None:
         raise Failed(f"{name} ends with none of {', '.join(ENDINGS)}")
     if not available():
         install = "install it (Debian: apt-get install python3-matplotlib) or leave --plot out"
-        raise Failed(f"{name} cannot be drawn: matplotlib is not installed for {sys.executable}; {install}")
+        raise Failed(f"{name} cannot be drawn: matplotlib 3.5 or later is not installed for {sys.executable}; {install}")
 
 
 def _figure(height: float) -> Figure:

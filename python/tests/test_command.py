@@ -344,7 +344,7 @@ class Ends(Folder):
     def test_without_matplotlib(self):
         with mock.patch.dict(sys.modules, {"matplotlib": None, "matplotlib.figure": None}):
             status, out, said = run("losses", "-", "--plot", "x.png", given=KNOWN)
-            self.assertEqual((status, out, "-: x.png cannot be drawn: matplotlib is not installed for " in said), (2, b"", True))
+            self.assertEqual((status, out, "-: x.png cannot be drawn: matplotlib 3.5 or later is not installed for " in said), (2, b"", True))
             self.assertEqual(run("losses", "-", given=KNOWN)[0], 0)
         self.assertEqual(run("losses", "-", "--plot", "x.gif", given=KNOWN)[::2], (2, "-: x.gif ends with none of .png, .svg, .pdf\n"))
 
