@@ -13,7 +13,8 @@ ROOT = Path(__file__).resolve().parent.parent
 sys.path.insert(0, str(ROOT / "python"))
 try:
     from dihkelu import explain, files, reports, text
-    from dihkelu.refusals import BY_NUMBER
+    from dihkelu.refusals import BY_NUMBER, Refused
+    from dihkelu.words import Wrong, counted
 except (ImportError, OSError) as error:
     sys.exit(f"sheet.py: the package dihkelu cannot be loaded: {error}")
 
@@ -29,11 +30,11 @@ def said_by(program, data):
     try:
         done = subprocess.run(program, input=data, capture_output=True, check=False)
     except (OSError, ValueError, IndexError) as error:
-        raise text.Wrong(f"the program '{name}' cannot be run: {getattr(error, 'strerror', None) or error}") from None
+        raise Wrong(f"the program '{name}' cannot be run: {getattr(error, 'strerror', None) or error}") from None
     output = done.stdout.decode("ascii", "replace").split("\n")
     if done.returncode not in (0, 1) or done.returncode and not output[0].startswith("refused ") or len(output) < 2 or output[-1]:
-        said = done.stderr.decode("utf-8", "replace").strip() or f"status {done.returncode}, {text.counted(len(done.stdout), 'byte')} printed"
-        raise text.Wrong(f"{name} gave no answer: {said}")
+        said = done.stderr.decode("utf-8", "replace").strip() or f"status {done.returncode}, {counted(len(done.stdout), 'byte')} printed"
+        raise Wrong(f"{name} gave no answer: {said}")
     return output[:-1]
 
 
@@ -44,12 +45,12 @@ def powers_by(program, made):
     refused = re.fullmatch(r"refused ([0-9]+) ([0-9]+)", output[0])
     if refused:
         number, place = int(refused[1]), int(refused[2])
-        refusal = BY_NUMBER.get(number, explain.Refused)(number, place)
+        refusal = BY_NUMBER.get(number, Refused)(number, place)
         raise explain.Turned(refusal, explain.sentence(refusal, data, made))
     lines = [STATE.fullmatch(line) for line in output[:-1]]
     total = re.fullmatch(r"sum ([0-9A-F]{16})", output[-1])
     if not total or None in lines or len(lines) != len(made.sheet.surfaces):
-        raise text.Wrong(f"{' '.join(program)} gave no answer: it printed something else than a train's lines")
+        raise Wrong(f"{' '.join(program)} gave no answer: it printed something else than a train's lines")
     return [(bits(line[3]), bits(line[4])) for line in lines]
 
 
@@ -157,7 +158,7 @@ def main(words):
             print(f"{given.file}: hint: {hint}", file=sys.stderr)
         files.emit(printed)
         return 0
-    except text.Wrong as wrong:
+    except Wrong as wrong:
         print(f"{given.file}: {wrong}", file=sys.stderr)
         return 1
 

@@ -11,6 +11,7 @@ from typing import Callable, Iterable, Iterator
 from . import explain, text
 from .files import Failed, load
 from .reports import percent_of, powers
+from .words import Wrong
 
 FEW = 200  # so many are done without other processes
 
@@ -35,7 +36,7 @@ def one(name: str) -> Result:
         data = load(name)
         made = text.read(data).make() if text.is_text(data) else explain.read_sheet(data)
         after = powers(made)
-    except text.Wrong as wrong:
+    except Wrong as wrong:
         return Result(name, 2 if isinstance(wrong, Failed) else 1, refused=str(wrong))
     start = made.sheet.s + made.sheet.p
     s, p = after[-1] if after else (made.sheet.s, made.sheet.p)

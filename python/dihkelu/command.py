@@ -15,7 +15,8 @@ from typing import Any, Iterable, Sequence
 from . import batch, explain, files, glasses, plots, reports, text
 from .calls import version
 from .files import Failed
-from .text import Made, Plan, Wrong, written
+from .plans import Index, Made, Plan, index_at
+from .words import Wrong, counted, in_line, written
 
 MOST_POINTS = 100_000  # of a sweep
 STATUSES = "The status is 0, 1 where a text, sheet or point was refused, or 2 where the input or output failed or the call is none."
@@ -199,7 +200,7 @@ def stack(given: argparse.Namespace) -> int:
     if "M" in given.text and given.M is None:
         raise Wrong(f"M stands in '{given.text}' and has no index: say --M")
     layers = [film.at(given.at) for film in text.stack_films(given.text, letters, given.at, None)]
-    rows = [{"layer": count, "n": text.index_at(layer, given.at), "thickness_nm": layer.thickness_nm} for count, layer in enumerate(layers, 1)]
+    rows = [{"layer": count, "n": index_at(layer, given.at), "thickness_nm": layer.thickness_nm} for count, layer in enumerate(layers, 1)]
     if given.format == "text":
         put(given, "".join(text.layer_text(layer, given.at) + "\n" for layer in layers))
     else:
@@ -226,7 +227,7 @@ def judged(given: argparse.Namespace, data: bytes) -> dict[str, Any]:
     try:
         made = plan_from(data).make(given.wavelength)
         say(given, made.notes, explain.hints(made))
-        missed = [(place, f"{name}{text.in_line(line)}: {why}") for place, name, line, why in explain.blocks(made) if why]
+        missed = [(place, f"{name}{in_line(line)}: {why}") for place, name, line, why in explain.blocks(made) if why]
         reports.powers(made)
     except explain.Turned as turned:
         also = [why for place, why in missed if place != turned.place]
@@ -252,7 +253,7 @@ def many(given: argparse.Namespace) -> int:
         powers = ["-"] * 4 if one.sum is None else [f"{one.s:.6f}", f"{one.p:.6f}", f"{one.sum:.6f}", reports.percent(one.lost_percent)]
         table.append([one.file, "-" if one.surfaces is None else str(one.surfaces), *powers, one.refused])
     refused = sum(bool(one.status) for one in results)
-    last = f"{text.counted(len(results), 'sheet')}, {refused} refused or unread\n"
+    last = f"{counted(len(results), 'sheet')}, {refused} refused or unread\n"
     put_rows(given, reports.aligned(table, (0, 6)) + last, rows, {"sheets": rows})
     return max((one.status for one in results), default=0)
 
@@ -319,7 +320,7 @@ def number(word: str) -> float:
     return found
 
 
-def index(word: str) -> text.Index:
+def index(word: str) -> Index:
     try:
         return text.index(word)
     except Wrong as wrong:

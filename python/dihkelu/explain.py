@@ -13,7 +13,9 @@ from typing import Iterator, Sequence, Union
 from .calls import gate
 from .refusals import Refused
 from .sheet import Coating, Glass, Layer, Sheet, Surface
-from .text import MOST_LAYERS, MOST_SURFACES, Made, Wrong, counted, in_line, index_at, met, of_sheet, without_mark, written
+from .plans import MOST_LAYERS, MOST_SURFACES, Made, index_at, met, of_sheet
+from .text import without_mark
+from .words import Wrong, counted, in_line, written
 
 PRESET_INDICES = {Coating.MGF2: [1.38], Coating.BROADBAND_AR: [1.46, 2.3], Coating.MIRROR: [2.3, 1.46]}  # which the gate tests too
 PRESET_NM = 550.0

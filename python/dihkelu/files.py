@@ -5,7 +5,7 @@ import os
 import sys
 from pathlib import Path
 
-from .text import Wrong
+from .words import Wrong
 
 MOST_BYTES = 10_000_000  # of a file; a sheet has 39,460 at most
 

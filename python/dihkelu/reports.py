@@ -9,7 +9,9 @@ from . import explain
 from .calls import answers, band, edition_1, quarter_waves, run
 from .refusals import Refused
 from .sheet import Coating, Sheet, Surface
-from .text import COATINGS, DIRECTIONS, Made, Plan, Wrong, counted, edition, in_line, index_at, met, written
+from .plans import COATINGS, DIRECTIONS, Made, Plan, index_at, met
+from .text import edition
+from .words import Wrong, counted, in_line, written
 
 
 def powers(made: Made) -> list[tuple[float, float]]:

@@ -1,25 +1,19 @@
 """The text of a sheet that people write and read: docs/SHEETS.md has its lines.
 
-A text is read to a plan, in which an index may be a glass's name and a window is its two faces. A plan makes its sheet at the beam's
-wavelength or at another, with other angles if need be, and says what it has worked out itself.
+A text is read to a plan, which makes its sheet; a sheet is written as a text, every number with all its bits.
 """
 from __future__ import annotations
 
 import math
 import re
-import struct
-from dataclasses import dataclass, field, replace
 from typing import Iterator, Union
 
 from . import glasses
 from .calls import stack
+from .plans import COATINGS, DIRECTIONS, MOST_LAYERS, MOST_SURFACES, Face, Film, Index, Material, Plan, film, index_at, met
 from .refusals import NoStack, Refused, StackTooLong
-from .sheet import Coating, Glass, Layer, Sheet, Surface
-
-COATINGS = [coating.name.lower().replace("_", "-") for coating in Coating]
-DIRECTIONS = ["transmitted", "reflected"]
-MOST_SURFACES, MOST_LAYERS = 64, 16
-STEEPEST = math.asin(0.875)  # of a window in its medium: the gate takes n_incident times sin up to 0.875 of the second index
+from .sheet import Coating, Glass, Layer, Sheet
+from .words import Wrong, number, written
 
 EDITION_FORM = "edition 1|2"
 BEAM_FORM = "beam NUMBER nm|um s NUMBER p NUMBER"
@@ -36,216 +30,6 @@ BAND_FORM = "NUMBER nm|um weight NUMBER"
 HEADS = "edition, material, beam, retune, surface, window, front, back, both, layer, glass, stack"
 UNITS = {"nm": 1.0, "um": 1000.0, "deg": math.pi / 180, "rad": 1.0}
 WHAT = {"transmitted": "direction", "1": "edition", "front": "face"}  # what alternatives are; else units
-
-
-class Wrong(Exception):
-    """What is wrong, in words."""
-
-
-# ---- numbers
-
-
-def number(token: str) -> float:
-    """A decimal number, or the 16 hexadecimal digits of an f64's bits after 0x."""
-    if re.fullmatch(r"0x[0-9A-Fa-f]{16}", token):
-        return struct.unpack(">d", bytes.fromhex(token[2:]))[0]
-    if not re.fullmatch(r"[+-]?([0-9]+\.?[0-9]*|\.[0-9]+)([eE][+-]?[0-9]+)?", token):
-        raise Wrong(f"'{token}' is no number")
-    return float(token)
-
-
-def written(x: float) -> str:
-    """The shortest number that reads back to the same bits."""
-    if math.isnan(x) or math.isinf(x):
-        return "0x" + struct.pack(">d", x).hex().upper()
-    text = repr(x)
-    return text[:-2] if text.endswith(".0") else text
-
-
-def counted(count: int, what: str) -> str:
-    return f"{count} {what}" + ("" if count == 1 else "s")
-
-
-# ---- a plan
-
-
-Known = dict[tuple[glasses.Glass, float], float]  # indices that were worked out, by glass and wavelength
-
-
-@dataclass(frozen=True)
-class Index:
-    """A number, a glass by its name, or a material of the text by its coefficients (document 02, slip 3)."""
-
-    number: float = 0.0
-    glass: glasses.Glass | None = None
-    material: tuple[float, float, float] | None = None
-
-    def at(self, wavelength_nm: float, known: Known | None = None) -> float:
-        """The index at a wavelength; that of a glass is put into `known`."""
-        if self.material is not None:
-            return cauchy(*self.material, wavelength_nm)
-        if self.glass is None:
-            return self.number
-        known = {} if known is None else known
-        key = self.glass, wavelength_nm
-        if key not in known:
-            known[key] = self.glass.index(wavelength_nm)
-        return known[key]
-
-
-def cauchy(a: float, b: float, c: float, wavelength_nm: float) -> float:
-    """a + (b + c/u2)/u2, in the order of document 02's slip 3."""
-    u2 = (wavelength_nm / 1000) * (wavelength_nm / 1000)
-    return a + (b + c / u2) / u2 if u2 else math.nan
-
-
-@dataclass(frozen=True)
-class Film:
-    """A layer as it was written: itself, or where its index is that of a glass, the rest of it."""
-
-    line: int | None
-    index: Index = Index()
-    k: float = 0.0
-    thickness_nm: float = 0.0
-    given: Union[Layer, Glass, None] = None
-
-    def at(self, wavelength_nm: float, known: Known | None = None) -> Union[Layer, Glass]:
-        return self.given or Layer(self.index.at(wavelength_nm, known), self.k, self.thickness_nm)
-
-
-def film(line: int | None, index: Index, k: float, thickness_nm: float) -> Film:
-    """A layer; one of a material of the text changes with colour in the sheet itself, as a glass does."""
-    if index.material is not None:
-        if k != 0:
-            raise Wrong(f"a layer of a material with coefficients has no k; this has {written(k)}")
-        return Film(line, index, 0.0, thickness_nm, Glass(*index.material, thickness_nm))
-    return Film(line, index, k, thickness_nm, Layer(index.number, k, thickness_nm) if index.glass is None else None)
-
-
-@dataclass
-class Face:
-    """A surface as it was written. `second` is that of a window: its angle follows from the face before it."""
-
-    line: int | None
-    coating: Coating
-    before: Index
-    after: Index
-    angle_rad: float
-    reflected: bool = False
-    second: bool = False
-    coated: bool = False  # whether a line has said so of a window's face
-    films: list[Film] = field(default_factory=list)
-    retune_nm: float | None = None
-    retune_line: int | None = None
-
-
-def where(line: int | None) -> str:
-    return f"line {line}: " if line else ""
-
-
-def in_line(line: int | None) -> str:
-    return f" (line {line})" if line else ""
-
-
-@dataclass
-class Plan:
-    """A sheet before its wavelength is settled."""
-
-    edition: int | None = None
-    wavelength_nm: float = math.nan
-    s: float = math.nan
-    p: float = math.nan
-    beam_line: int | None = None
-    faces: list[Face] = field(default_factory=list)
-
-    def make(self, wavelength_nm: float | None = None, angles: dict[int, float] | None = None) -> Made:
-        """The sheet at a wavelength, the beam's own unless given, with other angles in radians by the faces' numbers from 0."""
-        nm = self.wavelength_nm if wavelength_nm is None else wavelength_nm
-        made = Made(self, Sheet(nm, self.s, self.p, edition=self.edition))
-        surfaces: list[Surface] = []
-        for count, face in enumerate(self.faces):
-            nm = nm if face.retune_nm is None else face.retune_nm
-            angle = (angles or {}).get(count, face.angle_rad)
-            try:
-                surfaces.append(_surface(face, nm, angle, surfaces, made))
-            except glasses.OutOfRange as wrong:
-                raise Wrong(f"{where(face.line)}{wrong}") from None
-        made.sheet = replace(made.sheet, surfaces=tuple(surfaces))
-        return made
-
-    def names(self) -> list[str]:
-        """Each face by its window or coating, short enough for a picture."""
-        found: list[str] = []
-        for face in self.faces:
-            if face.second:
-                found[-1] = "window, front"
-            found.append("window, back" if face.second else f"{COATINGS[face.coating]}, {DIRECTIONS[face.reflected]}")
-        return found
-
-    def swept(self, numbers: list[int]) -> list[int]:
-        """The faces from 0 whose angle is swept with these surfaces, counted from 1: of a window its first face."""
-        for count in numbers:
-            if not 1 <= count <= len(self.faces):
-                raise Wrong(f"there is no surface {count}; the sheet has {counted(len(self.faces), 'surface')}")
-        return [count - 2 if self.faces[count - 1].second else count - 1 for count in numbers]
-
-
-@dataclass
-class Made:
-    """A plan's sheet, the indices of its glasses, and for each window its line, the angle outside and the angle inside."""
-
-    plan: Plan
-    sheet: Sheet
-    known: Known = field(default_factory=dict)
-    windows: list[tuple[int | None, float, float]] = field(default_factory=list)
-
-    @property
-    def coloured(self) -> Known:
-        """The indices of glasses that change with the wavelength."""
-        return {key: n for key, n in self.known.items() if key[0].coloured}
-
-    @property
-    def notes(self) -> list[str]:
-        """What was worked out for the sheet."""
-        indices = [f"{glass.name} has n {n:.7g} at {written(nm)} nm, by {glass.source}" for (glass, nm), n in self.coloured.items()]
-        angles = [f"{where(line)}inside the window the light is at {math.degrees(inner):.4f} deg, by Snell's law" for line, _, inner in self.windows]
-        return indices + angles
-
-    @property
-    def hints(self) -> list[str]:
-        """The windows that are too steep for the gate."""
-        past = f"past {math.degrees(STEEPEST):.2f} deg its second face is outside the gate"
-        steep = [(line, math.degrees(outer)) for line, outer, _ in self.windows if abs(outer) > STEEPEST]
-        return [f"{where(line)}the window is at {outer:.2f} deg; {past}" for line, outer in steep]
-
-
-def _surface(face: Face, nm: float, angle: float, before: list[Surface], made: Made) -> Surface:
-    """A face at its wavelength; the second of a window at the angle that the first leads to."""
-    n0, n1 = face.before.at(nm, made.known), face.after.at(nm, made.known)
-    layers = tuple([film.at(nm, made.known) for film in face.films])
-    if face.second:
-        outer = before[-1].angle_rad
-        angle = inside(outer, n1, n0, face.line)
-        made.windows.append((face.line, outer, angle))
-    return Surface(face.coating, n0, n1, angle, face.reflected, layers, face.retune_nm)
-
-
-def inside(angle_rad: float, n0: float, n1: float, line: int | None = None) -> float:
-    """The angle in index n1 of light that comes in index n0 at an angle, by Snell's law."""
-    sine = n0 * math.sin(angle_rad) / n1 if math.isfinite(angle_rad) and n1 else math.nan
-    if not abs(sine) <= 1:
-        raise Wrong(f"{where(line)}no light at {math.degrees(angle_rad):.2f} deg in index {written(n0)} comes into index {written(n1)}")
-    return math.asin(sine)
-
-
-def of_sheet(sheet: Sheet) -> Plan:
-    """The plan that makes a sheet as it is."""
-    plan = Plan(sheet.edition, sheet.wavelength_nm, sheet.s, sheet.p)
-    for one in sheet.surfaces:
-        films = [Film(None, given=x) for x in one.layers]
-        ends = Index(one.n_incident), Index(one.n_substrate)
-        plan.faces.append(Face(None, one.coating, *ends, one.angle_rad, one.reflected, films=films, retune_nm=one.retune_nm))
-    return plan
 
 
 # ---- words of a line
@@ -448,13 +232,13 @@ class Reader:
 
     def glass(self, tokens: list[str], line: int) -> None:
         a, b, c, thickness = match(tokens, GLASS_FORM)
-        self.add_films([film(line, Index(material=(a, b, c)), 0.0, thickness)])
+        self.add_films([film(line, Index(glass=Material("", a, b, c)), 0.0, thickness)])
 
     def material(self, tokens: list[str], line: int) -> None:
         called, a, b, c = match(tokens, MATERIAL_FORM)
         if called in self.materials:
             raise Wrong(f"there is a material '{called}' already")
-        self.materials[called] = Index(material=(a, b, c))
+        self.materials[called] = Index(glass=Material(called, a, b, c))
 
     def add_faces(self, faces: list[Face]) -> None:
         if len(self.plan.faces) + len(faces) > MOST_SURFACES:
@@ -556,20 +340,6 @@ def read_band(data: Union[str, bytes]) -> list[tuple[float, int, int]]:
 
 
 # ---- sheet to text
-
-
-def met(sheet: Sheet) -> list[float]:
-    """The wavelength that each surface is met with: that of the last retune up to it, else the beam's."""
-    wavelength, out = sheet.wavelength_nm, []
-    for surface in sheet.surfaces:
-        wavelength = wavelength if surface.retune_nm is None else surface.retune_nm
-        out.append(wavelength)
-    return out
-
-
-def index_at(layer: Union[Layer, Glass], wavelength_nm: float) -> float:
-    """The index of a layer at a wavelength."""
-    return layer.n if isinstance(layer, Layer) else cauchy(layer.a, layer.b, layer.c, wavelength_nm)
 
 
 def layer_text(layer: Union[Layer, Glass], wavelength_nm: float) -> str:

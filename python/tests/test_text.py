@@ -5,7 +5,7 @@ import struct
 import unittest
 
 from common import ROOT, build_train, train
-from dihkelu import Coating, Glass, Layer, Sheet, Surface, explain, glasses, reports, run, stack, text
+from dihkelu import Coating, Glass, Layer, Sheet, Surface, explain, glasses, plans, reports, run, stack, text
 
 BEAM = "beam 1064 nm s 0.5 p 0.5\n"
 
@@ -160,11 +160,12 @@ class Layers(unittest.TestCase):
         """Layers of a material are kind 6, as a glass is; where a surface begins or ends its index is worked out."""
         tantala = "material Ta2O5 a 2.06 b 0.025 c 0\n"
         self.assertEqual(made(tantala + self.CUSTOM + "layer ta2o5 thickness 80 nm\n").sheet, made(self.CUSTOM + "glass a 2.06 b 0.025 c 0 thickness 80 nm\n").sheet)
-        n = text.cauchy(2.06, 0.025, 0.0, 1064.0)
+        n = plans.cauchy(2.06, 0.025, 0.0, 1064.0)
         found = made(tantala + self.CUSTOM + "stack HL with H Ta2O5 L sio2 at 1064 nm\nlayer Ta2O5 quarter-waves 2 at 1064 nm\n").sheet.surfaces[0].layers
         self.assertEqual((found[0], type(found[1])), (Glass(2.06, 0.025, 0.0, 1064 / (4 * n)), Layer))
         self.assertEqual(found[2], Glass(2.06, 0.025, 0.0, 2 * (1064 / (4 * n))))
-        self.assertEqual(made(tantala + BEAM + "window ta2o5 at 0 deg\n").sheet.surfaces[0].n_substrate, n)
+        window = made(tantala + BEAM + "window ta2o5 at 0 deg\n")
+        self.assertEqual((window.sheet.surfaces[0].n_substrate, window.notes[0]), (n, "ta2o5 has n 2.082083 at 1064 nm, by its coefficients in the text"))
         for content, said in [
             (2 * tantala, "line 2: there is a material 'ta2o5' already"),
             ("material bk7 a 1 b 0 c 0\n", "line 1: 'bk7' is a glass that has its name already"),

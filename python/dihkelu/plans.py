@@ -1,0 +1,217 @@
+"""A plan: a sheet before its wavelength is settled, in which an index may be a glass's name and a window is its two faces.
+
+A plan makes its sheet at the beam's wavelength or at another, with other angles if need be, and says what it has worked out itself.
+"""
+from __future__ import annotations
+
+import math
+from dataclasses import dataclass, field, replace
+from typing import Union
+
+from . import glasses
+from .sheet import Coating, Glass, Layer, Sheet, Surface
+from .words import Wrong, counted, where, written
+
+COATINGS = [coating.name.lower().replace("_", "-") for coating in Coating]
+DIRECTIONS = ["transmitted", "reflected"]
+MOST_SURFACES, MOST_LAYERS = 64, 16
+STEEPEST = math.asin(0.875)  # of a window in its medium: the gate takes n_incident times sin up to 0.875 of the second index
+
+
+def cauchy(a: float, b: float, c: float, wavelength_nm: float) -> float:
+    """a + (b + c/u2)/u2, in the order of document 02's slip 3."""
+    u2 = (wavelength_nm / 1000) * (wavelength_nm / 1000)
+    return a + (b + c / u2) / u2 if u2 else math.nan
+
+
+@dataclass(frozen=True)
+class Material:
+    """A glass of the text, by its maker's coefficients."""
+
+    name: str
+    a: float
+    b: float
+    c: float
+    coloured = True
+    source = "its coefficients in the text"
+
+    def index(self, wavelength_nm: float) -> float:
+        return cauchy(self.a, self.b, self.c, wavelength_nm)
+
+
+Named = Union[glasses.Glass, Material]
+Known = dict[tuple[Named, float], float]  # indices that were worked out, by glass and wavelength
+
+
+@dataclass(frozen=True)
+class Index:
+    """A number, or a glass or material by its name."""
+
+    number: float = 0.0
+    glass: Named | None = None
+
+    def at(self, wavelength_nm: float, known: Known | None = None) -> float:
+        """The index at a wavelength; that of a glass is put into `known`."""
+        if self.glass is None:
+            return self.number
+        known = {} if known is None else known
+        key = self.glass, wavelength_nm
+        if key not in known:
+            known[key] = self.glass.index(wavelength_nm)
+        return known[key]
+
+
+@dataclass(frozen=True)
+class Film:
+    """A layer as it was written: itself, or where its index is that of a glass, the rest of it."""
+
+    line: int | None
+    index: Index = Index()
+    k: float = 0.0
+    thickness_nm: float = 0.0
+    given: Union[Layer, Glass, None] = None
+
+    def at(self, wavelength_nm: float, known: Known | None = None) -> Union[Layer, Glass]:
+        return self.given or Layer(self.index.at(wavelength_nm, known), self.k, self.thickness_nm)
+
+
+def film(line: int | None, index: Index, k: float, thickness_nm: float) -> Film:
+    """A layer; one of a material changes with colour in the sheet itself, as kind 6."""
+    made: Union[Layer, Glass, None] = Layer(index.number, k, thickness_nm) if index.glass is None else None
+    if isinstance(index.glass, Material):
+        if k != 0:
+            raise Wrong(f"a layer of a material with coefficients has no k; this has {written(k)}")
+        made = Glass(index.glass.a, index.glass.b, index.glass.c, thickness_nm)
+    return Film(line, index, k, thickness_nm, made)
+
+
+@dataclass
+class Face:
+    """A surface as it was written. `second` is that of a window: its angle follows from the face before it."""
+
+    line: int | None
+    coating: Coating
+    before: Index
+    after: Index
+    angle_rad: float
+    reflected: bool = False
+    second: bool = False
+    coated: bool = False  # whether a line has said so of a window's face
+    films: list[Film] = field(default_factory=list)
+    retune_nm: float | None = None
+    retune_line: int | None = None
+
+
+@dataclass
+class Plan:
+    """A sheet before its wavelength is settled."""
+
+    edition: int | None = None
+    wavelength_nm: float = math.nan
+    s: float = math.nan
+    p: float = math.nan
+    beam_line: int | None = None
+    faces: list[Face] = field(default_factory=list)
+
+    def make(self, wavelength_nm: float | None = None, angles: dict[int, float] | None = None) -> Made:
+        """The sheet at a wavelength, the beam's own unless given, with other angles in radians by the faces' numbers from 0."""
+        nm = self.wavelength_nm if wavelength_nm is None else wavelength_nm
+        made = Made(self, Sheet(nm, self.s, self.p, edition=self.edition))
+        surfaces: list[Surface] = []
+        for count, face in enumerate(self.faces):
+            nm = nm if face.retune_nm is None else face.retune_nm
+            angle = (angles or {}).get(count, face.angle_rad)
+            try:
+                surfaces.append(_surface(face, nm, angle, surfaces, made))
+            except glasses.OutOfRange as wrong:
+                raise Wrong(f"{where(face.line)}{wrong}") from None
+        made.sheet = replace(made.sheet, surfaces=tuple(surfaces))
+        return made
+
+    def names(self) -> list[str]:
+        """Each face by its window or coating, short enough for a picture."""
+        found: list[str] = []
+        for face in self.faces:
+            if face.second:
+                found[-1] = "window, front"
+            found.append("window, back" if face.second else f"{COATINGS[face.coating]}, {DIRECTIONS[face.reflected]}")
+        return found
+
+    def swept(self, numbers: list[int]) -> list[int]:
+        """The faces from 0 whose angle is swept with these surfaces, counted from 1: of a window its first face."""
+        for count in numbers:
+            if not 1 <= count <= len(self.faces):
+                raise Wrong(f"there is no surface {count}; the sheet has {counted(len(self.faces), 'surface')}")
+        return [count - 2 if self.faces[count - 1].second else count - 1 for count in numbers]
+
+
+@dataclass
+class Made:
+    """A plan's sheet, the indices of its glasses, and for each window its line, the angle outside and the angle inside."""
+
+    plan: Plan
+    sheet: Sheet
+    known: Known = field(default_factory=dict)
+    windows: list[tuple[int | None, float, float]] = field(default_factory=list)
+
+    @property
+    def coloured(self) -> Known:
+        """The indices of glasses that change with the wavelength."""
+        return {key: n for key, n in self.known.items() if key[0].coloured}
+
+    @property
+    def notes(self) -> list[str]:
+        """What was worked out for the sheet."""
+        indices = [f"{glass.name} has n {n:.7g} at {written(nm)} nm, by {glass.source}" for (glass, nm), n in self.coloured.items()]
+        angles = [f"{where(line)}inside the window the light is at {math.degrees(inner):.4f} deg, by Snell's law" for line, _, inner in self.windows]
+        return indices + angles
+
+    @property
+    def hints(self) -> list[str]:
+        """The windows that are too steep for the gate."""
+        past = f"past {math.degrees(STEEPEST):.2f} deg its second face is outside the gate"
+        steep = [(line, math.degrees(outer)) for line, outer, _ in self.windows if abs(outer) > STEEPEST]
+        return [f"{where(line)}the window is at {outer:.2f} deg; {past}" for line, outer in steep]
+
+
+def _surface(face: Face, nm: float, angle: float, before: list[Surface], made: Made) -> Surface:
+    """A face at its wavelength; the second of a window at the angle that the first leads to."""
+    n0, n1 = face.before.at(nm, made.known), face.after.at(nm, made.known)
+    layers = tuple([film.at(nm, made.known) for film in face.films])
+    if face.second:
+        outer = before[-1].angle_rad
+        angle = inside(outer, n1, n0, face.line)
+        made.windows.append((face.line, outer, angle))
+    return Surface(face.coating, n0, n1, angle, face.reflected, layers, face.retune_nm)
+
+
+def inside(angle_rad: float, n0: float, n1: float, line: int | None = None) -> float:
+    """The angle in index n1 of light that comes in index n0 at an angle, by Snell's law."""
+    sine = n0 * math.sin(angle_rad) / n1 if math.isfinite(angle_rad) and n1 else math.nan
+    if not abs(sine) <= 1:
+        raise Wrong(f"{where(line)}no light at {math.degrees(angle_rad):.2f} deg in index {written(n0)} comes into index {written(n1)}")
+    return math.asin(sine)
+
+
+def of_sheet(sheet: Sheet) -> Plan:
+    """The plan that makes a sheet as it is."""
+    plan = Plan(sheet.edition, sheet.wavelength_nm, sheet.s, sheet.p)
+    for one in sheet.surfaces:
+        films = [Film(None, given=x) for x in one.layers]
+        ends = Index(one.n_incident), Index(one.n_substrate)
+        plan.faces.append(Face(None, one.coating, *ends, one.angle_rad, one.reflected, films=films, retune_nm=one.retune_nm))
+    return plan
+
+
+def met(sheet: Sheet) -> list[float]:
+    """The wavelength that each surface is met with: that of the last retune up to it, else the beam's."""
+    wavelength, out = sheet.wavelength_nm, []
+    for surface in sheet.surfaces:
+        wavelength = wavelength if surface.retune_nm is None else surface.retune_nm
+        out.append(wavelength)
+    return out
+
+
+def index_at(layer: Union[Layer, Glass], wavelength_nm: float) -> float:
+    """The index of a layer at a wavelength."""
+    return layer.n if isinstance(layer, Layer) else cauchy(layer.a, layer.b, layer.c, wavelength_nm)
