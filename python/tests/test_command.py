@@ -174,6 +174,16 @@ class Sweeps(Folder):
         self.assertIn("fused-silica is known from 210 to 3710 nm", rows[0]["refused"])
         self.assertEqual(status, 1)
 
+    def test_brewster(self):
+        """No p is lost at a bare window where tan is n, and s is lost more and more with the angle."""
+        bare = "beam 550 nm s 1 p 1\nwindow 1.5 at 0 deg\n"
+        _, rows = self.rows("--angle", "50", "60", "0.01", given=bare)
+        best = max(rows, key=lambda row: float(row["p"]))
+        self.assertAlmostEqual(float(best["angle_deg"]), math.degrees(math.atan(1.5)), delta=0.006)
+        self.assertAlmostEqual(float(best["p"]), 1.0, delta=1e-7)
+        left = [float(row["s"]) for row in rows]
+        self.assertEqual(left, sorted(left, reverse=True))
+
     def test_steps(self):
         _, rows = self.rows("--angle", "0", "0.3", "0.1")
         self.assertEqual([row["angle_deg"] for row in rows], ["0.0", "0.1", "0.2", "0.3"])
