@@ -181,12 +181,22 @@ def sweep(given: argparse.Namespace) -> int:
         ends = [plan.make(x) for x in _ends(points)]
     notes = list(dict.fromkeys(note for made in ends for note in made.notes))
     hints = list(dict.fromkeys(hint for made in ends for hint in explain.hints(made)))
+    if given.wavelength and (kept := kept_by_retune(plan)):
+        hints.append(kept)
     say(given, notes, hints)
     names = [f"{count}: {name}" for count, name in enumerate(plan.names(), 1)]
     draw(given, lambda: plots.sweep(points, (plan.s, plan.p), label, names, title(given)))
     rows = reports.sweep_rows(points, column, given.each or given.format == "json")
     put_rows(given, reports.sweep_table(points, over), rows, {"file": given.file, "points": rows, "notes": notes, "hints": hints})
     return int(any(point.refused for point in points))
+
+
+def kept_by_retune(plan: Plan) -> str:
+    """Where a sweep over wavelengths ends to count: the beam's is swept, and a retune holds from its surface on."""
+    for count, face in enumerate(plan.faces, 1):
+        if face.retune_nm is not None:
+            return f"from surface {count}{in_line(face.line)} on the wavelength is {written(face.retune_nm)} nm, by the retune before it"
+    return ""
 
 
 def _ends(points: list[reports.Point]) -> list[float]:

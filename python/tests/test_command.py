@@ -174,6 +174,10 @@ class Sweeps(Folder):
         self.assertIn("fused-silica is known from 210 to 3710 nm", rows[0]["refused"])
         self.assertEqual(status, 1)
 
+    def test_a_retune(self):
+        said = run("sweep", EXAMPLES / "doubled.txt", "--wavelength", "1000", "1100", "50")[2]
+        self.assertIn("hint: from surface 3 (line 9) on the wavelength is 532 nm, by the retune before it", said)
+
     def test_brewster(self):
         """No p is lost at a bare window where tan is n, and s is lost more and more with the angle."""
         bare = "beam 550 nm s 1 p 1\nwindow 1.5 at 0 deg\n"
