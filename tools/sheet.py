@@ -154,8 +154,9 @@ def main(words):
     given = arguments().parse_args(words)
     try:
         printed, made = execute(given)
-        for hint in explain.hints(made):
-            print(f"{given.file}: hint: {hint}", file=sys.stderr)
+        for kind, sentences in [("note", made.notes), ("hint", explain.hints(made))]:
+            for sentence in sentences:
+                print(f"{given.file}: {kind}: {sentence}", file=sys.stderr)
         files.emit(printed)
         return 0
     except Wrong as wrong:

@@ -553,6 +553,15 @@ class Numbers(unittest.TestCase):
         self.assertEqual((status, said.startswith("-: refused 6 1: the beam (line 1)"), "Traceback" in said), (1, True, False), said)
 
 
+class Notes(unittest.TestCase):
+    def test_what_was_worked_out(self):
+        """The angle inside a window and the index of a glass are said beside the sheet."""
+        text = "beam 1064 nm s 0.5 p 0.5\nwindow fused-silica at 30 deg\n"
+        said = "-: note: fused-silica has n 1.449631 at 1064 nm, by I. H. Malitson, J. Opt. Soc. Am. 55, 1205 (1965)\n-: note: line 2: inside the window the light is at 20.1766 deg, by Snell's law\n"
+        self.assertEqual(tool("write", "-", given=text)[::2], (0, said))
+        self.assertEqual(losses(text)[::2], (0, said))
+
+
 class Hints(unittest.TestCase):
     PLATE = "surface bare transmitted from 1 to 1.5 at 30 deg\nsurface bare transmitted from {} to 1 at {} deg\n"
 

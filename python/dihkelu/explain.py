@@ -11,9 +11,9 @@ from dataclasses import dataclass
 from typing import Iterator, Sequence, Union
 
 from .calls import gate
+from .plans import MOST_LAYERS, MOST_SURFACES, Made, index_at, met, of_sheet
 from .refusals import Refused
 from .sheet import Coating, Glass, Layer, Sheet, Surface
-from .plans import MOST_LAYERS, MOST_SURFACES, Made, index_at, met, of_sheet
 from .text import without_mark
 from .words import Wrong, counted, in_line, written
 

@@ -7,9 +7,9 @@ from typing import Any, Iterable, Sequence
 
 from . import explain
 from .calls import answers, band, edition_1, quarter_waves, run
+from .plans import COATINGS, DIRECTIONS, Made, Plan, index_at, met
 from .refusals import Refused
 from .sheet import Coating, Sheet, Surface
-from .plans import COATINGS, DIRECTIONS, Made, Plan, index_at, met
 from .text import edition
 from .words import Wrong, counted, in_line, written
 
