@@ -14,11 +14,16 @@ use Rattle.surface_real.specs.declared.Known.{Known}
 use Rattle.surface_real.specs.Internal.{no-films, stacked, finish, real-powers}
 use Rattle.surface_real.proofs.Whole.{whole}
 
+pub known-stack : (light : Incidence) (layers : List ThinFilmLayer) (k : Stack) (q : Known) → k ≡ stacked (light .snell) (light .«wavelength_nm») no-films layers → q ≡ finish light k → q .known ≡ true
+    → q .powers ≡ coated-powers (solved light layers)
+known-stack light layers k q k-is q-is e =
+    let is : q ≡ real-powers light layers = q-is ∙ ap (finish light) k-is in
+    ap (λ (z : Known). z .powers) is ∙ whole light layers (ap (λ (z : Known). z .known) (sym is) ∙ e)
+
 pub known : (light : Incidence) (reversed : Bool) (layers places : List ThinFilmLayer) (n : ℕ) (none k : Stack) (q : Known) → take n places ≡ layers → none ≡ no-films
     → k ≡ stacked (light .snell) (light .«wavelength_nm») none (ordered reversed (take n places)) → q ≡ finish light k → q .known ≡ true
     → q .powers ≡ coated-powers (solved light (ordered reversed layers))
-known light reversed layers places n none k q there none-is k-is q-is e =
-    let is : q ≡ real-powers light (ordered reversed layers) =
-    q-is ∙ ap (finish light) (k-is ∙ ap (λ (z : Stack). stacked (light .snell) (light .«wavelength_nm») z (ordered reversed (take n places))) none-is
-    ∙ ap (λ (l : List ThinFilmLayer). stacked (light .snell) (light .«wavelength_nm») no-films (ordered reversed l)) there) in
-    ap (λ (z : Known). z .powers) is ∙ whole light (ordered reversed layers) (ap (λ (z : Known). z .known) (sym is) ∙ e)
+known light reversed layers places n none k q there none-is k-is =
+    known-stack light (ordered reversed layers) k q
+    (k-is ∙ ap (λ (z : Stack). stacked (light .snell) (light .«wavelength_nm») z (ordered reversed (take n places))) none-is
+    ∙ ap (λ (l : List ThinFilmLayer). stacked (light .snell) (light .«wavelength_nm») no-films (ordered reversed l)) there)

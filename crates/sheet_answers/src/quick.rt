@@ -13,6 +13,7 @@ ghost use Rattle.thin_film_coating.specs.declared.Coating.the-variants.{Multila
 ghost use Rattle.thin_film.specs.declared.SurfaceCoating.the-variants.{Custom};
 ghost use Rattle.thin_film.specs.Evaluate.{evaluate-surface};
 ghost use Rattle.surface.specs.Answers.{coated-powers};
+ghost use Rattle.surface_real.specs.Internal.{no-films, stacked};
 ghost use Rattle.sheet_answers.specs.Outcome.{outcome-of};
 use crate::PowersReply;
 use crate::presets;
@@ -20,6 +21,7 @@ use gate_limits::Surface;
 use math_trig::SinCos;
 use surface::Powers;
 use surface_real::Known;
+use surface_real::Stack;
 use thin_film::SurfaceCoating;
 use thin_film_coating::Coating;
 use thin_film_layers::Evaluation;
@@ -47,6 +49,29 @@ fn layers_after(src: &[u8], at: usize, n: usize, wavelength_nm: f64) -> [ThinFil
     layers
 }
 
+// The products of the n films after the block at a place, in their order or reversed, one by one: for one or two films
+// arrays do not pay.
+fn stack_at(
+    src: &[u8],
+    at: usize,
+    n: usize,
+    reversed: bool,
+    wavelength_nm: f64,
+    light: Incidence,
+) -> Stack
+    ensures { λ r. ⌜ r ≡ stacked (light .snell) (light .«wavelength_nm») no-films (ordered reversed (films «wavelength_nm» (layers-at (now (src .entry)) (next-place (now (src .entry)) at) n))) ⌝ }
+{
+    let mut stack = surface_real::no_films();
+    let mut i = 0;
+    while i < n {
+        let j = thin_film_layers::nth_index(reversed, n, i);
+        let layer = crate::layer_after(src, at, j, wavelength_nm);
+        stack = surface_real::join(stack, surface_real::film_of(light, layer));
+        i += 1;
+    }
+    stack
+}
+
 // The powers over real numbers, and whether they are known; no admitted sheet has more than 16 layers after a SURFACE.
 fn quick_powers(
     src: &[u8],
@@ -60,6 +85,9 @@ fn quick_powers(
 {
     if n > 16 {
         return presets::unknown();
+    }
+    if n <= 2 {
+        return surface_real::finish(light, stack_at(src, at, n, reversed, wavelength_nm, light));
     }
     let layers = layers_after(src, at, n, wavelength_nm);
     let none = surface_real::no_films();
