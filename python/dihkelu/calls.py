@@ -291,3 +291,141 @@ def quarter_waves(n: float, thickness_nm: float, wavelength_nm: float) -> tuple[
     over = ctypes.c_double()
     count = answered(_library.dihkelu_quarter_waves(n, thickness_nm, wavelength_nm, ctypes.byref(over)), "quarter_waves")
     return count, over.value
+
+
+# ---- single functions of the original
+
+Vector = tuple[complex, complex]
+Stokes = tuple[float, float, float, float]
+
+
+def _written(name: str, count: int, *given: Any) -> list[float]:
+    """The numbers that a call writes of those given, each a number or a list of numbers."""
+    out = _numbers(count=count)
+    words: list[Any] = []
+    for x in given:
+        words += [x] if isinstance(x, (int, float)) else [x, len(x)]
+    return out[: answered(getattr(_library, "dihkelu_" + name)(*words, out, len(out)), name)]
+
+
+def _parts(values: Iterable[complex]) -> ctypes.Array[ctypes.c_double]:
+    return _numbers(x for z in values for x in (complex(z).real, complex(z).imag))
+
+
+def _entries(jones: Sequence[Sequence[complex]]) -> ctypes.Array[ctypes.c_double]:
+    return _parts(z for row in jones for z in row)
+
+
+def fresnel_dielectric(cos_theta_i: float, n1: float, n2: float) -> tuple[float, float]:
+    """Rs and Rp of a dielectric interface met at an angle of this cosine."""
+    rs, rp = _written("fresnel_dielectric", 2, float(cos_theta_i), float(n1), float(n2))
+    return rs, rp
+
+
+def fresnel_unpolarized(cos_theta_i: float, n1: float, n2: float) -> tuple[float, float]:
+    """R and T of unpolarized light."""
+    r, t = _written("fresnel_unpolarized", 2, float(cos_theta_i), float(n1), float(n2))
+    return r, t
+
+
+def schlick_approx(cos_theta_i: float, n1: float, n2: float) -> float:
+    """Schlick's approximation of the unpolarized reflectance."""
+    return _written("schlick_approx", 1, float(cos_theta_i), float(n1), float(n2))[0]
+
+
+def surface_fresnel_jones(n1: float, n2: float, angle_rad: float) -> tuple[Matrix, Matrix]:
+    """The Jones matrices of a bare surface, of the reflected light and of the transmitted."""
+    x = _written("surface_fresnel_jones", 16, float(n1), float(n2), float(angle_rad))
+    return _matrix(x[:8]), _matrix(x[8:])
+
+
+def quarter_wave_ar(n_ambient: float, n_substrate: float, design_wavelength_nm: float) -> Layer:
+    """A quarter wave of index sqrt(n_ambient n_substrate)."""
+    return Layer(*_written("quarter_wave_ar", 3, float(n_ambient), float(n_substrate), float(design_wavelength_nm)))
+
+
+def bragg_mirror(n_high: float, n_low: float, pairs: int, design_wavelength_nm: float) -> list[Layer]:
+    """The layers of (H L)^pairs H, a quarter wave each."""
+    x = _written("bragg_mirror", 189, float(n_high), float(n_low), min(operator.index(pairs) % (1 << 64), 32), float(design_wavelength_nm))
+    return [Layer(*x[i : i + 3]) for i in range(0, len(x), 3)]
+
+
+def coating_from_name(name: str | bytes) -> int:
+    """The code that `evaluate` has the coating of a name by, MGF2 being at 550 nm; 0 for none."""
+    data = name.encode() if isinstance(name, str) else name
+    return answered(_library.dihkelu_coating_from_name(data, len(data)), "coating_from_name")
+
+
+def to_stokes(field: Sequence[complex]) -> Stokes:
+    """The Stokes vector of a Jones vector, Ex and Ey."""
+    s0, s1, s2, s3 = _written("to_stokes", 4, _parts(field))
+    return s0, s1, s2, s3
+
+
+def jones_normalize(field: Sequence[complex]) -> Vector:
+    """A Jones vector at intensity 1."""
+    ex, ey = _pairs(_written("jones_normalize", 4, _parts(field)))
+    return ex, ey
+
+
+def jones_intensity(field: Sequence[complex]) -> float:
+    """A Jones vector's intensity."""
+    return _written("jones_intensity", 1, _parts(field))[0]
+
+
+@dataclass(frozen=True)
+class StokesFigures:
+    """What a Stokes vector says of its light; angles in radians."""
+
+    degree_of_polarization: float
+    degree_of_linear_polarization: float
+    degree_of_circular_polarization: float
+    orientation_angle_rad: float
+    ellipticity_angle_rad: float
+
+
+def stokes_figures(beam: Sequence[float]) -> StokesFigures:
+    """Degrees of polarization, orientation and ellipticity of a Stokes vector."""
+    return StokesFigures(*_written("stokes_figures", 5, _numbers(beam)))
+
+
+def jones_apply(matrix: Sequence[Sequence[complex]], field: Sequence[complex]) -> Vector:
+    """A Jones matrix applied to a Jones vector."""
+    ex, ey = _pairs(_written("jones_apply", 4, _entries(matrix), _parts(field)))
+    return ex, ey
+
+
+def jones_mul(left: Sequence[Sequence[complex]], right: Sequence[Sequence[complex]]) -> Matrix:
+    """The product of two Jones matrices; light passes the right one first."""
+    return _matrix(_written("jones_mul", 8, _entries(left), _entries(right)))
+
+
+def mueller_apply(matrix: Sequence[Sequence[float]], beam: Sequence[float]) -> Stokes:
+    """A Mueller matrix applied to a Stokes vector."""
+    s0, s1, s2, s3 = _written("mueller_apply", 4, _numbers(x for row in matrix for x in row), _numbers(beam))
+    return s0, s1, s2, s3
+
+
+def diattenuator(tx: complex, ty: complex) -> Matrix:
+    """A diagonal Jones matrix of two amplitudes, such as a response's rs and rp, or ts and tp."""
+    return _matrix(_written("diattenuator", 8, _parts([tx, ty])))
+
+
+def linear_polarizer(angle_rad: float) -> Matrix:
+    """The Jones matrix of a linear polarizer at an angle to the x-axis."""
+    return _matrix(_written("linear_polarizer", 8, float(angle_rad)))
+
+
+def retarder(retardance_rad: float, fast_axis_rad: float) -> Matrix:
+    """The Jones matrix of a retarder, its fast axis at an angle."""
+    return _matrix(_written("retarder", 8, float(retardance_rad), float(fast_axis_rad)))
+
+
+def quarter_wave_plate(fast_axis_rad: float) -> Matrix:
+    """The Jones matrix of a quarter-wave plate."""
+    return _matrix(_written("quarter_wave_plate", 8, float(fast_axis_rad)))
+
+
+def half_wave_plate(fast_axis_rad: float) -> Matrix:
+    """The Jones matrix of a half-wave plate."""
+    return _matrix(_written("half_wave_plate", 8, float(fast_axis_rad)))

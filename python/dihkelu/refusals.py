@@ -24,8 +24,16 @@ class InvalidParameter(Refused):
     of = 1
 
 
+class NameRefused(Refused):
+    of = 2
+
+    @property
+    def sentence(self) -> str:  # type: ignore[override]
+        return "the name has more than 32 bytes" if self.place == 32 else "byte {place} of the name is no ASCII"
+
+
 class TooManyLayers(Refused):
-    sentence = "there are more than 64 layers"
+    sentence = "there are more than 64 layers, or more than 31 pairs"
     of = 3
 
 

@@ -147,6 +147,12 @@ class Refusals(unittest.TestCase):
         outside = Sheet(50.0, 0.5, 0.5)
         cases = [
             (dihkelu.InvalidParameter, 1, 0, lambda: dihkelu.evaluate(9, 1.0, 1.5, 0.0, 550.0)),
+            (dihkelu.InvalidParameter, 1, 0, lambda: dihkelu.to_stokes([1.0])),
+            (dihkelu.InvalidParameter, 1, 0, lambda: dihkelu.surface_fresnel_jones(0.0, 1.5, 0.0)),
+            (dihkelu.NameRefused, 2, 1, lambda: dihkelu.coating_from_name("A\u00e9")),
+            (dihkelu.NameRefused, 2, 32, lambda: dihkelu.coating_from_name("A" * 33)),
+            (dihkelu.TooManyLayers, 3, 0, lambda: dihkelu.bragg_mirror(2.3, 1.46, 32, 550.0)),
+            (dihkelu.TooManyLayers, 3, 0, lambda: dihkelu.bragg_mirror(2.3, 1.46, -1, 550.0)),
             (dihkelu.TooManyLayers, 3, 0, lambda: dihkelu.evaluate(5, 1.0, 1.5, 0.0, 550.0, [(1.5, 0.0, 10.0)] * 65)),
             (dihkelu.SheetLength, 4, 0, lambda: dihkelu.gate(b"")),
             (dihkelu.OutOfGrammar, 5, 8, lambda: dihkelu.gate(out_of_grammar)),
@@ -233,6 +239,36 @@ class Surfaces(unittest.TestCase):
         found = dihkelu.evaluate(dihkelu.MGF2, 1.0, 1.52, angles, 550.0).reflectance_s
         self.assertEqual(found.shape, (3,))
         self.assertEqual(found.tolist(), dihkelu.evaluate(dihkelu.MGF2, 1.0, 1.52, [0.0, 0.25, 0.5], 550.0).reflectance_s)
+
+    def test_fresnel(self):
+        self.assertEqual(dihkelu.fresnel_dielectric(1.0, 1.0, 3.0), (0.25, 0.25))
+        self.assertEqual(dihkelu.fresnel_unpolarized(1.0, 1.0, 3.0), (0.25, 0.75))
+        self.assertEqual(dihkelu.schlick_approx(1.0, 1.0, 3.0), 0.25)
+        reflected, transmitted = dihkelu.surface_fresnel_jones(1.0, 3.0, 0.0)
+        self.assertEqual((reflected, transmitted), (((-0.5, 0), (0, 0.5)), ((0.5, 0), (0, 0.5))))
+        self.assertEqual(dihkelu.answers(BARE, 0).jones_reflected, reflected)
+
+    def test_layers_and_names(self):
+        self.assertEqual(dihkelu.quarter_wave_ar(1.0, 2.25, 600.0), Layer(1.5, 0.0, 100.0))
+        self.assertEqual(dihkelu.bragg_mirror(2.3, 1.46, 7, 1064.0), dihkelu.stack("(HL)^7 H", 2.3, 1.46, design_wavelength_nm=1064.0))
+        names = {"": 0, "none": 0, "AR": dihkelu.IDEAL_AR, " MgF2 ": dihkelu.MGF2, "He-Ne": dihkelu.BROADBAND_AR, "HR": dihkelu.MIRROR, "what": dihkelu.IDEAL_AR}
+        for name, code in names.items():
+            self.assertEqual(dihkelu.coating_from_name(name), code)
+
+    def test_polarization(self):
+        self.assertEqual(dihkelu.to_stokes((1.0, 1j)), (2.0, 0.0, 0.0, 2.0))
+        self.assertEqual(dihkelu.jones_normalize((2.0, 0.0)), (1.0, 0.0))
+        self.assertEqual(dihkelu.jones_intensity((3.0, 4j)), 25.0)
+        figures = dihkelu.stokes_figures((2.0, 2.0, 0.0, 0.0))
+        self.assertEqual((figures.degree_of_polarization, figures.degree_of_circular_polarization, figures.orientation_angle_rad), (1.0, 0.0, 0.0))
+        plate = dihkelu.diattenuator(0.5, 2j)
+        self.assertEqual(plate, ((0.5, 0), (0, 2j)))
+        self.assertEqual(dihkelu.jones_apply(plate, (2.0, 1.0)), (1.0, 2j))
+        self.assertEqual(dihkelu.jones_mul(plate, plate), ((0.25, 0), (0, -4)))
+        self.assertEqual(dihkelu.mueller_apply([[1, 0, 0, 0], [0, 2, 0, 0], [0, 0, 3, 0], [0, 0, 0, 4]], (1.0, 1.0, 1.0, 1.0)), (1.0, 2.0, 3.0, 4.0))
+        self.assertEqual(dihkelu.linear_polarizer(0.0), ((1.0, 0), (0, 0)))
+        self.assertEqual(dihkelu.retarder(math.pi / 2, 0.25), dihkelu.quarter_wave_plate(0.25))
+        self.assertEqual(dihkelu.retarder(math.pi, 0.25), dihkelu.half_wave_plate(0.25))
 
     def test_stack(self):
         layers = dihkelu.stack("(HL)^7 H", 2.3, 1.46, design_wavelength_nm=1064.0)
