@@ -23,7 +23,8 @@ use Rattle.dihkelu.specs.Numbers.{Tells, said}
 
 pub record FunctionNumbers : Type 0 where
   -- calls that refuse with nothing but 8: whatever is worked out
-  pub of-dielectric : (r : Reflectances) (list : List Float) → Tells (said reflectances (answer r) list) (written (reflectances r) list .returned)
+  pub of-dielectric : (r : Reflectances) (list : List Float)
+      → Tells (said reflectances (answer r) list) (written (reflectances r) list .returned)
   pub of-unpolarized : (r : Unpolarized) (list : List Float) → Tells (said totals (answer r) list) (written (totals r) list .returned)
   pub of-schlick : (x : Float) (list : List Float) → Tells (said alone (answer x) list) (written (alone x) list .returned)
   pub of-plate : (j : JonesMatrix) (list : List Float) → Tells (said entries (answer j) list) (written (entries j) list .returned)
@@ -32,7 +33,8 @@ pub record FunctionNumbers : Type 0 where
       (written (stacked (quarter-wave-layers n-ambient n-substrate design)) list .returned)
   -- a bare surface, a mirror, a name
   pub of-surface-fresnel-jones : (n1 n2 angle : Float) (list : List Float)
-      → Tells (said matrices (surface-fresnel-jones n1 n2 angle) list) (answered matrices (surface-fresnel-jones n1 n2 angle) list .returned)
+      → Tells (said matrices (surface-fresnel-jones n1 n2 angle) list)
+      (answered matrices (surface-fresnel-jones n1 n2 angle) list .returned)
   pub of-bragg-mirror : (n-high n-low : Float) (pairs : ℕ) (design : Float) (list : List Float)
       → Tells (said stacked (mirror n-high n-low pairs design) list) (answered stacked (mirror n-high n-low pairs design) list .returned)
   pub of-name : (name : List ℕ) → Tells (map named-code (from-format-name name)) (returned (map named-code (from-format-name name)))
@@ -48,7 +50,8 @@ pub record FunctionNumbers : Type 0 where
   pub of-entries : (count : ℕ) (call : List Float → JonesMatrix) (numbers list : List Float)
       → Tells (said entries (of count call numbers) list) (answered entries (of count call numbers) list .returned)
   pub of-two-parts : (count other : ℕ) (call : List Float → List Float → JonesVector) (numbers others list : List Float)
-      → Tells (said parts (of-two count other call numbers others) list) (answered parts (of-two count other call numbers others) list .returned)
+      → Tells (said parts (of-two count other call numbers others) list)
+      (answered parts (of-two count other call numbers others) list .returned)
   pub of-two-parameters : (count other : ℕ) (call : List Float → List Float → StokesVector) (numbers others list : List Float)
       → Tells (said parameters (of-two count other call numbers others) list)
       (answered parameters (of-two count other call numbers others) list .returned)

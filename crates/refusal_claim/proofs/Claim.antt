@@ -3,7 +3,7 @@ use mathlib.Core.Path.{_≡_, refl, sym, ap, _∙_, subst}
 use mathlib.Core.Bool.{Bool, true, false, _&&_, _||_, cond}
 use mathlib.Core.Logic.{_⊎_, inl, inr, ⊎-elim}
 use mathlib.Core.List.{List, [], _∷_, _++_, map as map-list}
-use Prim.Native.Nat.{ℕ, zero, suc, _*_, _≤_, _<_}
+use Prim.Native.Nat.{ℕ, zero, suc, _*_, _%_, _≤_, _<_}
 use native.Mathlib.Omega.{arith}
 use lib.Dec.{T, eqb, leb, ltb, lit≤, lit<}
 use lib.ListN.{length, getD, drop, replicate}
@@ -34,6 +34,11 @@ use Rattle.reflectance_range.specs.Range.{index-valid, range-valid, reflectance
 use Rattle.thin_film_shorthand.specs.Claim as Shorthand
 use Rattle.thin_film_shorthand.proofs.Claim.{shorthand}
 use Rattle.thin_film.specs.Evaluate.{rust-evaluate-surface, evaluate-surface}
+use Rattle.gate_limits.specs.declared.Interface.{Interface}
+use Rattle.gate_limits.specs.declared.Interface.the-variants as I
+use Rattle.gate_limits.specs.Coating.{coded}
+use Rattle.c_layers.specs.Evaluate.{layers, call-coating, evaluate-coded, evaluate}
+use Rattle.c_scan.specs.Scan.{at-case, responses, paired, evaluate-list}
 use Rattle.polarization.specs.Surface.{indices-valid, surface-fresnel-jones}
 use Rattle.name_bytes.specs.Ascii.{first-over}
 use Rattle.name_coating.specs.Name.{from-format-name}
@@ -365,6 +370,38 @@ of-surface-coating = record {
   each = (((S.IdealAr, ([], unlawful)), (0, refl)), (((S.Custom C.Multilayer, (sixty-five, lit)), (0, refl)), tt));
 }
 
+-- ---- many cases
+module _ (code : ℕ) (design n-incident n-substrate : Float) (flat : List Float) where
+  case-only : (angle wavelength : Float) → Only (1 ∷ 3 ∷ []) (evaluate code design n-incident n-substrate angle wavelength flat)
+  unfolding evaluate evaluate-coded rust-evaluate-surface evaluate-surface evaluate-coating
+  case-only angle wavelength = either (1 ∷ 3 ∷ []) (eqb (length flat % 3) 0) (evaluate-coded (call-coating code design) flat n-incident n-substrate angle wavelength) invalid-parameter (by (call-coating code design)) tt
+    where
+      by : (k : Interface) → Only (1 ∷ 3 ∷ []) (evaluate-coded k flat n-incident n-substrate angle wavelength)
+      by (I.Coated s) = coating-only (record { n-incident = n-incident; n-substrate = n-substrate; angle = angle; wavelength = wavelength }) (coating-of s) (ordered (lt n-substrate n-incident) (layers-of s (layers flat)))
+      by I.Bare = tt
+
+  next-only : (i : ℕ) (o : Outcome CoatingResponse) (rest : Outcome (List CoatingResponse)) → Only (1 ∷ 3 ∷ []) o → Only (1 ∷ 3 ∷ []) rest → Only (1 ∷ 3 ∷ []) (bind (at-case i o) (λ r. map (λ rs. r ∷ rs) rest))
+  next-only i (answer r) (answer rs) h k = tt
+  next-only i (answer r) (refusal number place) h k = k
+  next-only i (refusal number place) rest h k = h
+
+  cases-only : (i : ℕ) (angles wavelengths : List Float) → Only (1 ∷ 3 ∷ []) (responses (λ angle wavelength. evaluate code design n-incident n-substrate angle wavelength flat) i angles wavelengths)
+  unfolding responses
+  cases-only i [] wavelengths = tt
+  cases-only i (angle ∷ angles) [] = tt
+  cases-only i (angle ∷ angles) (wavelength ∷ wavelengths) =
+      next-only i (evaluate code design n-incident n-substrate angle wavelength flat) (responses (λ a w. evaluate code design n-incident n-substrate a w flat) (suc i) angles wavelengths) (case-only angle wavelength) (cases-only (suc i) angles wavelengths)
+
+sixty-five-flat : List Float
+sixty-five-flat = replicate 195 zero-f
+
+of-evaluate-list : Refuses (λ (x : (ℕ × Numbers) × (List Float × (List Float × List Float))). let n = x .0 .1 in evaluate-list (x .0 .0) (n .wavelength) (n .n-incident) (n .n-substrate) (x .1 .0) (x .1 .1 .0) (x .1 .1 .1)) (1 ∷ 3 ∷ [])
+unfolding sixty-five-flat evaluate-list responses evaluate evaluate-coded call-coating coded layers rust-evaluate-surface evaluate-surface rust-evaluate-coating evaluate-coating rust-respond valid layers-of ordered finite-positive Ieee.lt ofBits Ieee.le
+of-evaluate-list = record {
+  only = λ x. let n = x .0 .1 in either (1 ∷ 3 ∷ []) (paired (x .1 .0) (x .1 .1 .0)) _ (refusal 1 0x1000_0000) (cases-only (x .0 .0) (n .wavelength) (n .n-incident) (n .n-substrate) (x .1 .1 .1) 0 (x .1 .0) (x .1 .1 .0)) tt;
+  each = ((((5, lit), ([], (one ∷ [], []))), (0x1000_0000, refl)), ((((5, lit), (zero-f ∷ [], (one ∷ [], sixty-five-flat))), (0, refl)), tt));
+}
+
 of-fresnel : Refuses (λ (x : Numbers). surface-fresnel-jones (x .n-incident) (x .n-substrate) (x .angle)) (1 ∷ [])
 unfolding surface-fresnel-jones indices-valid finite-positive Ieee.lt ofBits Ieee.le
 of-fresnel = record {
@@ -567,6 +604,7 @@ refusal-claim = record {
   of-nth-layer = of-nth-layer;
   of-coating = of-coating;
   of-surface = of-surface-coating;
+  of-evaluate-list = of-evaluate-list;
   of-fresnel = of-fresnel;
   of-name = of-name;
   of-bragg-mirror = of-bragg-mirror;

@@ -18,6 +18,7 @@ use Rattle.thin_film.specs.Coating.{to-coating}
 use Rattle.thin_film.specs.Evaluate.{evaluate-surface}
 use Rattle.thin_film_shorthand.specs.Stack.{stack}
 use Rattle.reflectance_range.specs.Range.{reflectance-range}
+use Rattle.c_scan.specs.Scan.{evaluate-list}
 use Rattle.polarization.specs.Surface.{surface-fresnel-jones}
 use Rattle.name_coating.specs.Name.{from-format-name}
 use Rattle.sheet.specs.Blocks.{All}
@@ -74,6 +75,11 @@ pub record RefusalClaim : Type 0 where
   pub of-coating : Refuses (λ (x : Coating × (List ThinFilmLayer × Numbers)). at (evaluate-coating (x .0) (x .1 .0)) (x .1 .1)) (1 ∷ 3 ∷ [])
   pub of-surface : Refuses (λ (x : SurfaceCoating × (List ThinFilmLayer × Numbers)). at (evaluate-surface (x .0) (x .1 .0)) (x .1 .1))
       (1 ∷ 3 ∷ [])
+  -- of a code, numbers with the design wavelength in the wavelength's place, angles, wavelengths and layers
+  pub of-evaluate-list : Refuses
+      (λ (x : (ℕ × Numbers) × (List Float × (List Float × List Float))).
+      at (λ n-incident n-substrate angle design. evaluate-list (x .0 .0) design n-incident n-substrate (x .1 .0) (x .1 .1 .0) (x .1 .1 .1))
+      (x .0 .1)) (1 ∷ 3 ∷ [])
   pub of-fresnel : Refuses (λ (x : Numbers). surface-fresnel-jones (x .n-incident) (x .n-substrate) (x .angle)) (1 ∷ [])
   pub of-name : Refuses from-format-name (2 ∷ [])
   pub of-bragg-mirror : Refuses
