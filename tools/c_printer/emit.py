@@ -77,7 +77,8 @@ class Types:
             text = [f"typedef struct {{", f"    {'' if t[1] else 'const '}{self.name(t[2])} *at;", "    uint64_t count;", f"}} {name};"]
         elif kind == "array":
             name = f"{self.short(t[1])}_x{t[2]}"
-            text = ["typedef struct {", f"    {self.name(t[1])} at[{t[2]}];", f"}} {name};"]
+            # C has no array of nothing
+            text = ["typedef struct {", f"    {self.name(t[1])} at[{t[2] or 1}];", f"}} {name};"]
         elif kind == "named":
             name = identifier(t[1])
             text = list(self.items[t[1]].comment)
@@ -357,7 +358,7 @@ class Printer:
         if t[0] == "slice":
             return self.slice_braces(t, given)
         if t[0] == "array":
-            return "{{" + ", ".join(self.inner(x) for x in given) + "}}"
+            return "{{" + (", ".join(self.inner(x) for x in given) or "0") + "}}"
         what, types = self.types.named[t[1]]
         if what == "fields":
             return "{" + ", ".join(f".{n} = {self.inner(x)}" for n, x in zip(self.types.fields(t[1]), given)) + "}"

@@ -195,7 +195,9 @@ class Folder:
         new = []
         for s in reversed(statements):
             kind = s[0]
-            if kind == "if":
+            if kind == "set" and s[1][0] == "var" and s[2][0] == "call" and s[1][1] not in after | self.f.memory:
+                s = ["do", s[2]]  # what is returned is never read
+            elif kind == "if":
                 s = ["if", s[1], self.fold(s[2], after, left), self.fold(s[3], after, left)]
             elif kind == "switch":
                 s = ["switch", s[1], [(v, self.fold(b, after, left)) for v, b in s[2]], s[3] if s[3] is None else self.fold(s[3], after, left)]
