@@ -7,10 +7,12 @@ ghost use lib.ListN.{length, getD};
 ghost use Rattle.thin_film_solver.specs.declared.ThinFilmLayer as Layer;
 ghost use Rattle.thin_film_solver.specs.Internal.{solved};
 ghost use Rattle.thin_film_layers.specs.Evaluation.{ordered, no-layer, outcome};
+ghost use Rattle.surface_real.specs.Internal.{no-films, stacked};
 ghost use Rattle.thin_film.specs.Evaluate.{evaluate-surface};
 ghost use Rattle.c_layers.specs.Evaluate.{layers, call-coating, evaluate, refusal-number};
 ghost use Rattle.c_layers.specs.Internal.{number-custom};
 use gate_limits::Interface;
+use surface_real::Stack;
 use thin_film::SurfaceCoating;
 use thin_film_coating::Coating;
 use thin_film_layers::Evaluation;
@@ -31,8 +33,43 @@ fn layer_at(flat: &[f64], j: usize) -> ThinFilmLayer
     }
 }
 
+// Whether no layer absorbs. The quick way takes no other; nothing else hangs on this.
+fn lossless(flat: &[f64]) -> bool {
+    let n = flat.len() / 3;
+    let mut i = 0;
+    while i < n {
+        if !(layer_at(flat, i).k == 0.0) {
+            return false;
+        }
+        i += 1;
+    }
+    true
+}
+
+// The products of every layer's films over real numbers, in the order of the list or reversed. Films that take turns,
+// as in H L H L, are worked out once.
+fn stack_of(flat: &[f64], reversed: bool, light: Incidence) -> Stack
+    ensures { λ r. ⌜ r ≡ stacked (light .snell) (light .«wavelength_nm») no-films (ordered reversed (layers (now (flat .entry)))) ⌝ }
+{
+    let n = flat.len() / 3;
+    let mut stack = surface_real::no_films();
+    let mut older = surface_real::none_met();
+    let mut newer = surface_real::none_met();
+    let mut i = 0;
+    while i < n {
+        let j = thin_film_layers::nth_index(reversed, n, i);
+        let met = surface_real::meet(light, layer_at(flat, j), older);
+        let film = met.film;
+        stack = surface_real::join(stack, film);
+        older = newer;
+        newer = met;
+        i += 1;
+    }
+    stack
+}
+
 // The response with every layer of the list, in its order or reversed.
-fn solve(flat: &[f64], reversed: bool, light: Incidence) -> CoatingResponse
+fn solve_each(flat: &[f64], reversed: bool, light: Incidence) -> CoatingResponse
     ensures { λ r. ⌜ r ≡ solved light (ordered reversed (layers (now (flat .entry)))) ⌝ }
 {
     let n = flat.len() / 3;
@@ -49,6 +86,20 @@ fn solve(flat: &[f64], reversed: bool, light: Incidence) -> CoatingResponse
         i += 1;
     }
     thin_film_solver::finish(light, ms, mp)
+}
+
+// That response: over real numbers where no layer absorbs and the quick way knows it, or else layer by layer.
+fn solve(flat: &[f64], reversed: bool, light: Incidence) -> CoatingResponse
+    ensures { λ r. ⌜ r ≡ solved light (ordered reversed (layers (now (flat .entry)))) ⌝ }
+{
+    if lossless(flat) {
+        let quick = response_real::finish(light, stack_of(flat, reversed, light));
+        if quick.known {
+            let response = quick.response;
+            return response;
+        }
+    }
+    solve_each(flat, reversed, light)
 }
 
 // A coating beside its layers.

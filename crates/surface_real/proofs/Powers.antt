@@ -28,16 +28,16 @@ split true x f = no-fine f
 split false x f = (refl, refl)
 
 module _ (e0 e nr ni dr di D : Float) where
-  abbrev rr : Float
+  abbrev pub rr : Float
   rr = (nr ⊗ dr ⊕ ni ⊗ di) ⊘ D
 
-  abbrev ri : Float
+  abbrev pub ri : Float
   ri = (ni ⊗ dr ⊖ nr ⊗ di) ⊘ D
 
-  abbrev tr : Float
+  abbrev pub tr : Float
   tr = (e0 ⊗ two ⊗ dr) ⊘ D
 
-  abbrev ti : Float
+  abbrev pub ti : Float
   ti = neg (e0 ⊗ two ⊗ di) ⊘ D
 
   abbrev shares : Shares
@@ -80,42 +80,52 @@ module _ {nr ni dr di e0 e : Float} {num den : Complex} (n : Both nr ni num) (d 
   unfolding div
   div-is z = simp (norm-is, h .large)
 
+  -- both amplitudes, part by part
+  pub reflection-both : Both (rr e0 e nr ni dr di D) (ri e0 e nr ni dr di D) (num ⧄ den)
+  unfolding quotient
+  reflection-both = rw (div-is num) (record {
+    re = keeps-div (keeps-add (keeps-mul (n .re) (d .re) (h .nr-fine) (h .dr-fine)) (keeps-mul (n .im) (d .im) (h .ni-fine) (h .di-fine)) (mul-fits binary64 nr dr) (mul-fits binary64 ni di)) (h .divides);
+    im = keeps-div (keeps-sub (keeps-mul (n .im) (d .re) (h .ni-fine) (h .dr-fine)) (keeps-mul (n .re) (d .im) (h .nr-fine) (h .di-fine)) (mul-fits binary64 ni dr) (mul-fits binary64 nr di)) (h .divides);
+  })
+
+  pub transmission-both : Both (tr e0 e nr ni dr di D) (ti e0 e nr ni dr di D) (scale (real e0) two ⧄ den)
+  unfolding real scale quotient
+  transmission-both =
+      let e0-kept : Keeps (e0 ⊗ two) (e0 ⊗ two) = kept in
+      let two-zero : Zero (zero-f ⊗ two) = zero-times zero-mag two-fine in
+      rw (div-is (scale (real e0) two)) (record {
+        re = keeps-div (keeps-more (keeps-mul e0-kept (d .re) (h .e0-fine) (h .dr-fine)) (mul-fits binary64 (e0 ⊗ two) dr) (zero-times two-zero (keeps-fine (d .im) (h .di-fine)))) (h .divides);
+        im = keeps-div (zero-less (zero-times two-zero (keeps-fine (d .re) (h .dr-fine))) (keeps-mul e0-kept (d .im) (h .e0-fine) (h .di-fine)) (mul-fits binary64 (e0 ⊗ two) di)) (h .divides);
+      })
+
   pub reflected : reflectance (num ⧄ den) ≡ clamp (power-of e0 e nr ni dr di D .r) zero-f one
-  unfolding reflectance norm-sq quotient
+  unfolding reflectance norm-sq
   reflected =
-      ap (λ (z : Complex). clamp (z .re ⊗ z .re ⊕ z .im ⊗ z .im) zero-f one) (div-is num)
-      ∙ (ap₂ (λ (x y : Float). clamp (x ⊕ y) zero-f one)
-      (keeps-square (keeps-div (keeps-add (keeps-mul (n .re) (d .re) (h .nr-fine) (h .dr-fine)) (keeps-mul (n .im) (d .im) (h .ni-fine) (h .di-fine)) (mul-fits binary64 nr dr) (mul-fits binary64 ni di)) (h .divides)))
-      (keeps-square (keeps-div (keeps-sub (keeps-mul (n .im) (d .re) (h .ni-fine) (h .dr-fine)) (keeps-mul (n .re) (d .im) (h .nr-fine) (h .di-fine)) (mul-fits binary64 ni dr) (mul-fits binary64 nr di)) (h .divides))))
+      ap₂ (λ (x y : Float). clamp (x ⊕ y) zero-f one) (keeps-square (reflection-both .re)) (keeps-square (reflection-both .im))
       ∙ ap (λ (x : Shares). clamp (x .r) zero-f one) (sym (h .is))
 
   pub transmitted : (eta : Complex) → eta .re ≡ e → transmittance (real e0) eta (scale (real e0) two ⧄ den) ≡ clamp (power-of e0 e nr ni dr di D .t) zero-f one
-  unfolding transmittance norm-sq real scale quotient
+  unfolding transmittance norm-sq real
   transmitted eta e-is =
-      let e0-kept : Keeps (e0 ⊗ two) (e0 ⊗ two) = kept in
-      let two-zero : Zero (zero-f ⊗ two) = zero-times zero-mag two-fine in
-      ap (λ (z : Complex). clamp (eta .re ⊘ e0 ⊗ (z .re ⊗ z .re ⊕ z .im ⊗ z .im)) zero-f one) (div-is (scale (real e0) two))
-      ∙ (ap₂ (λ (x y : Float). clamp (eta .re ⊘ e0 ⊗ (x ⊕ y)) zero-f one)
-      (keeps-square (keeps-div (keeps-more (keeps-mul e0-kept (d .re) (h .e0-fine) (h .dr-fine)) (mul-fits binary64 (e0 ⊗ two) dr) (zero-times two-zero (keeps-fine (d .im) (h .di-fine)))) (h .divides)))
-      (keeps-square (keeps-div (zero-less (zero-times two-zero (keeps-fine (d .re) (h .dr-fine))) (keeps-mul e0-kept (d .im) (h .e0-fine) (h .di-fine)) (mul-fits binary64 (e0 ⊗ two) di)) (h .divides))))
+      ap₂ (λ (x y : Float). clamp (eta .re ⊘ e0 ⊗ (x ⊕ y)) zero-f one) (keeps-square (transmission-both .re)) (keeps-square (transmission-both .im))
       ∙ ap (λ (x : Float). clamp (x ⊘ e0 ⊗ (tr e0 e nr ni dr di D ⊗ tr e0 e nr ni dr di D ⊕ ti e0 e nr ni dr di D ⊗ ti e0 e nr ni dr di D)) zero-f one) e-is
       ∙ ap (λ (x : Shares). clamp (x .t) zero-f one) (sym (h .is))
 
 -- ---- from the product's matrix
 module _ (m : Product) (M : Matrix) (e0 e : Float) (f : Fine (power m e0 e .r)) (g : Fine (power m e0 e .t)) where
-  abbrev br : Float
+  abbrev pub br : Float
   br = e0 ⊗ m .a
 
-  abbrev bi : Float
+  abbrev pub bi : Float
   bi = e0 ⊗ (m .b ⊗ e)
 
-  abbrev cr : Float
+  abbrev pub cr : Float
   cr = m .d ⊗ e
 
-  abbrev den-re : Float
+  abbrev pub den-re : Float
   den-re = br ⊕ cr
 
-  abbrev den-im : Float
+  abbrev pub den-im : Float
   den-im = bi ⊕ m .c
 
   all : Made e0 e (br ⊖ cr) (bi ⊖ m .c) den-re den-im (den-re ⊗ den-re ⊕ den-im ⊗ den-im)
@@ -189,3 +199,12 @@ module _ (m : Product) (M : Matrix) (e0 e : Float) (f : Fine (power m e0 e .r)) 
     pub transmits : clamp (power m e0 e .t) zero-f one ≡ transmittance (real e0) eta (transmission M (real e0) eta)
     unfolding power transmission
     transmits = sym (transmitted num-both den-both all eta e-is)
+
+    -- both amplitudes, part by part
+    pub reflects-both : Both (rr e0 e (br ⊖ cr) (bi ⊖ m .c) den-re den-im (den-re ⊗ den-re ⊕ den-im ⊗ den-im)) (ri e0 e (br ⊖ cr) (bi ⊖ m .c) den-re den-im (den-re ⊗ den-re ⊕ den-im ⊗ den-im)) (reflection M (real e0) eta)
+    unfolding reflection
+    reflects-both = reflection-both num-both den-both all
+
+    pub transmits-both : Both (tr e0 e (br ⊖ cr) (bi ⊖ m .c) den-re den-im (den-re ⊗ den-re ⊕ den-im ⊗ den-im)) (ti e0 e (br ⊖ cr) (bi ⊖ m .c) den-re den-im (den-re ⊗ den-re ⊕ den-im ⊗ den-im)) (transmission M (real e0) eta)
+    unfolding transmission
+    transmits-both = transmission-both num-both den-both all

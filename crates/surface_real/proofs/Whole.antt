@@ -33,47 +33,47 @@ four : {a b c d a′ b′ c′ d′ : Float} → a ≡ a′ → b ≡ b′ → c
 four e f g h = cc
 
 module _ (i : Incidence) (layers : List ThinFilmLayer) where
-  abbrev k : Stack
+  abbrev pub k : Stack
   k = stacked (i .snell) (i .«wavelength_nm») no-films layers
 
-  abbrev q : Float
+  abbrev pub q : Float
   q = i .snell ⊘ i .«n_substrate»
 
-  abbrev cos : Float
+  abbrev pub cos : Float
   cos = cos-theta-sub q
 
-  abbrev n-sub : Complex
+  abbrev pub n-sub : Complex
   n-sub = real (i .«n_substrate»)
 
-  abbrev e0-s : Float
+  abbrev pub e0-s : Float
   e0-s = i .«n_incident» ⊗ i .«cos_theta0»
 
-  abbrev e0-p : Float
+  abbrev pub e0-p : Float
   e0-p = i .«n_incident» ⊘ max (i .«cos_theta0») least-cos
 
-  abbrev e-s : Float
+  abbrev pub e-s : Float
   e-s = real-part (n-sub ⊠ real cos)
 
-  abbrev e-p : Float
+  abbrev pub e-p : Float
   e-p = real-part (n-sub ⧄ real cos)
 
-  abbrev s : Shares
+  abbrev pub s : Shares
   s = power (k .s) e0-s e-s
 
-  abbrev p : Shares
+  abbrev pub p : Shares
   p = power (k .p) e0-p e-p
 
   module _ (rs : Fine (s .r)) (ts : Fine (s .t)) (rp : Fine (p .r)) (tp : Fine (p .t)) where
     fine-stack : Fine-stack k
     fine-stack = record { s = P.finite (k .s) identity e0-s e-s rs ts; p = P.finite (k .p) identity e0-p e-p rp tp }
 
-    both : Both-for k (product-s (i .snell) (i .«wavelength_nm») identity layers) (product-p (i .snell) (i .«wavelength_nm») identity layers)
+    pub both : Both-for k (product-s (i .snell) (i .«wavelength_nm») identity layers) (product-p (i .snell) (i .«wavelength_nm») identity layers)
     both = through (i .snell) (i .«wavelength_nm») no-films identity identity layers fine-stack begun
 
-    fine-s : Fine e-s
+    pub fine-s : Fine e-s
     fine-s = P.eta-fine (k .s) identity e0-s e-s rs ts
 
-    fine-p : Fine e-p
+    pub fine-p : Fine e-p
     fine-p = P.eta-fine (k .p) identity e0-p e-p rp tp
 
     cos-fine : Fine cos
@@ -84,11 +84,11 @@ module _ (i : Incidence) (layers : List ThinFilmLayer) where
     unfolding Solve.cos-theta-sub cos-theta-sub
     cos-is = let h = chosen (le (abs q) one) (squareRoot binary64 (max (one ⊖ q ⊗ q) zero-f)) cos-fine in rw (h .0) refl
 
-    eta-s-is : n-sub ⊠ real cos ≡ eta-sub-s (i .snell) (i .«n_substrate»)
+    pub eta-s-is : n-sub ⊠ real cos ≡ eta-sub-s (i .snell) (i .«n_substrate»)
     unfolding eta-sub-s
     eta-s-is = ap (λ (z : Complex). n-sub ⊠ z) (sym cos-is)
 
-    eta-p-is : n-sub ⧄ real cos ≡ eta-sub-p (i .snell) (i .«n_substrate»)
+    pub eta-p-is : n-sub ⧄ real cos ≡ eta-sub-p (i .snell) (i .«n_substrate»)
     unfolding eta-sub-p
     eta-p-is = ap (λ (z : Complex). n-sub ⧄ z) (sym cos-is)
 

@@ -33,7 +33,7 @@ fn over(x: f64, y: f64) -> f64
 }
 
 // A number whose imaginary part is a zero.
-fn real_part(z: Complex) -> f64
+pub fn real_part(z: Complex) -> f64
     ensures { λ r. ⌜ r ≡ real-part z ⌝ }
 {
     if z.im == 0.0 { z.re } else { 0.0 / 0.0 }
@@ -200,7 +200,7 @@ fn power(m: Product, eta0: f64, eta: f64) -> Shares
 }
 
 // cos(theta) in the substrate, up to a sine of 1.
-fn cos_theta_sub(sin_theta_sub: f64) -> f64
+pub fn cos_theta_sub(sin_theta_sub: f64) -> f64
     ensures { λ r. ⌜ r ≡ cos-theta-sub «sin_theta_sub» ⌝ }
 {
     if ieee::abs(sin_theta_sub) <= 1.0 {

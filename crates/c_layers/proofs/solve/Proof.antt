@@ -1,44 +1,27 @@
 -- `c_layers::solve` meets its contract. Assumes nothing.
-use Prim.Native.Nat.{ℕ, _-_, _<_, _≤_, _/_}
-use native.Mathlib.Omega.{arith}
-use mathlib.Core.Path.{_≡_, sym, _∙_}
-use mathlib.Core.Bool.{Bool}
+use mathlib.Core.Path.{_≡_, sym, ap, _∙_}
+use mathlib.Core.Bool.{true}
 use mathlib.Core.List.{List}
-use lib.ListN.{length}
-use lib.Ieee.{Float}
-use Rattle.thin_film_layers.specs.Evaluation.{ordered, no-layer}
-use Rattle.thin_film_layers.proofs.Order.{Left, within, begun, turn, last}
-use Rattle.c_layers.specs.Evaluate.{layers}
-use Rattle.c_layers.proofs.Triples.{count}
+use Rattle.thin_film_solver.specs.declared.ThinFilmLayer.{ThinFilmLayer}
+use Rattle.thin_film_solver.specs.declared.Incidence.{Incidence}
+use Rattle.thin_film_solver.specs.Internal.{solved}
+use Rattle.surface_real.specs.declared.Stack.{Stack}
+use Rattle.surface_real.specs.Internal.{no-films, stacked}
+use Rattle.response_real.specs.declared.Known.{Known}
+use Rattle.response_real.specs.Internal.{finish, real-response}
+use Rattle.response_real.proofs.Whole.{whole}
 use borrow.Author.Needs.{needs}
 use Rattle.c_layers.proofs.solve.Statement.{statement}
 use Rattle.c_layers.proofs.solve.Tie as tie
 
-abbrev Inv-loop : tie.InvT-loop
-Inv-loop flat reversed light n ms₀ mp₀ i₀ ms mp i = (i ≤ n) × Left light ms mp i (ordered reversed (layers flat))
+known : (light : Incidence) (ls : List ThinFilmLayer) (k : Stack) (q : Known) → k ≡ stacked (light .snell) (light .«wavelength_nm») no-films ls → q ≡ finish light k
+    → q .known ≡ true → q .response ≡ solved light ls
+known light ls k q k-is q-is e =
+    let is : q ≡ real-response light ls = q-is ∙ ap (finish light) k-is in
+    ap (λ (z : Known). z .response) is ∙ whole light ls (ap (λ (z : Known). z .known) (sym is) ∙ e)
 
-abbrev μ-loop : tie.MeasureT-loop
-μ-loop flat reversed light n ms₀ mp₀ i₀ ms mp i = n - i
-
-loop-holds : tie.Need-loop-holds Inv-loop μ-loop
-loop-holds c = (search needs, begun _ _ _ _ (c .before .identity .ensures) (c .identity2 .ensures))
-
-layer-at-requires : tie.Need-layer-at-requires Inv-loop μ-loop
-layer-at-requires c κs =
-    let n : ℕ = length (c .before .before .before .before .before .before .args .flat .now) / 3 in
-    omega (arith, (c .nth-index .ensures), within (c .before .before .before .before .before .before .args .reversed) n (c .before .before .loop .i) (c .before .loop-test .taken))
-
-loop-again : tie.Need-loop-again Inv-loop μ-loop
-loop-again c =
-    let flat : List Float = c .before .before .before .before .before .before .before .before .before .before .args .flat .now in (
-      search needs,
-      turn _ _ (layers flat) _ _ _ no-layer _ _ _ _ _ _ (sym (count flat)) (c .before .before .before .before .before .loop-test .taken) (c .before .before .before .before .nth-index .ensures) (c .before .before .before .layer-at .ensures) (c .before .before .terms-of .ensures) (c .before .step-s .ensures) (c .step-p .ensures) (c .before .before .before .before .before .before .loop .inv .1),
-    )
-
-returns : tie.Need-returns Inv-loop μ-loop
-returns c =
-    let flat : List Float = c .before .before .before .before .before .before .args .flat .now in
-    (c .finish .ensures) ∙ last _ _ (layers flat) _ _ (c .before .before .loop .i) (omega (arith, count flat)) (c .before .before .loop .inv .1)
+returns : tie.Need-returns
+returns c = known _ _ _ _ (c .before .before .before .stack-of .ensures) (c .before .before .finish .ensures) (c .before .if2 .taken)
 
 pub solve-spec : {M : Type 1} → statement M
-solve-spec = tie.close (tie.spec Inv-loop μ-loop (λ c κs. search needs) (λ c κs. search needs) loop-holds (λ c κs. search needs) layer-at-requires (λ c κs. search needs) (λ c κs. search needs) (λ c κs. search needs) (λ c. search needs) (λ c. search needs) loop-again (λ c κs. search needs) returns)
+solve-spec = tie.close (tie.spec (λ c κs. search needs) (λ c κs. search needs) (λ c κs. search needs) returns (λ c κs. search needs) (λ c. search needs))

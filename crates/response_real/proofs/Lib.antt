@@ -1,0 +1,3 @@
+-- Amplitudes without a zero, and the whole response.
+pub mod Parts
+pub mod Whole

@@ -1,0 +1,2 @@
+-- The whole response of a coated surface over real numbers: Internal need not be believed.
+pub mod Internal
