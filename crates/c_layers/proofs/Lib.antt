@@ -3,3 +3,4 @@ pub mod Triples
 pub mod Plain
 pub mod Numbers
 pub mod Codes
+mod Chunks

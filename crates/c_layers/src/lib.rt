@@ -2,8 +2,8 @@
 // of one after the other.
 ghost use mathlib.Core.Path.{_≡_};
 ghost use mathlib.Core.List.{List};
-ghost use Prim.Native.Nat.{_<_, _+_, _*_};
-ghost use lib.ListN.{length, getD};
+ghost use Prim.Native.Nat.{_<_, _+_, _*_, _≤_, _/_};
+ghost use lib.ListN.{length, getD, take, drop};
 ghost use Rattle.thin_film_solver.specs.declared.ThinFilmLayer as Layer;
 ghost use Rattle.thin_film_solver.specs.Internal.{solved};
 ghost use Rattle.thin_film_layers.specs.Evaluation.{ordered, no-layer, outcome};
@@ -46,24 +46,45 @@ fn lossless(flat: &[f64]) -> bool {
     true
 }
 
-// The products of every layer's films over real numbers, in the order of the list or reversed. Films that take turns,
-// as in H L H L, are worked out once.
+// As many layers as there are places for, of those that are left.
+fn at_most_16(left: usize) -> usize
+    ensures { λ r. ⌜ (r ≤ 16) × (r ≤ left) × (0 < left → 0 < r) ⌝ }
+{
+    if left < 16 { left } else { 16 }
+}
+
+// A few layers of the list, in its order or reversed, from the one on that light meets after so many.
+fn layers_from(flat: &[f64], reversed: bool, after: usize, few: usize) -> [ThinFilmLayer; 16]
+    requires { ⌜ (few ≤ 16) × (after + few ≤ length (now flat) / 3) ⌝ }
+    ensures { λ r. ⌜ take few r ≡ take few (drop after (ordered reversed (layers (now (flat .entry))))) ⌝ }
+{
+    let n = flat.len() / 3;
+    let mut some = [ThinFilmLayer {
+        n: 0.0,
+        k: 0.0,
+        thickness_nm: 0.0,
+    }; 16];
+    let mut i = 0;
+    while i < few {
+        let j = thin_film_layers::nth_index(reversed, n, after + i);
+        some[i] = layer_at(flat, j);
+        i += 1;
+    }
+    some
+}
+
+// The products of every layer's films over real numbers, in the order of the list or reversed: 16 at a time.
 fn stack_of(flat: &[f64], reversed: bool, light: Incidence) -> Stack
     ensures { λ r. ⌜ r ≡ stacked (light .snell) (light .«wavelength_nm») no-films (ordered reversed (layers (now (flat .entry)))) ⌝ }
 {
     let n = flat.len() / 3;
     let mut stack = surface_real::no_films();
-    let mut older = surface_real::none_met();
-    let mut newer = surface_real::none_met();
     let mut i = 0;
     while i < n {
-        let j = thin_film_layers::nth_index(reversed, n, i);
-        let met = surface_real::meet(light, layer_at(flat, j), older);
-        let film = met.film;
-        stack = surface_real::join(stack, film);
-        older = newer;
-        newer = met;
-        i += 1;
+        let few = at_most_16(n - i);
+        let some = layers_from(flat, reversed, i, few);
+        stack = surface_real::films::join_all(light, some, few, stack);
+        i += few;
     }
     stack
 }
