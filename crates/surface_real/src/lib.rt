@@ -73,7 +73,7 @@ pub struct Medium {
     pub delta: f64,
 }
 
-fn medium_of(light: Incidence, layer: ThinFilmLayer) -> Medium
+pub fn medium_of(light: Incidence, layer: ThinFilmLayer) -> Medium
     ensures { λ r. ⌜ r ≡ medium-of (light .snell) (light .«wavelength_nm») layer ⌝ }
 {
     let cos = cos_theta(light.snell, layer);
@@ -125,7 +125,7 @@ pub struct Stack {
 }
 
 // A product, times a film.
-fn times(m: Product, cos: f64, y: f64, z: f64) -> Product
+pub fn times(m: Product, cos: f64, y: f64, z: f64) -> Product
     ensures { λ r. ⌜ r ≡ times m cos y z ⌝ }
 {
     Product {

@@ -25,7 +25,7 @@ pub struct Chosen {
 }
 
 // Those of the reflected or of the transmitted light.
-fn choose(reflected: bool, r: Powers) -> Chosen
+pub fn choose(reflected: bool, r: Powers) -> Chosen
     ensures { λ c. ⌜ c ≡ chosen reflected r ⌝ }
 {
     if reflected {
@@ -55,7 +55,7 @@ fn chosen_of(reflected: bool, reply: PowersReply) -> Chosen
 }
 
 // Of the surface at a place with the n layers after it.
-fn chosen_at(src: &[u8], at: usize, n: usize, wavelength_nm: f64) -> Chosen
+pub fn chosen_at(src: &[u8], at: usize, n: usize, wavelength_nm: f64) -> Chosen
     ensures { λ r. ⌜ r ≡ chosen-at (now (src .entry)) at n «wavelength_nm» ⌝ }
 {
     let surface = sheet_values::surface_at(src, at);
