@@ -4,13 +4,13 @@ use mathlib.Core.List.{List, [], _∷_, _++_}
 use Prim.Native.Nat.{ℕ, _+_, _≤_, _<_}
 use native.Mathlib.Omega.{arith}
 use lib.ListN.{length, getD, set, take, drop, length-set, length-drop, take-append-drop}
-use lib.Seq.{length-take-le, getD-take, getD-drop, getD-set-same, getD-set-other, drop-drop, ext-getD}
+use lib.Seq.{length-take-le, getD-take, getD-drop, getD-set-same, getD-set-other, drop-drop, drop-length, ext-getD}
 use borrow.Author.Count.{below-more}
 use lib.Ieee.{Float}
 use Rattle.thin_film_solver.specs.declared.ThinFilmLayer.{ThinFilmLayer}
 use Rattle.thin_film_layers.specs.Evaluation.{no-layer}
 use Rattle.surface_real.specs.declared.Stack.{Stack}
-use Rattle.surface_real.specs.Internal.{film-of, join, stacked}
+use Rattle.surface_real.specs.Internal.{film-of, join, no-films, stacked}
 use Rattle.surface_real.proofs.Turns.{Left}
 
 -- ---- the first i of 16 places hold the layers after so many
@@ -61,3 +61,8 @@ module _ (snell wavelength : Float) where
       ap (λ (z : Stack). stacked snell wavelength z (drop (i + few) ls)) (k-is ∙ ap (stacked snell wavelength k) e)
       ∙ ap (stacked snell wavelength (stacked snell wavelength k (take few (drop i ls)))) (sym (drop-drop few i ls))
       ∙ append k (take few (drop i ls)) (drop few (drop i ls)) ∙ ap (stacked snell wavelength k) (take-append-drop few (drop i ls)) ∙ left
+
+  -- past the last layer nothing is left
+  pub end : (ls : List ThinFilmLayer) (k : Stack) (i : ℕ) → i ≡ length ls → Left snell wavelength k i ls → k ≡ stacked snell wavelength no-films ls
+  unfolding stacked
+  end ls k i e left = ap (stacked snell wavelength k) (sym (drop-length ls)) ∙ ap (λ (m : ℕ). stacked snell wavelength k (drop m ls)) (sym e) ∙ left

@@ -53,12 +53,11 @@ fn at_most_16(left: usize) -> usize
     if left < 16 { left } else { 16 }
 }
 
-// A few layers of the list, in its order or reversed, from the one on that light meets after so many.
-fn layers_from(flat: &[f64], reversed: bool, after: usize, few: usize) -> [ThinFilmLayer; 16]
+// A few layers of the list, after so many others.
+fn layers_from(flat: &[f64], after: usize, few: usize) -> [ThinFilmLayer; 16]
     requires { ⌜ (few ≤ 16) × (after + few ≤ length (now flat) / 3) ⌝ }
-    ensures { λ r. ⌜ take few r ≡ take few (drop after (ordered reversed (layers (now (flat .entry))))) ⌝ }
+    ensures { λ r. ⌜ take few r ≡ take few (drop after (layers (now (flat .entry)))) ⌝ }
 {
-    let n = flat.len() / 3;
     let mut some = [ThinFilmLayer {
         n: 0.0,
         k: 0.0,
@@ -66,27 +65,58 @@ fn layers_from(flat: &[f64], reversed: bool, after: usize, few: usize) -> [ThinF
     }; 16];
     let mut i = 0;
     while i < few {
-        let j = thin_film_layers::nth_index(reversed, n, after + i);
-        some[i] = layer_at(flat, j);
+        some[i] = layer_at(flat, after + i);
         i += 1;
     }
     some
 }
 
-// The products of every layer's films over real numbers, in the order of the list or reversed: 16 at a time.
-fn stack_of(flat: &[f64], reversed: bool, light: Incidence) -> Stack
-    ensures { λ r. ⌜ r ≡ stacked (light .snell) (light .«wavelength_nm») no-films (ordered reversed (layers (now (flat .entry)))) ⌝ }
+// The products of every layer's films over real numbers, in the order of the list: 16 at a time.
+fn stack_in_order(flat: &[f64], light: Incidence) -> Stack
+    ensures { λ r. ⌜ r ≡ stacked (light .snell) (light .«wavelength_nm») no-films (layers (now (flat .entry))) ⌝ }
 {
     let n = flat.len() / 3;
     let mut stack = surface_real::no_films();
     let mut i = 0;
     while i < n {
         let few = at_most_16(n - i);
-        let some = layers_from(flat, reversed, i, few);
+        let some = layers_from(flat, i, few);
         stack = surface_real::films::join_all(light, some, few, stack);
         i += few;
     }
     stack
+}
+
+// The same one by one, in the order of the list or from its far end, for which no array of layers is filled (document 02, slip 4).
+fn stack_each(flat: &[f64], reversed: bool, light: Incidence) -> Stack
+    ensures { λ r. ⌜ r ≡ stacked (light .snell) (light .«wavelength_nm») no-films (ordered reversed (layers (now (flat .entry)))) ⌝ }
+{
+    let n = flat.len() / 3;
+    let mut stack = surface_real::no_films();
+    let mut older = surface_real::none_met();
+    let mut newer = surface_real::none_met();
+    let mut i = 0;
+    while i < n {
+        let j = thin_film_layers::nth_index(reversed, n, i);
+        let met = surface_real::meet(light, layer_at(flat, j), older);
+        let film = met.film;
+        stack = surface_real::join(stack, film);
+        older = newer;
+        newer = met;
+        i += 1;
+    }
+    stack
+}
+
+// Either, by the order in which light meets the layers.
+fn stack_of(flat: &[f64], reversed: bool, light: Incidence) -> Stack
+    ensures { λ r. ⌜ r ≡ stacked (light .snell) (light .«wavelength_nm») no-films (ordered reversed (layers (now (flat .entry)))) ⌝ }
+{
+    if reversed {
+        stack_each(flat, reversed, light)
+    } else {
+        stack_in_order(flat, light)
+    }
 }
 
 // The response with every layer of the list, in its order or reversed.

@@ -1,0 +1,61 @@
+-- `c_layers::stack_in_order` meets its contract. Assumes nothing.
+use mathlib.Core.Path.{_≡_}
+use mathlib.Core.List.{List}
+use Prim.Native.Nat.{ℕ, _+_, _-_, _<_, _≤_, _/_}
+use native.Mathlib.Omega.{arith}
+use lib.ListN.{length}
+use lib.Ieee.{Float}
+use Rattle.surface_real.proofs.Turns.{Left, begun}
+use Rattle.c_layers.specs.Evaluate.{layers}
+use Rattle.c_layers.proofs.Triples.{count}
+use Rattle.c_layers.proofs.Chunks.{turn, end}
+use borrow.Author.Needs.{needs}
+use Rattle.c_layers.proofs.stack_in_order.Statement.{statement}
+use Rattle.c_layers.proofs.stack_in_order.Tie as tie
+
+abbrev Inv-loop : tie.InvT-loop
+Inv-loop flat light n k₀ i₀ k i = (i ≤ n) × Left (light .snell) (light .«wavelength_nm») k i (layers flat)
+
+abbrev μ-loop : tie.MeasureT-loop
+μ-loop flat light n k₀ i₀ k i = n - i
+
+loop-holds : tie.Need-loop-holds Inv-loop μ-loop
+loop-holds c = (omega arith, begun _ _ _ _ (c .no-films .ensures))
+
+layers-from-requires : tie.Need-layers-from-requires Inv-loop μ-loop
+layers-from-requires c κs = (c .at-most-16 .ensures .0, omega (arith, c .at-most-16 .ensures .1, c .before .loop-test .taken))
+
+add-i : tie.Need-add-i Inv-loop μ-loop
+add-i c = omega (arith, c .before .before .at-most-16 .ensures .1, c .before .before .before .loop-test .taken, c .before .before .before .before .before .before .before .good)
+
+loop-less : tie.Need-loop-less Inv-loop μ-loop
+loop-less c = omega (arith, c .before .before .at-most-16 .ensures .2 (omega (arith, c .before .before .before .loop-test .taken)), c .before .before .at-most-16 .ensures .1, c .before .before .before .loop-test .taken)
+
+loop-again : tie.Need-loop-again Inv-loop μ-loop
+loop-again c =
+    let flat : List Float = c .before .before .before .before .before .before .before .args .flat .now in (
+      omega (arith, c .before .before .at-most-16 .ensures .1, c .before .before .before .loop-test .taken),
+      turn _ _ (layers flat) (c .before .before .before .before .loop .i) (c .before .before .at-most-16 .result) _ _ _ (c .before .layers-from .ensures) (c .join-all .ensures) (c .before .before .before .before .loop .inv .1),
+    )
+
+returns : tie.Need-returns Inv-loop μ-loop
+returns c =
+    let flat : List Float = c .before .before .before .before .args .flat .now in
+    end _ _ (layers flat) _ (c .before .loop .i) (omega (arith, count flat, c .before .loop .inv .0, c .loop-test .left)) (c .before .loop .inv .1)
+
+pub stack-in-order-spec : {M : Type 1} → statement M
+stack-in-order-spec =
+    tie.close
+    (tie.spec
+    Inv-loop
+    μ-loop
+    (λ c κs. search needs)
+    loop-holds
+    (λ c. search needs)
+    (λ c κs. search needs)
+    layers-from-requires
+    (λ c κs. search needs)
+    add-i
+    loop-less
+    loop-again
+    returns)
