@@ -3,5 +3,6 @@ pub mod Line
 pub mod Lines
 pub mod Sums
 pub mod Bounds
+pub mod Always
 pub mod Claim
 pub mod Known

@@ -1,5 +1,5 @@
 -- What is added up so far, and what is left. Assumes nothing.
-use mathlib.Core.Path.{_≡_, sym, ap, _∙_}
+use mathlib.Core.Path.{_≡_, refl, sym, ap, _∙_}
 use mathlib.Core.Bool.{_&&_}
 use mathlib.Core.List.{List, [], _∷_}
 use Prim.Native.Nat.{ℕ, zero, suc, _+_, _*_, _≤_, _<_}
@@ -40,6 +40,12 @@ module _ (power : State → Float) (x : Sheet) (ws : List Float) (ns : List ℕ)
   pub no-line : length ws ≤ i → (total : Float) → added-up power x total (drop i ws) (drop i ns) ≡ total
   unfolding added-up
   no-line le total = ap (λ (l : List Float). added-up power x total l (drop i ns)) (drop-of-length-le ws le)
+
+-- ---- within a list it does not matter what stands past its end
+pub same-place : (ws : List Float) (i : ℕ) (d e : Float) → i < length ws → getD ws i d ≡ getD ws i e
+same-place [] i d e lt = absurd (omega arith)
+same-place (w ∷ ws) zero d e lt = refl
+same-place (w ∷ ws) (suc i) d e lt = same-place ws i d e (omega arith)
 
 -- ---- the i-th line passes
 pub passes-at : (x : Sheet) (ws : List Float) (d : Float) (i : ℕ) → AllPass x ws → i < length ws → T (holds (getD ws i d) (x .surfaces))

@@ -1,19 +1,23 @@
 // A whole band (document 02, slip 14): a sheet's train at each of 1 to 64 lines from its start, and the
 // weighed means of s and of p.
 ghost use mathlib.Core.Path.{_≡_};
-ghost use Prim.Native.Nat.{_<_};
+ghost use Prim.Native.Nat.{_-_, _<_, _%_};
+ghost use mathlib.Core.Bool.{true};
 ghost use lib.Dec.{T};
-ghost use lib.ListN.{length};
+ghost use lib.Ieee.{Float};
+ghost use lib.ListN.{length, getD};
 ghost use Rattle.refusal.specs.Outcome.{answer};
 ghost use Rattle.sheet.specs.Sheet.{Sheet};
+ghost use Rattle.sheet.specs.Internal.{begin};
 ghost use Rattle.gate.specs.Gate.{gated};
-ghost use Rattle.gate.specs.Wavelength.{holds};
-ghost use Rattle.gate.specs.Internal.{holds-at};
-ghost use Rattle.band.specs.Band.{at-line, weight-passes, lines-fit, whole-sum, powers, outcome, band};
-ghost use Rattle.band.specs.Internal.{first-false, Line, AllPass};
+ghost use Rattle.gate.specs.Internal.{layers-hold-at, holds-at};
+ghost use Rattle.band.specs.Band.{weight-passes, lines-fit, whole-sum, powers, outcome, band};
+ghost use Rattle.band.specs.Internal.{first-false, AllPass, five-hundred, sixteen-nm, Sixteen};
 use gate::Gated;
 use refusal::Refusal;
-use train_steps::State;
+use train_lines::Lines;
+
+mod steady;
 
 // ---- the lines
 
@@ -46,13 +50,26 @@ fn first_weight_outside(weights: &[u32]) -> usize
     i
 }
 
+// Whether the gate takes a line's wavelength, where it is known or not whether all layers always pass.
+fn line_passes(src: &[u8], count: u32, always: bool, wavelength_nm: f64) -> bool
+    requires { ⌜ (T always → (w : Float) → layers-hold-at count (now src) (begin (now src) 0) w ≡ true) ⌝ }
+    ensures { λ r. ⌜ r ≡ holds-at (now (src .entry)) 0 count «wavelength_nm» ⌝ }
+{
+    if always {
+        gate_limits::wavelength_passes(wavelength_nm)
+    } else {
+        gate::holds(src, 0, count, wavelength_nm)
+    }
+}
+
 // The first line whose wavelength the gate refuses; their count where there is none.
 fn first_wavelength_outside(src: &[u8], count: u32, wavelengths: &[f64]) -> usize
     ensures { λ r. ⌜ r ≡ first-false (holds-at (now (src .entry)) 0 count) (now (wavelengths .entry)) ⌝ }
 {
+    let always = steady::steady(src, count);
     let mut i = 0;
     while i < wavelengths.len() {
-        if !gate::holds(src, 0, count, wavelengths[i]) {
+        if !line_passes(src, count, always, wavelengths[i]) {
             return i;
         }
         i += 1;
@@ -62,11 +79,41 @@ fn first_wavelength_outside(src: &[u8], count: u32, wavelengths: &[f64]) -> usiz
 
 // ---- the sums
 
-// The train at a line, from its start to its last surface.
-fn at_line(src: &[u8], count: u32, wavelength_nm: f64) -> State
-    ensures { λ r. ⌜ ((x : Sheet) → gated (now (src .entry)) ≡ answer x → length (x .surfaces) ≡ count → T (holds «wavelength_nm» (x .surfaces)) → Line r (at-line x «wavelength_nm»)) ⌝ }
+// The i-th wavelength; 500 nm past the last.
+fn nth_nm(wavelengths: &[f64], i: usize) -> f64
+    ensures { λ r. ⌜ r ≡ getD (now (wavelengths .entry)) i five-hundred ⌝ }
 {
-    train_steps::run_at(src, count, wavelength_nm)
+    if i < wavelengths.len() {
+        wavelengths[i]
+    } else {
+        500.0
+    }
+}
+
+// Sixteen wavelengths from one on.
+fn sixteen_nm(wavelengths: &[f64], from: usize) -> [f64; 16]
+    requires { ⌜ from < 64 ⌝ }
+    ensures { λ r. ⌜ r ≡ sixteen-nm (now (wavelengths .entry)) from 16 ⌝ }
+{
+    let mut nm = [0.0; 16];
+    let mut i = 0;
+    while i < 16 {
+        nm[i] = nth_nm(wavelengths, from + i);
+        i += 1;
+    }
+    nm
+}
+
+// The trains at the sixteen lines that the i-th is among, from their start to their last surface: run at the first of them.
+fn lines_at(src: &[u8], count: u32, wavelengths: &[f64], i: usize, before: Lines) -> Lines
+    requires { ⌜ i < 64 ⌝ }
+    ensures { λ r. ⌜ (((i % 16 ≡ 0 → ⊥) → Sixteen (now (src .entry)) count (now (wavelengths .entry)) (i - i % 16) before) → Sixteen (now (src .entry)) count (now (wavelengths .entry)) (i - i % 16) r) ⌝ }
+{
+    if i % 16 == 0 {
+        train_lines::run_lines(src, count, sixteen_nm(wavelengths, i))
+    } else {
+        before
+    }
 }
 
 // The means of s and of p over a band, and how many lines it has.
@@ -86,12 +133,18 @@ fn weighed(src: &[u8], count: u32, wavelengths: &[f64], weights: &[u32]) -> Band
     let mut s = 0.0;
     let mut p = 0.0;
     let mut whole: u32 = 0;
+    let mut lines = Lines {
+        s: [0.0; 16],
+        p: [0.0; 16],
+    };
     let mut i = 0;
     while i < n {
-        let line = at_line(src, count, wavelengths[i]);
+        lines = lines_at(src, count, wavelengths, i, lines);
+        let of_s = lines.s;
+        let of_p = lines.p;
         let weight = weights[i];
-        s = s + weight as f64 * line.s;
-        p = p + weight as f64 * line.p;
+        s = s + weight as f64 * of_s[i % 16];
+        p = p + weight as f64 * of_p[i % 16];
         whole += weight;
         i += 1;
     }
