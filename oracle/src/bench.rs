@@ -425,8 +425,23 @@ pub fn bench(runs: usize) {
     }
     let mut works = vec![authors::works(), reference::works()];
     works.extend(crate::proved::works());
+    let mut times = Vec::new();
     for (i, (name, calls)) in WORKS.iter().enumerate() {
         let sides: Vec<&Work> = works.iter().filter_map(|side| side[i].as_ref()).collect();
-        row(name, &turns(runs, *calls, &sides));
+        times.push(turns(runs, *calls, &sides));
+        row(name, &times[i]);
+    }
+    beside_runs(&times);
+}
+
+/// A line of our band beside a whole run of each other side, with its gate: the share of 64 runs that 64 lines take.
+fn beside_runs(times: &[Vec<f64>]) {
+    let of = |part: &str| WORKS.iter().position(|(name, _)| name.starts_with(part));
+    let (Some(run), Some(band)) = (of("whole run, 64 surfaces of 16 layers"), of("band,")) else {
+        return;
+    };
+    if let ([authors, reference, ..], [_, _, ours]) = (&times[run][..], &times[band][..]) {
+        let name = "band, a line of 64, beside their whole runs";
+        row(name, &[*authors, *reference, *ours]);
     }
 }
