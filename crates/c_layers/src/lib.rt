@@ -2,7 +2,8 @@
 // of one after the other.
 ghost use mathlib.Core.Path.{_≡_};
 ghost use mathlib.Core.List.{List};
-ghost use Prim.Native.Nat.{_<_, _+_, _*_, _≤_, _/_};
+ghost use Prim.Native.Nat.{_<_, _+_, _*_, _≤_, _/_, _-_};
+ghost use mathlib.Core.Bool.{cond};
 ghost use lib.ListN.{length, getD, take, drop};
 ghost use Rattle.thin_film_solver.specs.declared.ThinFilmLayer as Layer;
 ghost use Rattle.thin_film_solver.specs.Internal.{solved};
@@ -53,7 +54,7 @@ fn at_most_16(left: usize) -> usize
     if left < 16 { left } else { 16 }
 }
 
-// A few layers of the list, after so many others.
+// A few layers of the list, after so many others, in its order.
 fn layers_from(flat: &[f64], after: usize, few: usize) -> [ThinFilmLayer; 16]
     requires { ⌜ (few ≤ 16) × (after + few ≤ length (now flat) / 3) ⌝ }
     ensures { λ r. ⌜ take few r ≡ take few (drop after (layers (now (flat .entry)))) ⌝ }
@@ -71,52 +72,29 @@ fn layers_from(flat: &[f64], after: usize, few: usize) -> [ThinFilmLayer; 16]
     some
 }
 
-// The products of every layer's films over real numbers, in the order of the list: 16 at a time.
-fn stack_in_order(flat: &[f64], light: Incidence) -> Stack
-    ensures { λ r. ⌜ r ≡ stacked (light .snell) (light .«wavelength_nm») no-films (layers (now (flat .entry))) ⌝ }
+// Where a few layers stand in a list of n that light meets after i others: from its front, or from its far end.
+fn front_of(reversed: bool, n: usize, i: usize, few: usize) -> usize
+    requires { ⌜ i + few ≤ n ⌝ }
+    ensures { λ r. ⌜ r ≡ cond reversed (n - i - few) i ⌝ }
+{
+    if reversed { n - i - few } else { i }
+}
+
+// The products of every layer's films over real numbers, in the order of the list or reversed: 16 at a time. Each array has
+// the list's own order, and is read from its far end where light meets that first (document 02, slip 4).
+fn stack_of(flat: &[f64], reversed: bool, light: Incidence) -> Stack
+    ensures { λ r. ⌜ r ≡ stacked (light .snell) (light .«wavelength_nm») no-films (ordered reversed (layers (now (flat .entry)))) ⌝ }
 {
     let n = flat.len() / 3;
     let mut stack = surface_real::no_films();
     let mut i = 0;
     while i < n {
         let few = at_most_16(n - i);
-        let some = layers_from(flat, i, few);
-        stack = surface_real::films::join_all(light, some, few, stack);
+        let some = layers_from(flat, front_of(reversed, n, i, few), few);
+        stack = surface_real::films::join_all(light, some, few, reversed, stack);
         i += few;
     }
     stack
-}
-
-// The same one by one, in the order of the list or from its far end, for which no array of layers is filled (document 02, slip 4).
-fn stack_each(flat: &[f64], reversed: bool, light: Incidence) -> Stack
-    ensures { λ r. ⌜ r ≡ stacked (light .snell) (light .«wavelength_nm») no-films (ordered reversed (layers (now (flat .entry)))) ⌝ }
-{
-    let n = flat.len() / 3;
-    let mut stack = surface_real::no_films();
-    let mut older = surface_real::none_met();
-    let mut newer = surface_real::none_met();
-    let mut i = 0;
-    while i < n {
-        let j = thin_film_layers::nth_index(reversed, n, i);
-        let met = surface_real::meet(light, layer_at(flat, j), older);
-        let film = met.film;
-        stack = surface_real::join(stack, film);
-        older = newer;
-        newer = met;
-        i += 1;
-    }
-    stack
-}
-
-// Either, by the order in which light meets the layers.
-fn stack_of(flat: &[f64], reversed: bool, light: Incidence) -> Stack
-    ensures { λ r. ⌜ r ≡ stacked (light .snell) (light .«wavelength_nm») no-films (ordered reversed (layers (now (flat .entry)))) ⌝ }
-{
-    if reversed {
-        stack_each(flat, reversed, light)
-    } else {
-        stack_in_order(flat, light)
-    }
 }
 
 // The response with every layer of the list, in its order or reversed.

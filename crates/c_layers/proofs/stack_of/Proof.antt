@@ -1,22 +1,70 @@
 -- `c_layers::stack_of` meets its contract. Assumes nothing.
-use mathlib.Core.Path.{_≡_, sym, ap, _∙_}
-use mathlib.Core.Bool.{Bool, false}
+use mathlib.Core.Path.{_≡_, sym}
+use mathlib.Core.Bool.{Bool}
 use mathlib.Core.List.{List}
+use Prim.Native.Nat.{ℕ, _+_, _-_, _<_, _≤_, _/_}
+use native.Mathlib.Omega.{arith}
+use lib.ListN.{length}
 use lib.Ieee.{Float}
-use borrow.Author.Needs.{needs}
-use Rattle.thin_film_solver.specs.declared.ThinFilmLayer.{ThinFilmLayer}
 use Rattle.thin_film_layers.specs.Evaluation.{ordered}
-use Rattle.surface_real.specs.declared.Stack.{Stack}
-use Rattle.surface_real.specs.Internal.{no-films, stacked}
+use Rattle.surface_real.proofs.Turns.{Left, begun, last}
+use Rattle.c_layers.specs.Evaluate.{layers}
+use Rattle.c_layers.proofs.Triples.{count}
+use Rattle.c_layers.proofs.Chunks.{inside, met, turn}
+use borrow.Author.Needs.{needs}
 use Rattle.c_layers.proofs.stack_of.Statement.{statement}
 use Rattle.c_layers.proofs.stack_of.Tie as tie
 
-in-order : (snell wavelength : Float) (reversed : Bool) (ls : List ThinFilmLayer) (k : Stack) → reversed ≡ false → k ≡ stacked snell wavelength no-films ls → k ≡ stacked snell wavelength no-films (ordered reversed ls)
-unfolding ordered
-in-order snell wavelength reversed ls k e f = f ∙ ap (λ (r : Bool). stacked snell wavelength no-films (ordered r ls)) (sym e)
+abbrev Inv-loop : tie.InvT-loop
+Inv-loop flat reversed light n k₀ i₀ k i = (i ≤ n) × Left (light .snell) (light .«wavelength_nm») k i (ordered reversed (layers flat))
 
-returns-2 : tie.Need-returns-2
-returns-2 c = in-order _ _ _ _ _ (c .before .if1 .left) (c .stack-in-order .ensures)
+abbrev μ-loop : tie.MeasureT-loop
+μ-loop flat reversed light n k₀ i₀ k i = n - i
+
+loop-holds : tie.Need-loop-holds Inv-loop μ-loop
+loop-holds c = (omega arith, begun _ _ _ _ (c .no-films .ensures))
+
+front-of-requires : tie.Need-front-of-requires Inv-loop μ-loop
+front-of-requires c κs = omega (arith, c .at-most-16 .ensures .1, c .before .loop-test .taken)
+
+layers-from-requires : tie.Need-layers-from-requires Inv-loop μ-loop
+layers-from-requires c κs = (c .before .at-most-16 .ensures .0, inside (c .before .before .before .before .before .before .args .reversed) (length (c .before .before .before .before .before .before .args .flat .now) / 3) (c .before .before .before .loop .i) (c .before .at-most-16 .result) (c .front-of .result) (omega (arith, c .before .at-most-16 .ensures .1, c .before .before .loop-test .taken)) (c .front-of .ensures))
+
+add-i : tie.Need-add-i Inv-loop μ-loop
+add-i c = omega (arith, c .before .before .before .at-most-16 .ensures .1, c .before .before .before .before .loop-test .taken, c .before .before .before .before .before .before .before .before .good)
+
+loop-less : tie.Need-loop-less Inv-loop μ-loop
+loop-less c = omega (arith, c .before .before .before .at-most-16 .ensures .2 (omega (arith, c .before .before .before .before .loop-test .taken)), c .before .before .before .at-most-16 .ensures .1, c .before .before .before .before .loop-test .taken)
+
+loop-again : tie.Need-loop-again Inv-loop μ-loop
+loop-again c =
+    let flat : List Float = c .before .before .before .before .before .before .before .before .args .flat .now in
+    let reversed : Bool = c .before .before .before .before .before .before .before .before .args .reversed in (
+      omega (arith, c .before .before .before .at-most-16 .ensures .1, c .before .before .before .before .loop-test .taken),
+      turn _ _ (ordered reversed (layers flat)) (c .before .before .before .before .before .loop .i) (c .before .before .before .at-most-16 .result) _ _ _
+          (met reversed (layers flat) (c .before .before .before .before .before .loop .i) (c .before .before .before .at-most-16 .result) _ _ _ (sym (count flat)) (omega (arith, c .before .before .before .at-most-16 .ensures .1, c .before .before .before .before .loop-test .taken)) (c .before .before .front-of .ensures) (c .before .layers-from .ensures))
+          (c .join-all .ensures) (c .before .before .before .before .before .loop .inv .1),
+    )
+
+returns : tie.Need-returns Inv-loop μ-loop
+returns c =
+    let flat : List Float = c .before .before .before .before .args .flat .now in
+    last _ _ _ (layers flat) _ (c .before .loop .i) (omega (arith, count flat, c .before .loop .inv .0, c .loop-test .left)) (c .before .loop .inv .1)
 
 pub stack-of-spec : {M : Type 1} → statement M
-stack-of-spec = tie.close (tie.spec (λ c κs. search needs) (λ c κs. search needs) (λ c. search needs) returns-2)
+stack-of-spec =
+    tie.close
+    (tie.spec
+    Inv-loop
+    μ-loop
+    (λ c κs. search needs)
+    loop-holds
+    (λ c. search needs)
+    (λ c κs. search needs)
+    front-of-requires
+    layers-from-requires
+    (λ c κs. search needs)
+    add-i
+    loop-less
+    loop-again
+    returns)
