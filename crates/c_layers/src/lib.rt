@@ -34,17 +34,22 @@ fn layer_at(flat: &[f64], j: usize) -> ThinFilmLayer
     }
 }
 
-// Whether no layer absorbs. The quick way takes no other; nothing else hangs on this.
-fn lossless(flat: &[f64]) -> bool {
+// Whether there are layers, none absorbs, and light goes on in each: the quick way takes no others. Nothing but time hangs on this.
+fn promising(flat: &[f64], light: Incidence) -> bool {
     let n = flat.len() / 3;
+    let most = ieee::abs(light.snell);
     let mut i = 0;
     while i < n {
-        if !(layer_at(flat, i).k == 0.0) {
+        let layer = layer_at(flat, i);
+        if !(layer.k == 0.0) {
+            return false;
+        }
+        if !(most <= 0.9995 * layer.n) {
             return false;
         }
         i += 1;
     }
-    true
+    0 < n
 }
 
 // As many layers as there are places for, of those that are left.
@@ -121,7 +126,7 @@ fn solve_each(flat: &[f64], reversed: bool, light: Incidence) -> CoatingResponse
 fn solve(flat: &[f64], reversed: bool, light: Incidence) -> CoatingResponse
     ensures { λ r. ⌜ r ≡ solved light (ordered reversed (layers (now (flat .entry)))) ⌝ }
 {
-    if lossless(flat) {
+    if promising(flat, light) {
         let quick = response_real::finish(light, stack_of(flat, reversed, light));
         if quick.known {
             let response = quick.response;
