@@ -7,7 +7,7 @@ ghost use lib.Ieee.{binary64, ofBits};
 ghost use Rattle.sheet.specs.Words.{big-endian, word as wordOf, kind, float};
 ghost use Rattle.sheet.specs.Read as Read;
 ghost use Rattle.sheet.specs.Read.{outcome, grammar};
-ghost use Rattle.sheet.specs.Internal.{floats-at, standing-of, counted, place-after, next-place, place-on, layer-run, layers-on, onto, begin, place};
+ghost use Rattle.sheet.specs.Internal.{floats-at, standing-of, counted, place-after, next-place, place-on, layer-follows, layer-run, layers-on, onto, begin, place};
 
 // ---- words
 
@@ -403,12 +403,25 @@ pub struct LayerRun {
     pub next: usize,
 }
 
+// Whether a layer stands directly after the block at a place: a reader steps over the block.
+fn layer_follows(src: &[u8], at: usize) -> bool
+    ensures { λ r. ⌜ r ≡ layer-follows (now (src .entry)) at ⌝ }
+{
+    layer_kind(2, word_after(src, at) / 0x1000_0000)
+}
+
 // Those after the block at a place: 16 at the most.
 pub fn layers_on(src: &[u8], at: usize) -> LayerRun
     ensures { λ r. ⌜ r ≡ layers-on (now (src .entry)) at ⌝ }
 {
     let mut n = 0;
     let mut place = next_place(src, at);
+    if !layer_follows(src, at) {
+        return LayerRun {
+            count: n,
+            next: place,
+        };
+    }
     while n < 16 {
         if !layer_kind(2, kind_at(src, place)) {
             return LayerRun {

@@ -66,26 +66,34 @@ module _ (src : List ℕ) (at n place : ℕ) (p : Passed src at n place) where
       gone : 16 - n ≡ 0
       gone = omega arith
 
+-- no layer at all
+no-layer : (src : List ℕ) (at : ℕ) (t : Bool) → t ≡ layer-follows src at → not t ≡ true → 0 ≡ layer-run 16 src at
+unfolding layer-run
+no-layer src at t can e = sym (rw (sym can ∙ not-true t e))
+
 abbrev Inv-loop : tie.InvT-loop
 Inv-loop src at n₀ place₀ n place = Passed src at n place
 
 abbrev μ-loop : tie.MeasureT-loop
 μ-loop src at n₀ place₀ n place = 16 - n
 
-loop-holds : tie.Need-loop-holds Inv-loop μ-loop
-loop-holds c = none-yet _ _ _ (c .next-place .ensures)
-
 returns : tie.Need-returns Inv-loop μ-loop
-returns c = ends _ _ _ _ (c .before .before .before .before .loop .inv) (last _ _ _ _ (c .before .before .before .before .loop .inv) (c .before .before .before .loop-test .taken) _ (c .before .before .kind-at .ensures) _ (c .before .layer-kind .ensures) (c .if1 .taken))
+returns c = ends _ _ _ _ (none-yet _ _ _ (c .before .before .next-place .ensures)) (no-layer _ _ _ (c .before .layer-follows .ensures) (c .if1 .taken))
+
+loop-holds : tie.Need-loop-holds Inv-loop μ-loop
+loop-holds c = none-yet _ _ _ (c .before .before .next-place .ensures)
+
+returns-2 : tie.Need-returns-2 Inv-loop μ-loop
+returns-2 c = ends _ _ _ _ (c .before .before .before .before .loop .inv) (last _ _ _ _ (c .before .before .before .before .loop .inv) (c .before .before .before .loop-test .taken) _ (c .before .before .kind-at .ensures) _ (c .before .layer-kind .ensures) (c .if2 .taken))
 
 loop-less : tie.Need-loop-less Inv-loop μ-loop
 loop-less c = omega arith
 
 loop-again : tie.Need-loop-again Inv-loop μ-loop
-loop-again c = more _ _ _ _ (c .before .before .before .before .before .loop .inv) (c .before .before .before .before .loop-test .taken) _ (c .before .before .before .kind-at .ensures) _ (c .before .before .layer-kind .ensures) (c .before .if1 .left) _ (c .next-place2 .ensures)
+loop-again c = more _ _ _ _ (c .before .before .before .before .before .loop .inv) (c .before .before .before .before .loop-test .taken) _ (c .before .before .before .kind-at .ensures) _ (c .before .before .layer-kind .ensures) (c .before .if2 .left) _ (c .next-place2 .ensures)
 
-returns-2 : tie.Need-returns-2 Inv-loop μ-loop
-returns-2 c = ends _ _ _ _ (c .before .loop .inv) (whole _ _ _ _ (c .before .loop .inv) (c .loop-test .left))
+returns-3 : tie.Need-returns-3 Inv-loop μ-loop
+returns-3 c = ends _ _ _ _ (c .before .loop .inv) (whole _ _ _ _ (c .before .loop .inv) (c .loop-test .left))
 
 pub layers-on-spec : {M : Type 1} → statement M
-layers-on-spec = tie.close (tie.spec Inv-loop μ-loop (λ c κs. search needs) loop-holds (λ c κs. search needs) (λ c κs. search needs) returns (λ c κs. search needs) (λ c. omega arith) loop-less loop-again returns-2)
+layers-on-spec = tie.close (tie.spec Inv-loop μ-loop (λ c κs. search needs) (λ c κs. search needs) returns loop-holds (λ c κs. search needs) (λ c κs. search needs) returns-2 (λ c κs. search needs) (λ c. omega arith) loop-less loop-again returns-3)
