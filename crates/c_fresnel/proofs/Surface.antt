@@ -7,8 +7,6 @@ use native.Mathlib.Omega.{arith}
 use lib.Dec.{lit<}
 use lib.Ieee.{Float}
 use Rattle.refusal.specs.Outcome.{Outcome, answer, refusal, invalid-parameter}
-use Rattle.thin_film_complex.specs.Complex.{zero}
-use Rattle.polarization_mueller.specs.Jones.{diattenuator}
 use Rattle.polarization.specs.declared.SurfaceJones.{SurfaceJones}
 use Rattle.polarization.specs.declared.FresnelJones.{FresnelJones}
 use Rattle.polarization.specs.Surface.{indices-valid, bare, surface-fresnel-jones, returned}

@@ -13,7 +13,6 @@ use Rattle.thin_film_solver.specs.Absorptance.{RustResponse, with-absorptance}
 use Rattle.thin_film_solver.specs.Solve as Solve
 use Rattle.thin_film_presets.specs.Layers.{bragg-layers, broadband-layers}
 use Rattle.thin_film_valid.specs.Valid.{valid}
-use Rattle.thin_film_coating.specs.declared.Coating.{Coating}
 use Rattle.thin_film_coating.specs.declared.Coating.the-variants as C
 use Rattle.thin_film_coating.specs.Evaluate.{rust-respond, rust-evaluate-coating, evaluate-coating}
 use Rattle.thin_film.specs.declared.SurfaceCoating.{SurfaceCoating}

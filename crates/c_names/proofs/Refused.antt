@@ -8,7 +8,7 @@ use native.Mathlib.Omega.{arith}
 use lib.Dec.{ltb, lit<}
 use lib.ListN.{length}
 use borrow.Author.Tests.{ltb-true, ltb-false}
-use Rattle.refusal.specs.Outcome.{Outcome, answer, refusal}
+use Rattle.refusal.specs.Outcome.{answer, refusal}
 use Rattle.name_bytes.specs.Trim.{trimmed}
 use Rattle.name_bytes.specs.Ascii.{first-over}
 use Rattle.thin_film_coating.specs.declared.Coating.the-variants as C
@@ -16,7 +16,7 @@ use Rattle.thin_film.specs.declared.SurfaceCoating.{SurfaceCoating}
 use Rattle.thin_film.specs.declared.SurfaceCoating.the-variants as S
 use Rattle.name_coating.specs.Name.{upper, coating-of, from-format-name}
 use Rattle.c_call.proofs.Returned.{Sound}
-use Rattle.c_names.specs.Names.{code-of, named-code}
+use Rattle.c_names.specs.Names.{named-code}
 
 pub name-sound : (name : List ℕ) → Sound (from-format-name name)
 unfolding from-format-name

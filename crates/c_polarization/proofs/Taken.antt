@@ -1,5 +1,5 @@
 -- What is returned and left where there are as many numbers as are needed, and where there are not. Assumes nothing.
-use mathlib.Core.Path.{_≡_, refl, ap, _∙_}
+use mathlib.Core.Path.{_≡_, ap, _∙_}
 use mathlib.Core.Bool.{Bool, true, false, _&&_, cond}
 use mathlib.Core.List.{List}
 use Prim.Native.Nat.{ℕ}
@@ -7,7 +7,7 @@ use lib.Dec.{eqb, lit<}
 use lib.ListN.{length}
 use lib.Ieee.{Float}
 use borrow.Author.Tests.{eq-eqb, ne-eqb}
-use Rattle.refusal.specs.Outcome.{Outcome, answer, invalid-parameter}
+use Rattle.refusal.specs.Outcome.{answer, invalid-parameter}
 use Rattle.c_call.specs.Call.{Done, done, packed, Reply, written, answered}
 use Rattle.c_call.proofs.Returned.{Sound}
 use Rattle.c_polarization.specs.Numbers.{of, of-two}

@@ -1,5 +1,5 @@
 -- The layers of (H L)^pairs H, written one after the other. Assumes nothing.
-use Prim.Native.Nat.{ℕ, zero, suc, _+_, _*_, _^_, _≤_, _<_}
+use Prim.Native.Nat.{ℕ, zero, suc, _+_, _*_, _≤_, _<_}
 use native.Mathlib.Omega.{arith}
 use mathlib.Core.Path.{_≡_, refl, sym, ap, _∙_, subst}
 use mathlib.Core.Bool.{Bool, true, false, cond}
@@ -9,7 +9,7 @@ use lib.ListN.{length, getD, set, take, drop}
 use lib.Seq.{take-all}
 use lib.Ieee.{Float}
 use borrow.Author.Tests.{le-leb, lt-leb}
-use Rattle.refusal.specs.Outcome.{Outcome, answer, refusal, too-many-layers}
+use Rattle.refusal.specs.Outcome.{answer, too-many-layers}
 use Rattle.thin_film_solver.specs.declared.ThinFilmLayer.{ThinFilmLayer}
 use Rattle.thin_film_layers.specs.Evaluation.{no-layer}
 use Rattle.thin_film_presets.specs.Layers.{bragg-layers}
@@ -17,7 +17,7 @@ use Rattle.thin_film_presets.proofs.Nth.{alike}
 use Rattle.c_call.specs.Call.{done, packed, written, answered}
 use Rattle.c_call.proofs.Returned.{Sound}
 use Rattle.c_stack.specs.Stack.{flat, stacked}
-use Rattle.c_stack.proofs.Flat.{Half, further, end, flat-length}
+use Rattle.c_stack.proofs.Flat.{Half, further, end}
 use Rattle.c_stack.proofs.Stacked.{short, whole}
 use Rattle.c_presets.specs.Presets.{mirror}
 

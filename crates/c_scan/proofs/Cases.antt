@@ -1,8 +1,7 @@
 -- The cases of a call, one after the other. Assumes nothing.
-use mathlib.Core.Path.{_≡_, refl, sym, ap, _∙_, subst}
-use mathlib.Core.Bool.{Bool}
+use mathlib.Core.Path.{_≡_, refl, sym, ap, _∙_}
 use mathlib.Core.List.{List, [], _∷_, _++_, append-assoc, append-nil}
-use Prim.Native.Nat.{ℕ, zero, suc, _+_, _≤_, _<_}
+use Prim.Native.Nat.{ℕ, suc, _+_, _≤_, _<_}
 use native.Mathlib.Numerals.{add-one}
 use native.Mathlib.Omega.{arith}
 use lib.ListN.{length, getD, drop, length-append, drop-of-length-le}
@@ -46,9 +45,6 @@ module _ (e : Float → Float → Outcome CoatingResponse) (angles wavelengths :
   start = record { most = omega arith; count = refl; is = after-none (responses e 0 angles wavelengths) }
 
   module _ (same : length angles ≡ length wavelengths) (i : ℕ) (l : i < length angles) (d : Float) where
-    case : Outcome CoatingResponse
-    case = e (getD angles i d) (getD wavelengths i d)
-
     next : responses e i (drop i angles) (drop i wavelengths) ≡ bind (at-case i (e (getD angles i d) (getD wavelengths i d))) (λ r. map (λ rs. r ∷ rs) (responses e (suc i) (drop (suc i) angles) (drop (suc i) wavelengths)))
     unfolding responses
     next = ap (λ (z : List Float). responses e i z (drop i wavelengths)) (drop-cons angles i d l) ∙ ap (responses e i (getD angles i d ∷ drop (suc i) angles)) (drop-cons wavelengths i d (omega arith))

@@ -1,7 +1,7 @@
 -- The numbers of one case, written to the part of a list that starts at a place. Assumes nothing.
 use mathlib.Core.Path.{_≡_, refl, sym, ap, _∙_}
-use mathlib.Core.List.{List, [], _∷_, _++_, append-nil, append-assoc}
-use Prim.Native.Nat.{ℕ, _+_, _*_, _-_, _≤_}
+use mathlib.Core.List.{List, [], _++_, append-nil, append-assoc}
+use Prim.Native.Nat.{ℕ, _+_, _-_, _≤_}
 use native.Mathlib.Omega.{arith}
 use lib.ListN.{length, take, drop, length-drop, length-append, length-take, drop-of-length-le}
 use lib.Seq.{take-all, drop-drop}
@@ -15,9 +15,6 @@ use Rattle.c_call.proofs.Front.{Front, more}
 use Rattle.c_scan.specs.Internal.{placed}
 
 module _ (at : ℕ) (list sub : List Float) (r : CoatingResponse) (n : ℕ) (room : at + 16 ≤ length list) where
-  rest : List Float
-  rest = drop at list
-
   long : length (drop at list) ≡ length list - at
   long = length-drop at list
 

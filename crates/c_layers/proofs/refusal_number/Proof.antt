@@ -1,6 +1,5 @@
 -- `c_layers::refusal_number` meets its contract. Assumes nothing.
-use Prim.Native.Nat.{ℕ, _%_}
-use mathlib.Core.Path.{_≡_, sym, ap, _∙_}
+use mathlib.Core.Path.{ap, _∙_}
 use borrow.Author.Needs.{needs}
 use Rattle.c_layers.specs.Evaluate.{refusal-number}
 use Rattle.c_layers.proofs.Triples.{count}

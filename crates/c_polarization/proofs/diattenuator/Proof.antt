@@ -1,10 +1,9 @@
 -- `c_polarization::diattenuator` meets its contract. Assumes nothing.
-use mathlib.Core.Path.{ap, _∙_}
+use mathlib.Core.Path.{ap}
 use mathlib.Core.List.{List}
 use lib.Ieee.{Float}
 use Rattle.polarization_stokes.specs.declared.JonesVector.{JonesVector}
 use Rattle.polarization_mueller.specs.Jones.{diattenuator}
-use Rattle.c_call.specs.Call.{written}
 use Rattle.c_call.specs.Layout.{entries}
 use Rattle.c_polarization.specs.Numbers.{vector}
 use Rattle.c_polarization.proofs.Taken.{refused, wrote}

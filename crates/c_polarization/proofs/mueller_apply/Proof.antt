@@ -1,5 +1,5 @@
 -- `c_polarization::mueller_apply` meets its contract. Assumes nothing.
-use mathlib.Core.Path.{ap, _∙_}
+use mathlib.Core.Path.{_∙_}
 use mathlib.Core.List.{List}
 use lib.Ieee.{Float}
 use Rattle.polarization_mueller.specs.Mueller.{apply-mueller}

@@ -1,5 +1,4 @@
 -- `c_polarization::stokes_figures` meets its contract. Assumes nothing.
-use mathlib.Core.Path.{ap, _∙_}
 use mathlib.Core.List.{List}
 use lib.Ieee.{Float}
 use Rattle.c_polarization.specs.Numbers.{stokes, figures}

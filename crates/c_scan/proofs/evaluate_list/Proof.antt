@@ -5,7 +5,7 @@ use Prim.Native.Nat.{ℕ, _^_}
 use lib.Ieee.{Float}
 use Rattle.refusal.specs.Outcome.{Outcome, refusal}
 use Rattle.thin_film_solver.specs.declared.CoatingResponse.{CoatingResponse}
-use Rattle.c_call.specs.Call.{Done, done, packed, answered}
+use Rattle.c_call.specs.Call.{done, packed, answered}
 use Rattle.c_scan.specs.Scan.{scanned}
 use Rattle.c_scan.proofs.Written.{unequal, too-many, in-pairs}
 use borrow.Author.Needs.{needs}

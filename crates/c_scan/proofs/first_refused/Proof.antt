@@ -1,10 +1,8 @@
 -- `c_scan::first_refused` meets its contract. Assumes nothing.
-use mathlib.Core.Path.{_≡_, sym, ap, _∙_}
+use mathlib.Core.Path.{sym, ap}
 use mathlib.Core.List.{List}
-use Prim.Native.Nat.{ℕ, _-_}
+use Prim.Native.Nat.{_-_}
 use lib.ListN.{length}
-use lib.Ieee.{Float}
-use Rattle.refusal.specs.Outcome.{Outcome}
 use Rattle.thin_film_solver.specs.declared.CoatingResponse.{CoatingResponse}
 use Rattle.c_layers.specs.Evaluate.{evaluate}
 use Rattle.c_layers.proofs.Plain.{of-code}

@@ -4,7 +4,6 @@ use mathlib.Core.List.{List, _++_}
 use Prim.Native.Nat.{ℕ, _*_, _%_, _^_, _≤_, _<_}
 use lib.ListN.{length, drop}
 use lib.Ieee.{Float}
-use native.Mathlib.Omega.{arith}
 use Rattle.refusal.specs.declared.Refusal.{Refusal}
 use Rattle.c_call.specs.Call.{done, packed, answered}
 use Rattle.c_call.proofs.Returned.{sound-apart, refuses}

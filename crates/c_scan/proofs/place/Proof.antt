@@ -6,13 +6,12 @@ use native.Mathlib.Omega.{arith}
 use lib.ListN.{length, getD, drop}
 use lib.Ieee.{Float}
 use Rattle.refusal.specs.Outcome.{Outcome, answer, refusal}
-use Rattle.refusal.specs.declared.Refusal.{Refusal}
 use Rattle.thin_film_solver.specs.declared.CoatingResponse.{CoatingResponse}
 use Rattle.c_layers.specs.Evaluate.{evaluate}
 use Rattle.c_layers.proofs.Plain.{Plain, of-code}
 use Rattle.c_call.proofs.Front.{Front, nothing}
 use Rattle.c_scan.specs.Scan.{responses, all-numbers}
-use Rattle.c_scan.specs.Internal.{first-refused, placed, numbers-of, Room}
+use Rattle.c_scan.specs.Internal.{first-refused, placed, numbers-of}
 use Rattle.c_scan.proofs.Cases.{Half, start, further, stops, end}
 use Rattle.c_scan.proofs.Written.{one-more}
 use Rattle.c_scan.proofs.Placed.{long-as, next}
