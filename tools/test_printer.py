@@ -56,6 +56,13 @@ class Moved(unittest.TestCase):
         c = printed([U64, U64, U64], 1, assign("2", op2("(add unsigned)", copy(1), ONE)), assign("0", op2("(mul unsigned)", copy(2), copy(1))), "return")
         self.assertIn("return (a + 1) * a;", c)
 
+    def test_result_that_is_not_read(self):
+        call = f'(call (direct (fnRef "std::g")) {listed([copy(1)])} {var(2)})'
+        c = printed([U64, U64, U64], 1, call, assign("0", f"(rvOpd {copy(1)})"), "return")
+        self.assertIn("    std_g(a);\n    return a;", c)
+        c = printed([U64, U64, U64], 1, call, assign("0", op2("(mul unsigned)", copy(2), copy(2))), "return")
+        self.assertIn("uint64_t value = std_g(a);\n    return value * value;", c)
+
     def test_not_over_a_write_of_what_it_reads(self):
         c = printed([U64, U64, U64], 1, assign("2", op2("(add unsigned)", copy(1), ONE)), assign("1", f"(rvOpd {ONE})"), assign("0", op2("(mul unsigned)", copy(2), copy(1))), "return")
         self.assertIn("uint64_t value = a + 1;\n    a = 1;\n    return value * a;", c)
