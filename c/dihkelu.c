@@ -10,7 +10,6 @@
 #include "dihkelu.h"
 
 #include <float.h>
-#include <math.h>
 #include <stdbool.h>
 
 #if defined(__FAST_MATH__) || (defined(__FINITE_MATH_ONLY__) && __FINITE_MATH_ONLY__)
@@ -60,6 +59,17 @@ static inline uint32_t leading_zeros(uint64_t x) {
 }
 
 // ==== types
+
+typedef struct {
+    const uint8_t *at;
+    uint64_t count;
+} slice_u8;
+
+// A part of a name: its place and its length.
+typedef struct {
+    uint64_t place;
+    uint64_t len;
+} name_bytes_Span;
 
 // One film: letter 0, 1 or 2 is H, L or M. The multiplier is 0 where none is written.
 typedef struct {
@@ -123,22 +133,35 @@ typedef struct {
     uint64_t count;
 } thin_film_reader_Reading;
 
-typedef struct {
-    const uint8_t *at;
-    uint64_t count;
-} slice_u8;
-
 // The sine and the cosine of one angle.
 typedef struct {
     double sin;
     double cos;
 } math_trig_SinCos;
 
+typedef struct {
+    double at[16];
+} f64_x16;
+
+// The sines and the cosines of angles, place by place.
+typedef struct {
+    f64_x16 sin;
+    f64_x16 cos;
+} math_waves_Waves;
+
 // The sheet's bytes together with the word that is reached (01: a reader).
 typedef struct {
     slice_u8 src;
     uint64_t at;
 } sheet_Reader;
+
+// Three floats. The second stands last: beside the first it would be read together with it, just after both were
+// written one by one, and a processor waits for that.
+typedef struct {
+    double first;
+    double third;
+    double second;
+} sheet_Floats;
 
 // Where one stands between two blocks: before OPEN, before BEAM (the edition), among the blocks after it
 // (the edition, SURFACEs so far, layers that may come), after a kind 7 (the edition, SURFACEs so far), after END.
@@ -169,6 +192,12 @@ typedef struct {
     } as;
 } sheet_Verdict;
 
+// How many layers stand directly after a block, and the place after them.
+typedef struct {
+    uint64_t count;
+    uint64_t next;
+} sheet_LayerRun;
+
 // Cubic(a, b, c, d) is a + b * h + c * h ^ 2 + d * h ^ 3.
 typedef struct {
     double part0;
@@ -196,6 +225,12 @@ typedef struct {
     double rs;
     double rp;
 } fresnel_Reflectances;
+
+// Reflectance and transmittance of unpolarized light.
+typedef struct {
+    double r_total;
+    double t_total;
+} fresnel_Unpolarized;
 
 // No pair of indices within the ranges reflects less than low or more than high.
 typedef struct {
@@ -306,10 +341,6 @@ typedef struct {
     thin_film_complex_Complex_x4 m;
 } polarization_mueller_JonesMatrix;
 
-typedef struct {
-    double at[16];
-} f64_x16;
-
 // The entry [i][j] stands at 4 i + j.
 typedef struct {
     f64_x16 m;
@@ -336,6 +367,29 @@ typedef struct {
     thin_film_solver_ThinFilmLayer at[4];
 } thin_film_solver_ThinFilmLayer_x4;
 
+// A coating. The layers of Multilayer are the list beside it, from the incident medium to the
+// substrate.
+typedef enum {
+    thin_film_coating_Coating_IdealAr,
+    thin_film_coating_Coating_IdealMirror,
+    thin_film_coating_Coating_IdealBeamsplitter,
+    thin_film_coating_Coating_Multilayer,
+} thin_film_coating_Coating;
+
+// Layers: the first count of the places hold them. More than 64 are none that can be evaluated.
+typedef struct {
+    thin_film_solver_ThinFilmLayer_x64 items;
+    uint64_t count;
+} thin_film_coating_Layers;
+
+// A coating with its layers; or a refusal's number, which is 0 where there is none. Beside a refusal
+// stand more layers than there are places, so that its evaluation is refused with 3.
+typedef struct {
+    uint32_t refusal;
+    thin_film_coating_Coating coating;
+    thin_film_coating_Layers layers;
+} thin_film_coating_Built;
+
 // What evaluating a coating gives.
 typedef struct {
     enum {
@@ -361,15 +415,6 @@ typedef struct {
     } as;
 } thin_film_layers_Prepared;
 
-// A coating. The layers of Multilayer are the list beside it, from the incident medium to the
-// substrate.
-typedef enum {
-    thin_film_coating_Coating_IdealAr,
-    thin_film_coating_Coating_IdealMirror,
-    thin_film_coating_Coating_IdealBeamsplitter,
-    thin_film_coating_Coating_Multilayer,
-} thin_film_coating_Coating;
-
 // A coating as it is ordered. The layers of Custom(Multilayer) are the list beside it.
 typedef struct {
     enum {
@@ -385,18 +430,63 @@ typedef struct {
     } as;
 } thin_film_SurfaceCoating;
 
-// Layers: the first count of the places hold them. More than 64 are none that can be evaluated.
-typedef struct {
-    thin_film_solver_ThinFilmLayer_x64 items;
-    uint64_t count;
-} thin_film_coating_Layers;
-
 // The layers of a text, from the incident medium to the substrate. Where the refusal's number is not 0
 // there are none.
 typedef struct {
     refusal_Refusal refusal;
     thin_film_coating_Layers layers;
 } thin_film_shorthand_Stacked;
+
+typedef struct {
+    uint8_t at[32];
+} u8_x32;
+
+// An upper-case name: the first len bytes.
+typedef struct {
+    u8_x32 bytes;
+    uint64_t len;
+} name_coating_Clean;
+
+typedef struct {
+    uint8_t at[1];
+} u8_x0;
+
+typedef struct {
+    uint8_t at[4];
+} u8_x4;
+
+typedef struct {
+    uint8_t at[8];
+} u8_x8;
+
+typedef struct {
+    uint8_t at[5];
+} u8_x5;
+
+typedef struct {
+    uint8_t at[6];
+} u8_x6;
+
+typedef struct {
+    uint8_t at[2];
+} u8_x2;
+
+typedef struct {
+    uint8_t at[3];
+} u8_x3;
+
+// The coating that a name stands for; none; or a refusal.
+typedef struct {
+    enum {
+        name_coating_Named_Coating,
+        name_coating_Named_Nothing,
+        name_coating_Named_Refused,
+    } tag;
+    union {
+        thin_film_SurfaceCoating Coating;
+        refusal_Refusal Refused;
+    } as;
+} name_coating_Named;
 
 // What lies between the two media.
 typedef struct {
@@ -442,11 +532,6 @@ typedef struct {
     } as;
 } quarter_waves_QuarterWavesReply;
 
-typedef struct {
-    const double *at;
-    uint64_t count;
-} slice_f64;
-
 // The parts of the s and p power that a surface reflects and transmits.
 typedef struct {
     double reflectance_s;
@@ -472,6 +557,24 @@ typedef struct {
     surface_Answers answers;
 } surface_AnswersReply;
 
+// The admittances of a film that does not absorb, and its phase thickness.
+typedef struct {
+    double eta_s;
+    double eta_p;
+    double delta;
+} surface_real_Medium;
+
+typedef struct {
+    thin_film_solver_ThinFilmLayer at[16];
+} thin_film_solver_ThinFilmLayer_x16;
+
+// The admittances and phase thicknesses of films, place by place.
+typedef struct {
+    f64_x16 eta_s;
+    f64_x16 eta_p;
+    f64_x16 delta;
+} surface_real_films_Media;
+
 // A film's matrices for s and for p.
 typedef struct {
     double cos;
@@ -495,6 +598,12 @@ typedef struct {
     surface_real_Product p;
 } surface_real_Stack;
 
+// A layer and its film.
+typedef struct {
+    thin_film_solver_ThinFilmLayer layer;
+    surface_real_Film film;
+} surface_real_Met;
+
 // What is reflected and what is transmitted, before they are clamped.
 typedef struct {
     double r;
@@ -507,11 +616,37 @@ typedef struct {
     surface_Powers powers;
 } surface_real_Known;
 
-// A layer and its film.
+// [[a, i b], [i c, d]] at each place.
 typedef struct {
-    thin_film_solver_ThinFilmLayer layer;
-    surface_real_Film film;
-} surface_real_Met;
+    f64_x16 a;
+    f64_x16 b;
+    f64_x16 c;
+    f64_x16 d;
+} surface_lines_Products;
+
+// The products for s and for p.
+typedef struct {
+    surface_lines_Products s;
+    surface_lines_Products p;
+} surface_lines_Stacks;
+
+// What is reflected and what is transmitted: the amplitudes, and their shares before they are clamped.
+typedef struct {
+    thin_film_complex_Complex r;
+    thin_film_complex_Complex t;
+    surface_real_Shares shares;
+} response_real_Amplitudes;
+
+// A response, and whether it is known.
+typedef struct {
+    bool known;
+    thin_film_solver_CoatingResponse response;
+} response_real_Known;
+
+typedef struct {
+    const double *at;
+    uint64_t count;
+} slice_f64;
 
 // A BEAM: its wavelength, its s and its p power.
 typedef struct {
@@ -538,12 +673,24 @@ typedef struct {
 } f64_x2;
 
 typedef struct {
+    double at[1];
+} f64_x1;
+
+typedef struct {
     double at[8];
 } f64_x8;
 
 typedef struct {
     double at[5];
 } f64_x5;
+
+typedef struct {
+    double at[3];
+} f64_x3;
+
+typedef struct {
+    double at[4];
+} f64_x4;
 
 // A surface's powers alone, or a refusal.
 typedef struct {
@@ -568,6 +715,14 @@ typedef struct {
         refusal_Refusal Refused;
     } as;
 } gate_Gated;
+
+typedef struct {
+    uint64_t at[64];
+} u64_x64;
+
+typedef struct {
+    double at[64];
+} f64_x64;
 
 // Whether a block is within the limits, and what the layers after it are judged with: n_incident * abs(sin) of their
 // SURFACE, and its place.
@@ -625,6 +780,19 @@ typedef struct {
         refusal_Refusal Refused;
     } as;
 } train_steps_TrainReply;
+
+// s and p at each line.
+typedef struct {
+    f64_x16 s;
+    f64_x16 p;
+} train_lines_Lines;
+
+// The wavelength that is held, s and p at each line.
+typedef struct {
+    f64_x16 nm;
+    f64_x16 s;
+    f64_x16 p;
+} train_lines_Course;
 
 typedef struct {
     const uint32_t *at;
@@ -714,6 +882,10 @@ static double ieee_powi2(double x) {
     return x * x;
 }
 
+static double ieee_powi5(double x) {
+    return x * (x * x * (x * x));
+}
+
 // The number with these bits, the high word first. A NaN's pattern gives the one NaN, whatever its payload.
 static double ieee_from_words(uint32_t high, uint32_t low) {
     uint64_t bits = (uint64_t)high * 0x100000000u + (uint64_t)low;
@@ -721,6 +893,194 @@ static double ieee_from_words(uint32_t high, uint32_t low) {
         return 0.0 / 0.0;
     }
     return from_bits(bits);
+}
+
+// ==== ieee_rem
+//
+// The remainder of two f64 in whole numbers: C's fmod, with no call of it.
+
+// The digits of a pattern, with the leading one.
+static uint64_t ieee_rem_digits(uint64_t bits) {
+    uint64_t field = bits % 0x8000000000000000u / 0x10000000000000u;
+    if (field == 0) {
+        return bits % 0x10000000000000u;
+    }
+    return 0x10000000000000u + bits % 0x10000000000000u;
+}
+
+// How far the digits stand above the last place of all.
+static uint64_t ieee_rem_place(uint64_t bits) {
+    uint64_t field = bits % 0x8000000000000000u / 0x10000000000000u;
+    if (field == 0) {
+        return 0;
+    }
+    return field - 1;
+}
+
+// m·2^d % n, eleven digits at a time.
+static uint64_t ieee_rem_left(uint64_t m, uint64_t n, uint64_t d) {
+    uint64_t r = m % n;
+    uint64_t k = d;
+    while (11 <= k) {
+        r = r * 2048 % n;
+        k = k - 11;
+    }
+    return (r << k) % n;
+}
+
+// The pattern, without a sign, of r·2^j in the last place of all.
+static uint64_t ieee_rem_pack(uint64_t r, uint64_t j) {
+    uint64_t m = r;
+    uint64_t k = j;
+    while (0 < k) {
+        if (0x10000000000000u <= m) {
+            return k * 0x10000000000000u + m;
+        }
+        m = m * 2;
+        k = k - 1;
+    }
+    return m;
+}
+
+// The remainder of two finite patterns, the second no zero, whose digits stand no higher than the first's.
+static uint64_t ieee_rem_of_patterns(uint64_t a, uint64_t b) {
+    uint64_t r = ieee_rem_left(ieee_rem_digits(a), ieee_rem_digits(b), ieee_rem_place(a) - ieee_rem_place(b));
+    uint64_t sign = a / 0x8000000000000000u * 0x8000000000000000u;
+    if (r == 0) {
+        return sign;
+    }
+    return sign + ieee_rem_pack(r, ieee_rem_place(b));
+}
+
+// The exact remainder with the dividend's sign.
+static double ieee_rem_rem(double x, double y) {
+    if (x != x) {
+        return 0.0 / 0.0;
+    }
+    if (y != y) {
+        return 0.0 / 0.0;
+    }
+    uint64_t a = to_bits(x);
+    uint64_t b = to_bits(y);
+    if (0x7ff0000000000000u <= a % 0x8000000000000000u) {
+        return 0.0 / 0.0;
+    }
+    if (0x7ff0000000000000u <= b % 0x8000000000000000u) {
+        return x;
+    }
+    if (b % 0x8000000000000000u == 0) {
+        return 0.0 / 0.0;
+    }
+    if (ieee_rem_place(a) < ieee_rem_place(b)) {
+        return x;
+    }
+    return from_bits(ieee_rem_of_patterns(a, b));
+}
+
+// ==== name_bytes
+//
+// Byte strings: the part without the blank bytes at both ends, comparing, searching, ASCII.
+
+// 0x09 to 0x0D and 0x20.
+static bool name_bytes_blank(uint8_t b) {
+    return !(b < 9) && (b <= 13 || b == 32);
+}
+
+// How many blank bytes stand at the beginning.
+static uint64_t name_bytes_leading(slice_u8 s) {
+    uint64_t i = 0;
+    while (i < s.count) {
+        if (!name_bytes_blank(s.at[i])) {
+            return i;
+        }
+        i = i + 1;
+    }
+    return i;
+}
+
+// How many bytes are left without the blank ones at the end.
+static uint64_t name_bytes_kept(slice_u8 s) {
+    uint64_t e = s.count;
+    while (0 < e) {
+        if (!name_bytes_blank(s.at[e - 1])) {
+            return e;
+        }
+        e = e - 1;
+    }
+    return 0;
+}
+
+// Where the trimmed part of a name lies in it.
+static name_bytes_Span name_bytes_trim_span(slice_u8 name) {
+    uint64_t a = name_bytes_leading(name);
+    if (a < name.count) {
+        uint64_t len = name_bytes_kept((slice_u8){name.at + a, name.count - a});
+        return (name_bytes_Span){.place = a, .len = len};
+    }
+    return (name_bytes_Span){.place = 0, .len = 0};
+}
+
+// The trimmed part of a name: blank bytes go from both ends.
+static slice_u8 name_bytes_trimmed(slice_u8 name) {
+    name_bytes_Span s = name_bytes_trim_span(name);
+    uint64_t a = s.place;
+    uint64_t e = a + s.len;
+    return (slice_u8){name.at + a, e - a};
+}
+
+// p stands at the beginning of s.
+static bool name_bytes_begins(slice_u8 s, slice_u8 p) {
+    uint64_t i = 0;
+    while (i < p.count) {
+        if (s.count <= i) {
+            return false;
+        }
+        if (s.at[i] != p.at[i]) {
+            return false;
+        }
+        i = i + 1;
+    }
+    return true;
+}
+
+// s is p.
+static bool name_bytes_is(slice_u8 s, slice_u8 p) {
+    return s.count == p.count && name_bytes_begins(s, p);
+}
+
+// p stands somewhere in s.
+static bool name_bytes_contains(slice_u8 s, slice_u8 p) {
+    uint64_t k = 0;
+    while (k < s.count) {
+        if (name_bytes_begins((slice_u8){s.at + k, s.count - k}, p)) {
+            return true;
+        }
+        k = k + 1;
+    }
+    return name_bytes_begins((slice_u8){s.at + k, s.count - k}, p);
+}
+
+// a to z in upper case.
+static uint8_t name_bytes_upper_byte(uint8_t b) {
+    if (b < 97) {
+        return b;
+    }
+    if (b <= 122) {
+        return (uint8_t)(b - 32);
+    }
+    return b;
+}
+
+// The place of the first byte over 127; the length where there is none.
+static uint64_t name_bytes_first_over(slice_u8 s) {
+    uint64_t i = 0;
+    while (i < s.count) {
+        if (127 < s.at[i]) {
+            return i;
+        }
+        i = i + 1;
+    }
+    return i;
 }
 
 // ==== thin_film_reader
@@ -1268,7 +1628,7 @@ static double math_trig_first_line(double x) {
         double k = x / 6.283185307179586 + 6755399441055744.0 - 6755399441055744.0;
         return x - k * 6.283185243606567 - k * 6.357301884918343e-08 - k * 2.4492935982947064e-16;
     }
-    return fmod(x, 6.283185307179586);
+    return ieee_rem_rem(x, 6.283185307179586);
 }
 
 // The first fold, of sin and of cos: to -π..π.
@@ -1341,6 +1701,10 @@ static double math_trig_cos_of(double a) {
     return math_trig_cos_at(a);
 }
 
+static double math_trig_sin(double x) {
+    return math_trig_sin_at(math_trig_second_fold(math_trig_fold(x)));
+}
+
 static double math_trig_cos(double x) {
     return math_trig_cos_of(ieee_abs(math_trig_fold(x)));
 }
@@ -1350,6 +1714,58 @@ static math_trig_SinCos math_trig_sin_cos(double x) {
     double r = math_trig_fold(x);
     return (math_trig_SinCos){.sin = math_trig_sin_at(math_trig_second_fold(r)),
             .cos = math_trig_cos_of(ieee_abs(r))};
+}
+
+// ==== math_waves
+//
+// Sines and cosines of up to 16 angles at once, each with the bits of math_trig's. One loop folds the angles; the other
+// has neither a call that stays nor a branch, so that a compiler can take two angles at a time through both series.
+
+// The first n angles, folded to -π..π.
+static f64_x16 math_waves_folds(f64_x16 x, uint64_t n) {
+    f64_x16 i = {{0}};
+    uint64_t value = 0;
+    while (value < n) {
+        i.at[value] = math_trig_fold(x.at[value]);
+        value = value + 1;
+    }
+    return i;
+}
+
+// cos of the folded angle r from c, that of sin's second fold of it: beyond π/2 it changes its sign.
+static double math_waves_turned(double r, double c) {
+    if (1.5707963267948966 < r) {
+        return -c;
+    }
+    if (r < -1.5707963267948966) {
+        return -c;
+    }
+    return c;
+}
+
+// The sines and cosines of the first n folded angles. cos has the argument of sin up to its sign, so one square serves both.
+static math_waves_Waves math_waves_series(f64_x16 r, uint64_t n) {
+    f64_x16 cos = {{0}};
+    f64_x16 i = {{0}};
+    uint64_t a = 0;
+    while (a < n) {
+        double value = math_trig_second_fold(r.at[a]);
+        cos.at[a] = math_trig_sin_at(value);
+        i.at[a] = math_waves_turned(r.at[a], math_trig_cos_at(value));
+        a = a + 1;
+    }
+    return (math_waves_Waves){.sin = cos, .cos = i};
+}
+
+// The sines and cosines of the first n of 16 angles, of all where n is more; the other places hold zeros.
+static math_waves_Waves math_waves_sin_cos(f64_x16 x, uint64_t n) {
+    uint64_t few;
+    if (n < 16) {
+        few = n;
+    } else {
+        few = 16;
+    }
+    return math_waves_series(math_waves_folds(x, few), few);
 }
 
 // ==== sheet
@@ -1403,16 +1819,20 @@ static uint64_t sheet_floats_after(uint32_t kind) {
     return 0;
 }
 
-// The place after the block at a place, two raw words to a float; past the last word the place itself.
-static uint64_t sheet_next_place(slice_u8 src, uint64_t at) {
-    if (src.count / 4 <= at) {
-        return at;
-    }
-    uint32_t kind = sheet_kind_at(src, at);
+// The place after a block of a kind at a place, two raw words to a float.
+static uint64_t sheet_place_after(uint64_t at, uint32_t kind) {
     if (kind == 4) {
         return at + 7;
     }
     return at + 2 * sheet_floats_after(kind) + 1;
+}
+
+// The place after the block at a place; past the last word the place itself.
+static uint64_t sheet_next_place(slice_u8 src, uint64_t at) {
+    if (src.count / 4 <= at) {
+        return at;
+    }
+    return sheet_place_after(at, sheet_kind_at(src, at));
 }
 
 // A reader at a word.
@@ -1446,6 +1866,33 @@ static double sheet_float_from(slice_u8 src, uint64_t at) {
         return ieee_from_words(sheet_word_from(src, at), sheet_word_from(src, at + 1));
     }
     return 0.0;
+}
+
+// The float in the two raw words at a place, both of which are there.
+static double sheet_float_in(slice_u8 src, uint64_t at) {
+    uint64_t i = 4 * at;
+    uint32_t high = sheet_big_endian(src.at[i], src.at[i + 1], src.at[i + 2], src.at[i + 3]);
+    uint32_t low = sheet_big_endian(src.at[i + 4], src.at[i + 5], src.at[i + 6], src.at[i + 7]);
+    return ieee_from_words(high, low);
+}
+
+// Those after the kind word at a place, where not all of their words need be there.
+static sheet_Floats sheet_floats_near_end(slice_u8 src, uint64_t at) {
+    return (sheet_Floats){.first = sheet_float_from(src, at + 1), .third = sheet_float_from(src, at + 5),
+            .second = sheet_float_from(src, at + 3)};
+}
+
+// Those after the kind word at a place; zero throughout past the last word.
+static sheet_Floats sheet_floats_at(slice_u8 src, uint64_t at) {
+    uint64_t total = src.count / 4;
+    if (at < total) {
+        if (total - at < 7) {
+            return sheet_floats_near_end(src, at);
+        }
+        return (sheet_Floats){.first = sheet_float_in(src, at + 1), .third = sheet_float_in(src, at + 5),
+                .second = sheet_float_in(src, at + 3)};
+    }
+    return (sheet_Floats){.first = 0.0, .third = 0.0, .second = 0.0};
 }
 
 static bool sheet_is_surface(uint32_t done, uint32_t w) {
@@ -1608,7 +2055,7 @@ static sheet_Verdict sheet_grammar(slice_u8 src) {
         if (!sheet_may(s, w)) {
             return (sheet_Verdict){.tag = sheet_Verdict_Fault, .as.Fault = at};
         }
-        uint64_t next = sheet_next_place(src, at);
+        uint64_t next = sheet_place_after(at, w / 0x10000000);
         if (total < next) {
             return (sheet_Verdict){.tag = sheet_Verdict_Fault, .as.Fault = at};
         }
@@ -1633,18 +2080,32 @@ static uint64_t sheet_place_on(slice_u8 src, uint64_t at, uint64_t n) {
     return place;
 }
 
-// How many layers stand directly after the block at a place: 16 at the most.
-static uint64_t sheet_layer_run(slice_u8 src, uint64_t at) {
+// Whether a layer stands directly after the block at a place: a reader steps over the block.
+static bool sheet_layer_follows(slice_u8 src, uint64_t at) {
+    return sheet_layer_kind(2, sheet_word_after(src, at) / 0x10000000);
+}
+
+// Those after the block at a place: 16 at the most.
+static sheet_LayerRun sheet_layers_on(slice_u8 src, uint64_t at) {
     uint64_t n = 0;
-    uint64_t place = at;
+    uint64_t place = sheet_next_place(src, at);
+    if (!sheet_layer_follows(src, at)) {
+        return (sheet_LayerRun){.count = n, .next = place};
+    }
     while (n < 16) {
-        if (!sheet_layer_kind(2, sheet_word_after(src, place) / 0x10000000)) {
-            return n;
+        if (!sheet_layer_kind(2, sheet_kind_at(src, place))) {
+            return (sheet_LayerRun){.count = n, .next = place};
         }
         place = sheet_next_place(src, place);
         n = n + 1;
     }
-    return n;
+    return (sheet_LayerRun){.count = n, .next = place};
+}
+
+// How many layers stand directly after the block at a place: 16 at the most.
+static uint64_t sheet_layer_run(slice_u8 src, uint64_t at) {
+    sheet_LayerRun run = sheet_layers_on(src, at);
+    return run.count;
 }
 
 // The SURFACE of the blocks from a place on: after the kind 7, if one is there.
@@ -1657,7 +2118,8 @@ static uint64_t sheet_onto(slice_u8 src, uint64_t at) {
 
 // The place after a SURFACE and its layers.
 static uint64_t sheet_after_layers(slice_u8 src, uint64_t at) {
-    return sheet_place_on(src, at, sheet_layer_run(src, at) + 1);
+    sheet_LayerRun run = sheet_layers_on(src, at);
+    return run.next;
 }
 
 // Where the n-th SURFACE of a sheet in grammar begins, counted from 0, with the kind 7 before it.
@@ -1911,12 +2373,25 @@ static uint64_t math_sqrt_low_product(uint64_t x, uint64_t y) {
     return std_num_wrapping_add_u64((x0 * y1 + x1 * y0) << 32, x0 * y0);
 }
 
+// Whether two patterns have one exponent, and digits that are less than 1024 apart. Nearly all that are
+// pass the first test, which is the quicker one; the second is for those on either side of a block's edge.
+static bool math_sqrt_is_close(uint64_t a, uint64_t b) {
+    if (a / 1024 == b / 1024) {
+        return true;
+    }
+    if (a / 0x10000000000000u == b / 0x10000000000000u) {
+        uint64_t digits = a % 0x10000000000000u;
+        return std_num_wrapping_sub_u64(digits + 512, b % 0x10000000000000u) <= 1024;
+    }
+    return false;
+}
+
 // Whether the float with the pattern `root` is the root of the float with the pattern `bits`. Both are
 // from 1/2 to 1, or both from 1 to 2. The float product says that q * q is near R, so that
 // R - q * (q - 1) is known once it is known modulo 2 ^ 64.
 static bool math_sqrt_is_root(uint64_t bits, uint64_t root) {
     double n = from_bits(root);
-    if (to_bits(n * n) / 1024 == bits / 1024) {
+    if (math_sqrt_is_close(to_bits(n * n), bits)) {
         uint64_t d = (bits % 0x10000000000000u + 0x10000000000000u) * (2 - bits / 0x10000000000000u % 2);
         uint64_t q = root % 0x10000000000000u + 0x10000000000000u;
         uint64_t over = std_num_wrapping_sub_u64(d << 52, math_sqrt_low_product(q, q - 1));
@@ -2159,6 +2634,10 @@ static double math_atan_atan(double x) {
     return math_atan_with_sign(math_atan_atan_abs(ieee_abs(x)), x);
 }
 
+static double math_atan_asin(double x) {
+    return 2.0 * math_atan_atan(x / (1.0 + math_sqrt_sqrt(1.0 - x * x)));
+}
+
 static bool math_atan_is_infinite(double x) {
     double infinity = 1.0 / 0.0;
     return x == infinity || x == -infinity;
@@ -2249,6 +2728,35 @@ static fresnel_Reflectances fresnel_fresnel_dielectric(double cos_theta_i, doubl
         return (fresnel_Reflectances){.rs = 1.0, .rp = 1.0};
     }
     return fresnel_refracted(cos_i, fresnel_cos_t(sin2_t), n1, n2);
+}
+
+// The reflectance (Rs + Rp) / 2 of unpolarized light, and what is left of it.
+static fresnel_Unpolarized fresnel_fresnel_unpolarized(double cos_theta_i, double n1, double n2) {
+    fresnel_Reflectances r = fresnel_fresnel_dielectric(cos_theta_i, n1, n2);
+    double r_total = (r.rs + r.rp) * 0.5;
+    double t_total = ieee_clamp(1.0 - r_total, 0.0, 1.0);
+    return (fresnel_Unpolarized){.r_total = r_total, .t_total = t_total};
+}
+
+// R0 + (1 - R0) (1 - cos)^5
+static double fresnel_schlick(double r0, double cos_theta) {
+    double x = ieee_clamp(1.0 - cos_theta, 0.0, 1.0);
+    return ieee_clamp(r0 + (1.0 - r0) * ieee_powi5(x), 0.0, 1.0);
+}
+
+// Schlick's approximation of the unpolarized reflectance: by the incident cosine where n1 <= n2, else
+// by the refracted one.
+static double fresnel_schlick_approx(double cos_theta_i, double n1, double n2) {
+    double cos_i = ieee_clamp(cos_theta_i, 0.0, 1.0);
+    double r0 = ieee_powi2((n1 - n2) / (n1 + n2));
+    if (n1 <= n2) {
+        return fresnel_schlick(r0, cos_i);
+    }
+    double sin2 = fresnel_sin2_t(cos_i, n1, n2);
+    if (1.0 <= sin2) {
+        return 1.0;
+    }
+    return fresnel_schlick(r0, fresnel_cos_t(sin2));
 }
 
 // ==== reflectance_range
@@ -2504,6 +3012,23 @@ static polarization_stokes_JonesVector polarization_stokes_JonesVector_circular_
             thin_film_complex_Complex_new(0.0, -0.7071067811865476));
 }
 
+// |Ex|^2 + |Ey|^2
+static double polarization_stokes_JonesVector_intensity(polarization_stokes_JonesVector self) {
+    return thin_film_complex_Complex_norm_sq(self.ex) + thin_film_complex_Complex_norm_sq(self.ey);
+}
+
+// The same state at intensity 1; as it is where there is hardly any.
+static polarization_stokes_JonesVector polarization_stokes_JonesVector_normalize(
+        polarization_stokes_JonesVector self) {
+    double i = polarization_stokes_JonesVector_intensity(self);
+    if (i <= 1e-28) {
+        return self;
+    }
+    double inv_sqrt_i = 1.0 / math_sqrt_sqrt(i);
+    return (polarization_stokes_JonesVector){.ex = thin_film_complex_Complex_scale(self.ex, inv_sqrt_i),
+            .ey = thin_film_complex_Complex_scale(self.ey, inv_sqrt_i)};
+}
+
 // The Stokes parameters after Born and Wolf, in parts.
 static polarization_stokes_StokesVector polarization_stokes_JonesVector_to_stokes(
         polarization_stokes_JonesVector self) {
@@ -2513,6 +3038,44 @@ static polarization_stokes_StokesVector polarization_stokes_JonesVector_to_stoke
     double ex_conj_ey_im = self.ex.re * self.ey.im - self.ex.im * self.ey.re;
     return (polarization_stokes_StokesVector){.s0 = i_x + i_y, .s1 = i_x - i_y, .s2 = 2.0 * ex_ey_conj_re,
             .s3 = 2.0 * ex_conj_ey_im};
+}
+
+static double polarization_stokes_StokesVector_degree_of_polarization(polarization_stokes_StokesVector self) {
+    if (self.s0 <= 1e-15) {
+        return 0.0;
+    }
+    double p_sq = self.s1 * self.s1 + self.s2 * self.s2 + self.s3 * self.s3;
+    return ieee_clamp(math_sqrt_sqrt(p_sq) / self.s0, 0.0, 1.0);
+}
+
+static double polarization_stokes_StokesVector_degree_of_linear_polarization(polarization_stokes_StokesVector self) {
+    if (self.s0 <= 1e-15) {
+        return 0.0;
+    }
+    double lp = math_sqrt_sqrt(self.s1 * self.s1 + self.s2 * self.s2);
+    return ieee_clamp(lp / self.s0, 0.0, 1.0);
+}
+
+static double polarization_stokes_StokesVector_degree_of_circular_polarization(
+        polarization_stokes_StokesVector self) {
+    if (self.s0 <= 1e-15) {
+        return 0.0;
+    }
+    return ieee_clamp(ieee_abs(self.s3) / self.s0, 0.0, 1.0);
+}
+
+// Half of atan2(S2, S1).
+static double polarization_stokes_StokesVector_orientation_angle_rad(polarization_stokes_StokesVector self) {
+    return 0.5 * math_atan_atan2(self.s2, self.s1);
+}
+
+// Half of arcsin(S3 / S0).
+static double polarization_stokes_StokesVector_ellipticity_angle_rad(polarization_stokes_StokesVector self) {
+    if (self.s0 <= 1e-15) {
+        return 0.0;
+    }
+    double ratio = ieee_clamp(self.s3 / self.s0, -1.0, 1.0);
+    return 0.5 * math_atan_asin(ratio);
 }
 
 // ==== thin_film_solver
@@ -2644,6 +3207,21 @@ static thin_film_solver_CoatingResponse thin_film_solver_no_response(void) {
 //
 // Jones and Mueller matrices, as polarization.rs has them: flat arrays, one row after the other.
 
+// A retarder, of e^(i delta/2) and e^(-i delta/2) and the fast axis's cosine and sine.
+static polarization_mueller_JonesMatrix polarization_mueller_retarding(thin_film_complex_Complex exp_pos,
+        thin_film_complex_Complex exp_neg, double c, double s) {
+    double c2 = c * c;
+    double s2 = s * s;
+    double cs = c * s;
+    thin_film_complex_Complex m00 = thin_film_complex_Complex_add(thin_film_complex_Complex_scale(exp_pos, c2),
+            thin_film_complex_Complex_scale(exp_neg, s2));
+    thin_film_complex_Complex m01 = thin_film_complex_Complex_scale(thin_film_complex_Complex_sub(exp_pos, exp_neg),
+            cs);
+    thin_film_complex_Complex m11 = thin_film_complex_Complex_add(thin_film_complex_Complex_scale(exp_pos, s2),
+            thin_film_complex_Complex_scale(exp_neg, c2));
+    return (polarization_mueller_JonesMatrix){.m = {{m00, m01, m01, m11}}};
+}
+
 // E' = J E
 static polarization_stokes_JonesVector polarization_mueller_JonesMatrix_apply(polarization_mueller_JonesMatrix self,
         polarization_stokes_JonesVector v) {
@@ -2684,11 +3262,49 @@ static polarization_mueller_MuellerMatrix polarization_mueller_columns(polarizat
             .m = {{m00, m01, m02, m03, m10, m11, m12, m13, m20, m21, m22, m23, m30, m31, m32, m33}}};
 }
 
+// At an angle to the x-axis.
+static polarization_mueller_JonesMatrix polarization_mueller_JonesMatrix_linear_polarizer(double angle_rad) {
+    double c = math_trig_cos(angle_rad);
+    double s = math_trig_sin(angle_rad);
+    thin_film_complex_Complex cc = thin_film_complex_Complex_real(c * c);
+    thin_film_complex_Complex cs = thin_film_complex_Complex_real(c * s);
+    thin_film_complex_Complex ss = thin_film_complex_Complex_real(s * s);
+    return (polarization_mueller_JonesMatrix){.m = {{cc, cs, cs, ss}}};
+}
+
+static polarization_mueller_JonesMatrix polarization_mueller_JonesMatrix_retarder(double retardance_rad,
+        double fast_axis_rad) {
+    math_trig_SinCos half_delta = math_trig_sin_cos(retardance_rad * 0.5);
+    thin_film_complex_Complex exp_pos = thin_film_complex_Complex_new(half_delta.cos, half_delta.sin);
+    thin_film_complex_Complex exp_neg = thin_film_complex_Complex_new(half_delta.cos, -half_delta.sin);
+    math_trig_SinCos axis = math_trig_sin_cos(fast_axis_rad);
+    return polarization_mueller_retarding(exp_pos, exp_neg, axis.cos, axis.sin);
+}
+
+static polarization_mueller_JonesMatrix polarization_mueller_JonesMatrix_quarter_wave_plate(double fast_axis_rad) {
+    return polarization_mueller_JonesMatrix_retarder(1.5707963267948966, fast_axis_rad);
+}
+
+static polarization_mueller_JonesMatrix polarization_mueller_JonesMatrix_half_wave_plate(double fast_axis_rad) {
+    return polarization_mueller_JonesMatrix_retarder(3.141592653589793, fast_axis_rad);
+}
+
 // Diagonal: the amplitudes of the two polarizations.
 static polarization_mueller_JonesMatrix polarization_mueller_JonesMatrix_diattenuator(thin_film_complex_Complex tx,
         thin_film_complex_Complex ty) {
     thin_film_complex_Complex zero = thin_film_complex_Complex_zero();
     return (polarization_mueller_JonesMatrix){.m = {{tx, zero, zero, ty}}};
+}
+
+static polarization_mueller_JonesMatrix polarization_mueller_JonesMatrix_mul(polarization_mueller_JonesMatrix self,
+        polarization_mueller_JonesMatrix rhs) {
+    thin_film_complex_Complex_x4 a = self.m;
+    thin_film_complex_Complex_x4 b = rhs.m;
+    return (polarization_mueller_JonesMatrix){
+            .m = {{thin_film_matrix_dot(a.at[0], b.at[0], a.at[1], b.at[2]),
+            thin_film_matrix_dot(a.at[0], b.at[1], a.at[1], b.at[3]),
+            thin_film_matrix_dot(a.at[2], b.at[0], a.at[3], b.at[2]),
+            thin_film_matrix_dot(a.at[2], b.at[1], a.at[3], b.at[3])}}};
 }
 
 // Its columns come from four states; the fourth is the response to circular_right.
@@ -2703,6 +3319,22 @@ static polarization_mueller_MuellerMatrix polarization_mueller_JonesMatrix_to_mu
     polarization_stokes_StokesVector rcp = polarization_mueller_response(self,
             polarization_stokes_JonesVector_circular_right());
     return polarization_mueller_columns(h, v, p45, rcp);
+}
+
+// A row times a Stokes vector, added onto +0.
+static double polarization_mueller_row_times(double a, double b, double c, double d,
+        polarization_stokes_StokesVector s) {
+    return 0.0 + a * s.s0 + b * s.s1 + c * s.s2 + d * s.s3;
+}
+
+// S' = M S
+static polarization_stokes_StokesVector polarization_mueller_MuellerMatrix_apply(
+        polarization_mueller_MuellerMatrix self, polarization_stokes_StokesVector s) {
+    f64_x16 m = self.m;
+    return (polarization_stokes_StokesVector){.s0 = polarization_mueller_row_times(m.at[0], m.at[1], m.at[2], m.at[3],
+            s), .s1 = polarization_mueller_row_times(m.at[4], m.at[5], m.at[6], m.at[7], s),
+            .s2 = polarization_mueller_row_times(m.at[8], m.at[9], m.at[10], m.at[11], s),
+            .s3 = polarization_mueller_row_times(m.at[12], m.at[13], m.at[14], m.at[15], s)};
 }
 
 // ==== polarization_born_wolf
@@ -2909,10 +3541,34 @@ static thin_film_solver_ThinFilmLayer_x4 thin_film_presets_broadband(void) {
             thin_film_solver_ThinFilmLayer_dielectric(2.3, 15.0)}};
 }
 
+// The i-th layer of (H L)^N H, the same for each N that has one: N = i has.
+static thin_film_solver_ThinFilmLayer thin_film_presets_bragg(double n_high, double n_low,
+        double design_wavelength_nm, uint64_t i) {
+    if (i % 2 == 0) {
+        return thin_film_presets_quarter_wave(n_high, design_wavelength_nm);
+    }
+    return thin_film_presets_quarter_wave(n_low, design_wavelength_nm);
+}
+
 // ==== thin_film_coating
 //
 // A coating of thin_film.rs beside a list of its layers: how it is built, and its response at a
 // wavelength and an angle of incidence.
+
+// One layer alone.
+static thin_film_coating_Built thin_film_coating_single(thin_film_solver_ThinFilmLayer layer) {
+    thin_film_solver_ThinFilmLayer_x64 items = thin_film_presets_no_layers();
+    items.at[0] = layer;
+    return (thin_film_coating_Built){.refusal = 0, .coating = thin_film_coating_Coating_Multilayer,
+            .layers = {.items = items, .count = 1}};
+}
+
+// A single quarter-wave layer of index sqrt(n_ambient * n_substrate).
+static thin_film_coating_Built thin_film_coating_Coating_quarter_wave_ar(double n_ambient, double n_substrate,
+        double design_wavelength_nm) {
+    double n_opt = math_sqrt_sqrt(n_ambient * n_substrate);
+    return thin_film_coating_single(thin_film_presets_quarter_wave(n_opt, design_wavelength_nm));
+}
 
 // An evaluation whose response needs no layer beside the coating.
 static thin_film_layers_Prepared thin_film_coating_answered(thin_film_solver_CoatingResponse response) {
@@ -2954,6 +3610,11 @@ static thin_film_layers_Prepared thin_film_coating_prepare(thin_film_coating_Coa
 //
 // Optical coatings of thin_film.rs as they are ordered: what they are made of, and their response at a
 // wavelength and an angle of incidence. A list of layers stands beside the enum that speaks of it.
+
+// A quarter wave of magnesium fluoride at 550 nm.
+static thin_film_SurfaceCoating thin_film_SurfaceCoating_mgf2_default(void) {
+    return (thin_film_SurfaceCoating){.tag = thin_film_SurfaceCoating_MgF2, .as.MgF2 = 550.0};
+}
 
 // The response with one layer.
 static thin_film_solver_CoatingResponse thin_film_presets_solve_one(thin_film_solver_Incidence light,
@@ -3163,6 +3824,128 @@ static thin_film_shorthand_Stacked thin_film_shorthand_stack(slice_u8 text, doub
             .layers = thin_film_shorthand_layers(films, count, n_h, n_l, n_m, design_wavelength_nm)};
 }
 
+// ==== name_coating
+//
+// The names of coatings, on bytes: the coating that a name stands for, and the name of a coating.
+
+// An ASCII name in upper case.
+static name_coating_Clean name_coating_upper(slice_u8 s) {
+    u8_x32 bytes = {{0}};
+    uint64_t i = 0;
+    while (i < s.count) {
+        bytes.at[i] = name_bytes_upper_byte(s.at[i]);
+        i = i + 1;
+    }
+    return (name_coating_Clean){.bytes = bytes, .len = i};
+}
+
+static bool name_coating_names_none(slice_u8 clean) {
+    u8_x0 text = {{0}};
+    u8_x4 text_2 = {{78, 79, 78, 69}};
+    u8_x8 text_3 = {{85, 78, 67, 79, 65, 84, 69, 68}};
+    if (name_bytes_is(clean, (slice_u8){text.at, 0})) {
+        return true;
+    }
+    if (name_bytes_is(clean, (slice_u8){text_2.at, 4})) {
+        return true;
+    }
+    return name_bytes_is(clean, (slice_u8){text_3.at, 8});
+}
+
+static bool name_coating_names_mgf2(slice_u8 clean) {
+    u8_x4 text = {{77, 71, 70, 50}};
+    u8_x4 text_2 = {{77, 71, 70, 50}};
+    if (name_bytes_is(clean, (slice_u8){text.at, 4})) {
+        return true;
+    }
+    return name_bytes_contains(clean, (slice_u8){text_2.at, 4});
+}
+
+static bool name_coating_names_bbar(slice_u8 clean) {
+    u8_x4 text = {{66, 66, 65, 82}};
+    u8_x5 text_2 = {{72, 69, 45, 78, 69}};
+    u8_x4 text_3 = {{66, 66, 65, 82}};
+    if (name_bytes_is(clean, (slice_u8){text.at, 4})) {
+        return true;
+    }
+    if (name_bytes_is(clean, (slice_u8){text_2.at, 5})) {
+        return true;
+    }
+    return name_bytes_contains(clean, (slice_u8){text_3.at, 4});
+}
+
+static bool name_coating_names_mirror(slice_u8 clean) {
+    u8_x6 text = {{77, 73, 82, 82, 79, 82}};
+    u8_x4 text_2 = {{82, 69, 70, 76}};
+    u8_x2 text_3 = {{72, 82}};
+    if (name_bytes_is(clean, (slice_u8){text.at, 6})) {
+        return true;
+    }
+    if (name_bytes_contains(clean, (slice_u8){text_2.at, 4})) {
+        return true;
+    }
+    return name_bytes_is(clean, (slice_u8){text_3.at, 2});
+}
+
+static bool name_coating_names_ar(slice_u8 clean) {
+    u8_x2 text = {{65, 82}};
+    u8_x3 text_2 = {{65, 82, 95}};
+    u8_x2 text_3 = {{65, 82}};
+    if (name_bytes_is(clean, (slice_u8){text.at, 2})) {
+        return true;
+    }
+    if (name_bytes_contains(clean, (slice_u8){text_2.at, 3})) {
+        return true;
+    }
+    return name_bytes_contains(clean, (slice_u8){text_3.at, 2});
+}
+
+// The coating of a trimmed upper-case name; an unknown one is the ideal AR coating.
+static name_coating_Named name_coating_coating_of(slice_u8 clean) {
+    if (name_coating_names_none(clean)) {
+        return (name_coating_Named){.tag = name_coating_Named_Nothing};
+    }
+    if (name_coating_names_mgf2(clean)) {
+        return (name_coating_Named){.tag = name_coating_Named_Coating,
+                .as.Coating = thin_film_SurfaceCoating_mgf2_default()};
+    }
+    if (name_coating_names_bbar(clean)) {
+        return (name_coating_Named){.tag = name_coating_Named_Coating,
+                .as.Coating = {.tag = thin_film_SurfaceCoating_BroadbandAr}};
+    }
+    if (name_coating_names_mirror(clean)) {
+        return (name_coating_Named){.tag = name_coating_Named_Coating,
+                .as.Coating = {.tag = thin_film_SurfaceCoating_HighReflectanceMirror}};
+    }
+    if (name_coating_names_ar(clean)) {
+        return (name_coating_Named){.tag = name_coating_Named_Coating,
+                .as.Coating = {.tag = thin_film_SurfaceCoating_IdealAr}};
+    }
+    return (name_coating_Named){.tag = name_coating_Named_Coating,
+            .as.Coating = {.tag = thin_film_SurfaceCoating_IdealAr}};
+}
+
+// The coating of a trimmed name.
+static name_coating_Named name_coating_coating_in(slice_u8 part) {
+    name_coating_Clean u = name_coating_upper(part);
+    u8_x32 bytes = u.bytes;
+    uint64_t len = u.len;
+    return name_coating_coating_of((slice_u8){bytes.at, len});
+}
+
+// The coating that a name stands for. Over 32 bytes are refused with 2 at 32, a byte over 127 with 2 at
+// its place.
+static name_coating_Named name_coating_from_format_name(slice_u8 name) {
+    if (32 < name.count) {
+        return (name_coating_Named){.tag = name_coating_Named_Refused, .as.Refused = {.number = 2, .place = 32}};
+    }
+    uint64_t over = name_bytes_first_over(name);
+    if (over < name.count) {
+        return (name_coating_Named){.tag = name_coating_Named_Refused, .as.Refused = {.number = 2, .place = over}};
+    }
+    return name_coating_coating_in(name_bytes_trimmed(name));
+}
+
 // ==== gate_limits
 //
 // One surface of a train: its coating by code, and the limits of document 01's section 3 and of document 02's slip 12.
@@ -3256,11 +4039,14 @@ static bool gate_limits_surface_within(double snell, double cos, gate_limits_Sur
             && ieee_is_finite(surface.angle_rad) && gate_limits_angle_within(snell, cos, surface);
 }
 
-// One sine and one cosine for all of a surface's limits.
-static gate_limits_Judgement gate_limits_judge_surface(gate_limits_Surface surface) {
-    math_trig_SinCos theta = math_trig_sin_cos(surface.angle_rad);
+// One sine and one cosine for all of a surface's limits: those of its angle.
+static gate_limits_Judgement gate_limits_judge_with(gate_limits_Surface surface, math_trig_SinCos theta) {
     double snell = surface.n_incident * ieee_abs(theta.sin);
     return (gate_limits_Judgement){.passes = gate_limits_surface_within(snell, theta.cos, surface), .snell = snell};
+}
+
+static gate_limits_Judgement gate_limits_judge_surface(gate_limits_Surface surface) {
+    return gate_limits_judge_with(surface, math_trig_sin_cos(surface.angle_rad));
 }
 
 // A layer.
@@ -3316,78 +4102,6 @@ static quarter_waves_QuarterWavesReply quarter_waves_quarter_waves(double n, dou
             .as.Refused = {.number = 14, .place = 0}};
 }
 
-// ==== c_layers
-//
-// SurfaceCoating::evaluate for a coating by its code, whose layers stand in a flat list: n, k, thickness
-// of one after the other.
-
-// The j-th layer.
-static thin_film_solver_ThinFilmLayer c_layers_layer_at(slice_f64 flat, uint64_t j) {
-    return (thin_film_solver_ThinFilmLayer){.n = flat.at[3 * j], .k = flat.at[3 * j + 1],
-            .thickness_nm = flat.at[3 * j + 2]};
-}
-
-// The response with every layer of the list, in its order or reversed.
-static thin_film_solver_CoatingResponse c_layers_solve(slice_f64 flat, bool reversed,
-        thin_film_solver_Incidence light) {
-    uint64_t n = flat.count / 3;
-    thin_film_complex_Complex_x2_x2 ms = thin_film_matrix_identity();
-    thin_film_complex_Complex_x2_x2 mp = thin_film_matrix_identity();
-    uint64_t i = 0;
-    while (i < n) {
-        uint64_t j = thin_film_layers_nth_index(reversed, n, i);
-        thin_film_solver_Terms terms = thin_film_solver_terms_of(light, c_layers_layer_at(flat, j));
-        thin_film_complex_Complex_x2_x2 next_s = thin_film_solver_step_s(ms, terms);
-        thin_film_complex_Complex_x2_x2 next_p = thin_film_solver_step_p(mp, terms);
-        ms = next_s;
-        mp = next_p;
-        i = i + 1;
-    }
-    return thin_film_solver_finish(light, ms, mp);
-}
-
-// A coating beside its layers.
-static thin_film_layers_Evaluation c_layers_evaluate_known(thin_film_SurfaceCoating coating, slice_f64 flat,
-        double n_incident, double n_substrate, double angle_incident_rad, double wavelength_nm) {
-    thin_film_layers_Prepared value = thin_film_reading_prepare_surface(coating, flat.count / 3, n_incident,
-            n_substrate, angle_incident_rad, wavelength_nm);
-    if (value.tag == thin_film_layers_Prepared_Answered) {
-        thin_film_layers_Evaluation answer = value.as.Answered;
-        return answer;
-    }
-    bool reversed = value.as.Layers.reversed;
-    thin_film_solver_Incidence light = value.as.Layers.light;
-    return (thin_film_layers_Evaluation){.tag = thin_film_layers_Evaluation_Response,
-            .as.Response = c_layers_solve(flat, reversed, light)};
-}
-
-// From a code to a coating: a sheet's codes, and 8 for Custom(IdealAr).
-static gate_limits_Interface c_layers_coating_of(uint32_t code, double design_wavelength_nm) {
-    if (code == 8) {
-        return (gate_limits_Interface){.tag = gate_limits_Interface_Coated,
-                .as.Coated = {.tag = thin_film_SurfaceCoating_Custom,
-                .as.Custom = thin_film_coating_Coating_IdealAr}};
-    }
-    return gate_limits_coded(code, design_wavelength_nm);
-}
-
-// The coating by its code, the layers in a flat list; 1 for a code that has no coating, and for a
-// list that is no multiple of 3.
-static thin_film_layers_Evaluation c_layers_evaluate(uint32_t code, double design_wavelength_nm, double n_incident,
-        double n_substrate, double angle_incident_rad, double wavelength_nm, slice_f64 flat) {
-    if (flat.count % 3 != 0) {
-        return (thin_film_layers_Evaluation){.tag = thin_film_layers_Evaluation_Refused,
-                .as.Refused = {.number = 1, .place = 0}};
-    }
-    gate_limits_Interface value = c_layers_coating_of(code, design_wavelength_nm);
-    if (value.tag == gate_limits_Interface_Coated) {
-        thin_film_SurfaceCoating coating = value.as.Coated;
-        return c_layers_evaluate_known(coating, flat, n_incident, n_substrate, angle_incident_rad, wavelength_nm);
-    }
-    return (thin_film_layers_Evaluation){.tag = thin_film_layers_Evaluation_Refused,
-            .as.Refused = {.number = 1, .place = 0}};
-}
-
 // ==== surface
 //
 // The answers of one surface of a train: document 01's section 7.
@@ -3416,12 +4130,15 @@ static surface_Answers surface_coated_answers(thin_film_solver_CoatingResponse r
             polarization_surface_coating_jones(response));
 }
 
-// The powers of a bare surface, whatever its code.
-static surface_Powers surface_bare_powers(gate_limits_Surface surface) {
-    fresnel_Reflectances r = fresnel_fresnel_dielectric(math_trig_cos(surface.angle_rad), surface.n_incident,
-            surface.n_substrate);
+// The powers of a bare surface, whatever its code, from the cosine of its angle.
+static surface_Powers surface_bare_powers_with(gate_limits_Surface surface, double cos) {
+    fresnel_Reflectances r = fresnel_fresnel_dielectric(cos, surface.n_incident, surface.n_substrate);
     return (surface_Powers){.reflectance_s = r.rs, .reflectance_p = r.rp, .transmittance_s = 1.0 - r.rs,
             .transmittance_p = 1.0 - r.rp};
+}
+
+static surface_Powers surface_bare_powers(gate_limits_Surface surface) {
+    return surface_bare_powers_with(surface, math_trig_cos(surface.angle_rad));
 }
 
 // Zero throughout, beside a refusal.
@@ -3468,22 +4185,6 @@ static double surface_real_over(double x, double y) {
     return x * y / denom;
 }
 
-// A number whose imaginary part is a zero.
-static double surface_real_real_part(thin_film_complex_Complex z) {
-    if (z.im == 0.0) {
-        return z.re;
-    }
-    return 0.0 / 0.0;
-}
-
-// x, where y is finite.
-static double surface_real_if_finite(double y, double x) {
-    if (ieee_is_finite(y)) {
-        return x;
-    }
-    return 0.0 / 0.0;
-}
-
 // The root of a number from 2^-10 to 2^10, as Complex::sqrt takes it.
 static double surface_real_root(double x) {
     if (0.0009765625 <= x) {
@@ -3504,20 +4205,36 @@ static double surface_real_cos_theta(double snell, thin_film_solver_ThinFilmLaye
     return 0.0 / 0.0;
 }
 
-static surface_real_Film surface_real_film_of(thin_film_solver_Incidence light,
+static surface_real_Medium surface_real_medium_of(thin_film_solver_Incidence light,
         thin_film_solver_ThinFilmLayer layer) {
     double cos = surface_real_cos_theta(light.snell, layer);
     double eta_s = layer.n * cos;
     double eta_p = surface_real_over(layer.n, cos);
     double factor = 2.0 * 3.141592653589793 * layer.thickness_nm / light.wavelength_nm;
-    double delta = eta_s * factor;
-    thin_film_matrix_Phase phase = thin_film_matrix_phase_of(thin_film_complex_Complex_real(delta));
-    thin_film_complex_Complex cos_delta = phase.cos;
-    thin_film_complex_Complex i_sin = phase.i_sin;
-    double sin = i_sin.im;
-    return (surface_real_Film){.cos = surface_real_if_finite(delta, cos_delta.re),
-            .y_s = surface_real_over(sin, eta_s), .z_s = sin * eta_s, .y_p = surface_real_over(sin, eta_p),
-            .z_p = sin * eta_p};
+    return (surface_real_Medium){.eta_s = eta_s, .eta_p = eta_p, .delta = eta_s * factor};
+}
+
+// Those of the first n layers.
+static surface_real_films_Media surface_real_films_media_of(thin_film_solver_Incidence light,
+        thin_film_solver_ThinFilmLayer_x16 layers, uint64_t n) {
+    f64_x16 eta_p = {{0}};
+    f64_x16 delta = {{0}};
+    f64_x16 i = {{0}};
+    uint64_t medium = 0;
+    while (medium < n) {
+        surface_real_Medium value = surface_real_medium_of(light, layers.at[medium]);
+        eta_p.at[medium] = value.eta_s;
+        delta.at[medium] = value.eta_p;
+        i.at[medium] = value.delta;
+        medium = medium + 1;
+    }
+    return (surface_real_films_Media){.eta_s = eta_p, .eta_p = delta, .delta = i};
+}
+
+// A film's matrices, from its admittances and the sine and cosine of its phase thickness.
+static surface_real_Film surface_real_film_in(double eta_s, double eta_p, double sin, double cos) {
+    return (surface_real_Film){.cos = cos, .y_s = surface_real_over(sin, eta_s), .z_s = sin * eta_s,
+            .y_p = surface_real_over(sin, eta_p), .z_p = sin * eta_p};
 }
 
 // A product, times a film.
@@ -3533,6 +4250,133 @@ static surface_real_Stack surface_real_join(surface_real_Stack stack, surface_re
     surface_real_Product next_s = surface_real_times(s, film.cos, film.y_s, film.z_s);
     surface_real_Product next_p = surface_real_times(p, film.cos, film.y_p, film.z_p);
     return (surface_real_Stack){.s = next_s, .p = next_p};
+}
+
+// The first n films, from the first or from the last, each joined to the product of those before it.
+static surface_real_Stack surface_real_films_join_media(surface_real_films_Media media, math_waves_Waves waves,
+        uint64_t n, bool reversed, surface_real_Stack stack) {
+    f64_x16 eta_s = media.eta_s;
+    f64_x16 eta_p = media.eta_p;
+    f64_x16 sin = waves.sin;
+    f64_x16 cos = waves.cos;
+    surface_real_Stack product = stack;
+    uint64_t i = 0;
+    while (i < n) {
+        uint64_t j = thin_film_layers_nth_index(reversed, n, i);
+        product = surface_real_join(product, surface_real_film_in(eta_s.at[j], eta_p.at[j], sin.at[j], cos.at[j]));
+        i = i + 1;
+    }
+    return product;
+}
+
+// The first n layers in arrays.
+static surface_real_Stack surface_real_films_join_arrays(thin_film_solver_Incidence light,
+        thin_film_solver_ThinFilmLayer_x16 layers, uint64_t n, bool reversed, surface_real_Stack stack) {
+    surface_real_films_Media media = surface_real_films_media_of(light, layers, n);
+    f64_x16 delta = media.delta;
+    return surface_real_films_join_media(media, math_waves_sin_cos(delta, n), n, reversed, stack);
+}
+
+static surface_real_Film surface_real_film_of(thin_film_solver_Incidence light,
+        thin_film_solver_ThinFilmLayer layer) {
+    surface_real_Medium medium = surface_real_medium_of(light, layer);
+    math_trig_SinCos wave = math_trig_sin_cos(medium.delta);
+    return surface_real_film_in(medium.eta_s, medium.eta_p, wave.sin, wave.cos);
+}
+
+// Whether two numbers are one, above zero.
+static bool surface_real_same_number(double x, double y) {
+    return 0.0 < x && x == y;
+}
+
+// Whether both numbers are zeros.
+static bool surface_real_both_zero(double x, double y) {
+    return x == 0.0 && y == 0.0;
+}
+
+// Whether two layers that do not absorb have one index and one thickness.
+static bool surface_real_same_film(thin_film_solver_ThinFilmLayer a, thin_film_solver_ThinFilmLayer b) {
+    return surface_real_same_number(a.n, b.n) && surface_real_same_number(a.thickness_nm, b.thickness_nm)
+            && surface_real_both_zero(a.k, b.k);
+}
+
+// A layer with its film, which is that of an earlier one where they are the same.
+static surface_real_Met surface_real_meet(thin_film_solver_Incidence light, thin_film_solver_ThinFilmLayer layer,
+        surface_real_Met earlier) {
+    thin_film_solver_ThinFilmLayer before = earlier.layer;
+    if (surface_real_same_film(layer, before)) {
+        surface_real_Film film = earlier.film;
+        return (surface_real_Met){.layer = layer, .film = film};
+    }
+    surface_real_Film film_2 = surface_real_film_of(light, layer);
+    return (surface_real_Met){.layer = layer, .film = film_2};
+}
+
+// A layer with its film, as meet gives it; its numbers are those of an f64.
+static surface_real_Met surface_real_films_meet_held(thin_film_solver_Incidence light,
+        thin_film_solver_ThinFilmLayer layer, surface_real_Met earlier) {
+    return surface_real_meet(light, layer, earlier);
+}
+
+// Before the first layer: a NaN is the same as no number.
+static surface_real_Met surface_real_none_met(void) {
+    thin_film_solver_ThinFilmLayer layer = {.n = 0.0 / 0.0, .k = 0.0, .thickness_nm = 0.0};
+    surface_real_Film film = {.cos = 0.0, .y_s = 0.0, .z_s = 0.0, .y_p = 0.0, .z_p = 0.0};
+    return (surface_real_Met){.layer = layer, .film = film};
+}
+
+// The first n layers one by one, each looked for at the last but one.
+static surface_real_Stack surface_real_films_join_turns(thin_film_solver_Incidence light,
+        thin_film_solver_ThinFilmLayer_x16 layers, uint64_t n, bool reversed, surface_real_Stack stack) {
+    surface_real_Stack older = stack;
+    surface_real_Met newer = surface_real_none_met();
+    surface_real_Met i = surface_real_none_met();
+    uint64_t j = 0;
+    while (j < n) {
+        uint64_t met = thin_film_layers_nth_index(reversed, n, j);
+        surface_real_Met film = surface_real_films_meet_held(light, layers.at[met], newer);
+        older = surface_real_join(older, film.film);
+        newer = i;
+        i = film;
+        j = j + 1;
+    }
+    return older;
+}
+
+// Whether each of the first n layers is the last but one again.
+static bool surface_real_films_take_turns(thin_film_solver_ThinFilmLayer_x16 layers, uint64_t n) {
+    uint64_t i = 2;
+    while (i < n) {
+        if (!surface_real_same_film(layers.at[i], layers.at[i - 2])) {
+            return false;
+        }
+        i = i + 1;
+    }
+    return true;
+}
+
+// The first n of 16 layers, or all where n is more, joined to a product: from the first on, or from the last where
+// light meets them from the far side.
+static surface_real_Stack surface_real_films_join_all(thin_film_solver_Incidence light,
+        thin_film_solver_ThinFilmLayer_x16 layers, uint64_t n, bool reversed, surface_real_Stack stack) {
+    uint64_t few;
+    if (n < 16) {
+        few = n;
+    } else {
+        few = 16;
+    }
+    if (surface_real_films_take_turns(layers, few)) {
+        return surface_real_films_join_turns(light, layers, few, reversed, stack);
+    }
+    return surface_real_films_join_arrays(light, layers, few, reversed, stack);
+}
+
+// A number whose imaginary part is a zero.
+static double surface_real_real_part(thin_film_complex_Complex z) {
+    if (z.im == 0.0) {
+        return z.re;
+    }
+    return 0.0 / 0.0;
 }
 
 // Before the first film.
@@ -3588,39 +4432,384 @@ static surface_real_Known surface_real_finish(thin_film_solver_Incidence light, 
     return (surface_real_Known){.known = known, .powers = powers};
 }
 
-// Whether two numbers are one, above zero.
-static bool surface_real_same_number(double x, double y) {
-    return 0.0 < x && x == y;
-}
+// ==== surface_lines
+//
+// The products of a coated surface's films at 16 wavelengths at once, place by place: those of surface_real, with what
+// does not hang on the wavelength worked out once. The loops have neither a call that stays nor a branch.
 
-// Whether both numbers are zeros.
-static bool surface_real_both_zero(double x, double y) {
-    return x == 0.0 && y == 0.0;
-}
-
-// Whether two layers that do not absorb have one index and one thickness.
-static bool surface_real_same_film(thin_film_solver_ThinFilmLayer a, thin_film_solver_ThinFilmLayer b) {
-    return surface_real_same_number(a.n, b.n) && surface_real_same_number(a.thickness_nm, b.thickness_nm)
-            && surface_real_both_zero(a.k, b.k);
-}
-
-// A layer with its film, which is that of an earlier one where they are the same.
-static surface_real_Met surface_real_meet(thin_film_solver_Incidence light, thin_film_solver_ThinFilmLayer layer,
-        surface_real_Met earlier) {
-    thin_film_solver_ThinFilmLayer before = earlier.layer;
-    if (surface_real_same_film(layer, before)) {
-        surface_real_Film film = earlier.film;
-        return (surface_real_Met){.layer = layer, .film = film};
+// Before the first film.
+static surface_lines_Stacks surface_lines_no_lines(void) {
+    f64_x16 one;
+    for (size_t each = 0; each < 16; each++) {
+        one.at[each] = 1.0;
     }
-    surface_real_Film film_2 = surface_real_film_of(light, layer);
-    return (surface_real_Met){.layer = layer, .film = film_2};
+    f64_x16 zero = {{0}};
+    surface_lines_Products m = {.a = one, .b = zero, .c = zero, .d = one};
+    return (surface_lines_Stacks){.s = m, .p = m};
 }
 
-// Before the first layer: a NaN is the same as no number.
-static surface_real_Met surface_real_none_met(void) {
-    thin_film_solver_ThinFilmLayer layer = {.n = 0.0 / 0.0, .k = 0.0, .thickness_nm = 0.0};
-    surface_real_Film film = {.cos = 0.0, .y_s = 0.0, .z_s = 0.0, .y_p = 0.0, .z_p = 0.0};
-    return (surface_real_Met){.layer = layer, .film = film};
+// What Complex::div divides by: a NaN where the square is too small.
+static double surface_lines_divisor(double eta) {
+    double square = eta * eta;
+    if (square < 1e-28) {
+        return 0.0 / 0.0;
+    }
+    return square;
+}
+
+// The phase thickness of a film at each wavelength.
+static f64_x16 surface_lines_phases(double eta_s, double thickness_nm, f64_x16 nm) {
+    f64_x16 i = {{0}};
+    uint64_t value = 0;
+    while (value < 16) {
+        i.at[value] = eta_s * (2.0 * 3.141592653589793 * thickness_nm / nm.at[value]);
+        value = value + 1;
+    }
+    return i;
+}
+
+// Each product, times the film of admittance eta, from the sine and cosine of its phase thickness.
+static surface_lines_Products surface_lines_times_lines(surface_lines_Products m, double eta, f64_x16 sin,
+        f64_x16 cos) {
+    f64_x16 text_2 = cos;
+    f64_x16 m_a = m.a;
+    f64_x16 m_b = m.b;
+    f64_x16 m_c = m.c;
+    f64_x16 m_d = m.d;
+    double square = surface_lines_divisor(eta);
+    f64_x16 a = {{0}};
+    f64_x16 b = {{0}};
+    f64_x16 c = {{0}};
+    f64_x16 d = {{0}};
+    uint64_t i = 0;
+    while (i < 16) {
+        surface_real_Product m_2 = {.a = m_a.at[i], .b = m_b.at[i], .c = m_c.at[i], .d = m_d.at[i]};
+        double z = sin.at[i] * eta;
+        surface_real_Product next = surface_real_times(m_2, text_2.at[i], z / square, z);
+        a.at[i] = next.a;
+        b.at[i] = next.b;
+        c.at[i] = next.c;
+        d.at[i] = next.d;
+        i = i + 1;
+    }
+    return (surface_lines_Products){.a = a, .b = b, .c = c, .d = d};
+}
+
+// One film more at each wavelength; that of light is not looked at.
+static surface_lines_Stacks surface_lines_join_lines(surface_lines_Stacks k, thin_film_solver_Incidence light,
+        thin_film_solver_ThinFilmLayer layer, f64_x16 nm) {
+    surface_real_Medium medium = surface_real_medium_of(light, layer);
+    math_waves_Waves waves = math_waves_sin_cos(surface_lines_phases(medium.eta_s, layer.thickness_nm, nm), 16);
+    f64_x16 sin = waves.sin;
+    f64_x16 cos = waves.cos;
+    surface_lines_Products s = k.s;
+    surface_lines_Products p = k.p;
+    surface_lines_Products next_s = surface_lines_times_lines(s, medium.eta_s, sin, cos);
+    surface_lines_Products next_p = surface_lines_times_lines(p, medium.eta_p, sin, cos);
+    return (surface_lines_Stacks){.s = next_s, .p = next_p};
+}
+
+// The product at a place.
+static surface_real_Product surface_lines_product_in(surface_lines_Products m, uint64_t j) {
+    f64_x16 a = m.a;
+    f64_x16 b = m.b;
+    f64_x16 c = m.c;
+    f64_x16 d = m.d;
+    return (surface_real_Product){.a = a.at[j], .b = b.at[j], .c = c.at[j], .d = d.at[j]};
+}
+
+// The products at a place; past the last those of no films.
+static surface_real_Stack surface_lines_line_of(surface_lines_Stacks k, uint64_t j) {
+    if (j < 16) {
+        surface_lines_Products s = k.s;
+        surface_lines_Products p = k.p;
+        surface_real_Product of_s = surface_lines_product_in(s, j);
+        surface_real_Product of_p = surface_lines_product_in(p, j);
+        return (surface_real_Stack){.s = of_s, .p = of_p};
+    }
+    return surface_real_no_films();
+}
+
+// ==== response_real
+//
+// The whole response of a coated surface over real numbers: the quick way where no film absorbs, from the products of
+// surface_real. A zero's sign can be another than in thin_film_solver, and only a zero's: the response is known where
+// the powers are finite and no part of an amplitude is a zero, and is that of thin_film_solver then.
+
+// The shares of two amplitudes with this denominator, between the admittances eta0 and eta.
+static surface_real_Shares response_real_shares_of(thin_film_complex_Complex r, thin_film_complex_Complex t,
+        double eta0, double eta, double denom) {
+    if (denom < 1e-28) {
+        return (surface_real_Shares){.r = 0.0 / 0.0, .t = 0.0 / 0.0};
+    }
+    return (surface_real_Shares){.r = thin_film_complex_Complex_norm_sq(r),
+            .t = eta / eta0 * thin_film_complex_Complex_norm_sq(t)};
+}
+
+// The amplitudes of a product, between the admittances eta0 and eta.
+static response_real_Amplitudes response_real_amplitudes_of(surface_real_Product m, double eta0, double eta) {
+    double b_re = eta0 * m.a;
+    double b_im = eta0 * (m.b * eta);
+    double c_re = m.d * eta;
+    double num_re = b_re - c_re;
+    double num_im = b_im - m.c;
+    double den_re = b_re + c_re;
+    double den_im = b_im + m.c;
+    double denom = den_re * den_re + den_im * den_im;
+    thin_film_complex_Complex r = {.re = (num_re * den_re + num_im * den_im) / denom,
+            .im = (num_im * den_re - num_re * den_im) / denom};
+    thin_film_complex_Complex t = {.re = eta0 * 2.0 * den_re / denom, .im = -(eta0 * 2.0 * den_im) / denom};
+    surface_real_Shares shares = response_real_shares_of(r, t, eta0, eta, denom);
+    return (response_real_Amplitudes){.r = r, .t = t, .shares = shares};
+}
+
+// Whether no part is a zero.
+static bool response_real_no_zero(thin_film_complex_Complex z) {
+    return !(z.re == 0.0) && !(z.im == 0.0);
+}
+
+// Whether no part of either amplitude is a zero.
+static bool response_real_plain(response_real_Amplitudes k) {
+    thin_film_complex_Complex r = k.r;
+    thin_film_complex_Complex t = k.t;
+    return response_real_no_zero(r) && response_real_no_zero(t);
+}
+
+// Whether a zero's sign can be told from none of this: the shares are finite, and no part is a zero.
+static bool response_real_certain(response_real_Amplitudes s, response_real_Amplitudes p) {
+    surface_real_Shares of_s = s.shares;
+    surface_real_Shares of_p = p.shares;
+    return ieee_is_finite(of_s.r + of_s.t + (of_p.r + of_p.t)) && response_real_plain(s) && response_real_plain(p);
+}
+
+// The answers for one polarization.
+static thin_film_solver_Polarized response_real_polarized(response_real_Amplitudes k) {
+    thin_film_complex_Complex r = k.r;
+    thin_film_complex_Complex t = k.t;
+    surface_real_Shares shares = k.shares;
+    return (thin_film_solver_Polarized){.r = r, .t = t, .reflectance = ieee_clamp(shares.r, 0.0, 1.0),
+            .transmittance = ieee_clamp(shares.t, 0.0, 1.0), .phase = thin_film_complex_Complex_arg(r)};
+}
+
+// The response, from the products of all films.
+static response_real_Known response_real_finish(thin_film_solver_Incidence light, surface_real_Stack stack) {
+    thin_film_complex_Complex cos = thin_film_complex_Complex_real(
+            surface_real_cos_theta_sub(light.snell / light.n_substrate));
+    thin_film_complex_Complex n_sub = thin_film_complex_Complex_real(light.n_substrate);
+    double eta_s = surface_real_real_part(thin_film_complex_Complex_mul(n_sub, cos));
+    double eta_p = surface_real_real_part(thin_film_complex_Complex_div(n_sub, cos));
+    double eta0_s = light.n_incident * light.cos_theta0;
+    double eta0_p = light.n_incident / ieee_max(light.cos_theta0, 1e-12);
+    surface_real_Product ms = stack.s;
+    surface_real_Product mp = stack.p;
+    response_real_Amplitudes s = response_real_amplitudes_of(ms, eta0_s, eta_s);
+    response_real_Amplitudes p = response_real_amplitudes_of(mp, eta0_p, eta_p);
+    if (response_real_certain(s, p)) {
+        thin_film_solver_Polarized of_s = response_real_polarized(s);
+        thin_film_solver_Polarized of_p = response_real_polarized(p);
+        thin_film_solver_CoatingResponse response = thin_film_solver_respond(of_s, of_p);
+        return (response_real_Known){.known = true, .response = response};
+    }
+    thin_film_solver_CoatingResponse response_2 = thin_film_solver_no_response();
+    return (response_real_Known){.known = false, .response = response_2};
+}
+
+// ==== c_layers
+//
+// SurfaceCoating::evaluate for a coating by its code, whose layers stand in a flat list: n, k, thickness
+// of one after the other.
+
+// The j-th layer.
+static thin_film_solver_ThinFilmLayer c_layers_layer_at(slice_f64 flat, uint64_t j) {
+    return (thin_film_solver_ThinFilmLayer){.n = flat.at[3 * j], .k = flat.at[3 * j + 1],
+            .thickness_nm = flat.at[3 * j + 2]};
+}
+
+// Whether there are layers, none absorbs, and light goes on in each: the quick way takes no others. Nothing but time hangs on this.
+static bool c_layers_promising(slice_f64 flat, thin_film_solver_Incidence light) {
+    uint64_t n = flat.count / 3;
+    double most = ieee_abs(light.snell);
+    uint64_t i = 0;
+    while (i < n) {
+        thin_film_solver_ThinFilmLayer layer = c_layers_layer_at(flat, i);
+        if (!(layer.k == 0.0)) {
+            return false;
+        }
+        if (!(most <= 0.9995 * layer.n)) {
+            return false;
+        }
+        i = i + 1;
+    }
+    return 0 < n;
+}
+
+// As many layers as there are places for, of those that are left.
+static uint64_t c_layers_at_most_16(uint64_t left) {
+    if (left < 16) {
+        return left;
+    }
+    return 16;
+}
+
+// A few layers of the list, after so many others, in its order.
+static thin_film_solver_ThinFilmLayer_x16 c_layers_layers_from(slice_f64 flat, uint64_t after, uint64_t few) {
+    thin_film_solver_ThinFilmLayer_x16 some = {{{0}}};
+    uint64_t i = 0;
+    while (i < few) {
+        some.at[i] = c_layers_layer_at(flat, after + i);
+        i = i + 1;
+    }
+    return some;
+}
+
+// Where a few layers stand in a list of n that light meets after i others: from its front, or from its far end.
+static uint64_t c_layers_front_of(bool reversed, uint64_t n, uint64_t i, uint64_t few) {
+    if (reversed) {
+        return n - i - few;
+    }
+    return i;
+}
+
+// The products of every layer's films over real numbers, in the order of the list or reversed: 16 at a time. Each array has
+// the list's own order, and is read from its far end where light meets that first (document 02, slip 4).
+static surface_real_Stack c_layers_stack_of(slice_f64 flat, bool reversed, thin_film_solver_Incidence light) {
+    uint64_t n = flat.count / 3;
+    surface_real_Stack stack = surface_real_no_films();
+    uint64_t i = 0;
+    while (i < n) {
+        uint64_t few = c_layers_at_most_16(n - i);
+        thin_film_solver_ThinFilmLayer_x16 some = c_layers_layers_from(flat, c_layers_front_of(reversed, n, i, few),
+                few);
+        stack = surface_real_films_join_all(light, some, few, reversed, stack);
+        i = i + few;
+    }
+    return stack;
+}
+
+// The response with every layer of the list, in its order or reversed.
+static thin_film_solver_CoatingResponse c_layers_solve_each(slice_f64 flat, bool reversed,
+        thin_film_solver_Incidence light) {
+    uint64_t n = flat.count / 3;
+    thin_film_complex_Complex_x2_x2 ms = thin_film_matrix_identity();
+    thin_film_complex_Complex_x2_x2 mp = thin_film_matrix_identity();
+    uint64_t i = 0;
+    while (i < n) {
+        uint64_t j = thin_film_layers_nth_index(reversed, n, i);
+        thin_film_solver_Terms terms = thin_film_solver_terms_of(light, c_layers_layer_at(flat, j));
+        thin_film_complex_Complex_x2_x2 next_s = thin_film_solver_step_s(ms, terms);
+        thin_film_complex_Complex_x2_x2 next_p = thin_film_solver_step_p(mp, terms);
+        ms = next_s;
+        mp = next_p;
+        i = i + 1;
+    }
+    return thin_film_solver_finish(light, ms, mp);
+}
+
+// That response: over real numbers where no layer absorbs and the quick way knows it, or else layer by layer.
+static thin_film_solver_CoatingResponse c_layers_solve(slice_f64 flat, bool reversed,
+        thin_film_solver_Incidence light) {
+    if (c_layers_promising(flat, light)) {
+        response_real_Known quick = response_real_finish(light, c_layers_stack_of(flat, reversed, light));
+        if (quick.known) {
+            thin_film_solver_CoatingResponse response = quick.response;
+            return response;
+        }
+    }
+    return c_layers_solve_each(flat, reversed, light);
+}
+
+// A coating beside its layers.
+static thin_film_layers_Evaluation c_layers_evaluate_known(thin_film_SurfaceCoating coating, slice_f64 flat,
+        double n_incident, double n_substrate, double angle_incident_rad, double wavelength_nm) {
+    thin_film_layers_Prepared value = thin_film_reading_prepare_surface(coating, flat.count / 3, n_incident,
+            n_substrate, angle_incident_rad, wavelength_nm);
+    if (value.tag == thin_film_layers_Prepared_Answered) {
+        thin_film_layers_Evaluation answer = value.as.Answered;
+        return answer;
+    }
+    bool reversed = value.as.Layers.reversed;
+    thin_film_solver_Incidence light = value.as.Layers.light;
+    return (thin_film_layers_Evaluation){.tag = thin_film_layers_Evaluation_Response,
+            .as.Response = c_layers_solve(flat, reversed, light)};
+}
+
+// From a code to a coating: a sheet's codes, and 8 for Custom(IdealAr).
+static gate_limits_Interface c_layers_coating_of(uint32_t code, double design_wavelength_nm) {
+    if (code == 8) {
+        return (gate_limits_Interface){.tag = gate_limits_Interface_Coated,
+                .as.Coated = {.tag = thin_film_SurfaceCoating_Custom,
+                .as.Custom = thin_film_coating_Coating_IdealAr}};
+    }
+    return gate_limits_coded(code, design_wavelength_nm);
+}
+
+// The coating by its code, the layers in a flat list; 1 for a code that has no coating, and for a
+// list that is no multiple of 3.
+static thin_film_layers_Evaluation c_layers_evaluate(uint32_t code, double design_wavelength_nm, double n_incident,
+        double n_substrate, double angle_incident_rad, double wavelength_nm, slice_f64 flat) {
+    if (flat.count % 3 != 0) {
+        return (thin_film_layers_Evaluation){.tag = thin_film_layers_Evaluation_Refused,
+                .as.Refused = {.number = 1, .place = 0}};
+    }
+    gate_limits_Interface value = c_layers_coating_of(code, design_wavelength_nm);
+    if (value.tag == gate_limits_Interface_Coated) {
+        thin_film_SurfaceCoating coating = value.as.Coated;
+        return c_layers_evaluate_known(coating, flat, n_incident, n_substrate, angle_incident_rad, wavelength_nm);
+    }
+    return (thin_film_layers_Evaluation){.tag = thin_film_layers_Evaluation_Refused,
+            .as.Refused = {.number = 1, .place = 0}};
+}
+
+// More than 64 explicit layers are refused with 3; any other coating of a user's ignores them.
+static uint32_t c_layers_number_custom(thin_film_coating_Coating coating, uint64_t count) {
+    switch (coating) {
+    case thin_film_coating_Coating_Multilayer:
+        if (64 < count) {
+            return 3;
+        }
+        return 0;
+    case thin_film_coating_Coating_IdealAr:
+    case thin_film_coating_Coating_IdealMirror:
+        return 0;
+    default: // thin_film_coating_Coating_IdealBeamsplitter
+        return 0;
+    }
+}
+
+// How a coating beside so many layers is refused: 1, then 3; 0 where it is answered.
+static uint32_t c_layers_number_known(thin_film_SurfaceCoating coating, uint64_t count, double n_incident,
+        double n_substrate, double angle_incident_rad, double wavelength_nm) {
+    if (!thin_film_valid_valid(n_incident, n_substrate, angle_incident_rad, wavelength_nm)) {
+        return 1;
+    }
+    switch (coating.tag) {
+    case thin_film_SurfaceCoating_Custom:
+    {
+        thin_film_coating_Coating custom = coating.as.Custom;
+        return c_layers_number_custom(custom, count);
+    }
+    case thin_film_SurfaceCoating_IdealAr:
+    case thin_film_SurfaceCoating_MgF2:
+    case thin_film_SurfaceCoating_BroadbandAr:
+        return 0;
+    default: // thin_film_SurfaceCoating_HighReflectanceMirror
+        return 0;
+    }
+}
+
+// The number that evaluate refuses with, and 0 where it answers; no layer is read for it.
+static uint32_t c_layers_refusal_number(uint32_t code, double design_wavelength_nm, double n_incident,
+        double n_substrate, double angle_incident_rad, double wavelength_nm, slice_f64 flat) {
+    if (flat.count % 3 != 0) {
+        return 1;
+    }
+    gate_limits_Interface value = c_layers_coating_of(code, design_wavelength_nm);
+    if (value.tag == gate_limits_Interface_Coated) {
+        thin_film_SurfaceCoating coating = value.as.Coated;
+        return c_layers_number_known(coating, flat.count / 3, n_incident, n_substrate, angle_incident_rad,
+                wavelength_nm);
+    }
+    return 1;
 }
 
 // ==== sheet_values
@@ -3629,11 +4818,8 @@ static surface_real_Met surface_real_none_met(void) {
 
 // The BEAM whose kind word is at a place; zero throughout past the last word.
 static sheet_values_Beam sheet_values_beam_at(slice_u8 src, uint64_t at) {
-    if (at < src.count / 4) {
-        return (sheet_values_Beam){.wavelength_nm = sheet_float_from(src, at + 1), .s = sheet_float_from(src, at + 3),
-                .p = sheet_float_from(src, at + 5)};
-    }
-    return (sheet_values_Beam){.wavelength_nm = 0.0, .s = 0.0, .p = 0.0};
+    sheet_Floats floats = sheet_floats_at(src, at);
+    return (sheet_values_Beam){.wavelength_nm = floats.first, .s = floats.second, .p = floats.third};
 }
 
 // The BEAM of a sheet: it stands after OPEN.
@@ -3643,30 +4829,24 @@ static sheet_values_Beam sheet_values_beam_of(slice_u8 src) {
 
 // The SURFACE whose kind word is at a place; zero throughout past the last word.
 static gate_limits_Surface sheet_values_surface_at(slice_u8 src, uint64_t at) {
-    if (at < src.count / 4) {
-        uint32_t payload = sheet_word_from(src, at) % 0x10000000;
-        return (gate_limits_Surface){.reflected = payload % 2 == 1, .coating = payload / 2,
-                .n_incident = sheet_float_from(src, at + 1), .n_substrate = sheet_float_from(src, at + 3),
-                .angle_rad = sheet_float_from(src, at + 5)};
-    }
-    return (gate_limits_Surface){.reflected = false, .coating = 0, .n_incident = 0.0, .n_substrate = 0.0,
-            .angle_rad = 0.0};
+    uint32_t payload = sheet_word_from(src, at) % 0x10000000;
+    sheet_Floats floats = sheet_floats_at(src, at);
+    return (gate_limits_Surface){.reflected = payload % 2 == 1, .coating = payload / 2, .n_incident = floats.first,
+            .n_substrate = floats.second, .angle_rad = floats.third};
 }
 
 // The LAYER whose kind word is at a place; zero throughout past the last word.
 static thin_film_solver_ThinFilmLayer sheet_values_plain_at(slice_u8 src, uint64_t at) {
-    if (at < src.count / 4) {
-        return (thin_film_solver_ThinFilmLayer){.n = sheet_float_from(src, at + 1),
-                .k = sheet_float_from(src, at + 3), .thickness_nm = sheet_float_from(src, at + 5)};
-    }
-    return (thin_film_solver_ThinFilmLayer){.n = 0.0, .k = 0.0, .thickness_nm = 0.0};
+    sheet_Floats floats = sheet_floats_at(src, at);
+    return (thin_film_solver_ThinFilmLayer){.n = floats.first, .k = floats.second, .thickness_nm = floats.third};
 }
 
 // The kind 6 whose kind word is at a place; zero throughout past the last word.
 static sheet_values_Cauchy sheet_values_cauchy_at(slice_u8 src, uint64_t at) {
     if (at < src.count / 4) {
-        return (sheet_values_Cauchy){.a = sheet_float_from(src, at + 1), .b = sheet_float_from(src, at + 3),
-                .c = sheet_float_from(src, at + 5), .thickness_nm = sheet_float_from(src, at + 7)};
+        sheet_Floats floats = sheet_floats_at(src, at);
+        return (sheet_values_Cauchy){.a = floats.first, .b = floats.second, .c = floats.third,
+                .thickness_nm = sheet_float_from(src, at + 7)};
     }
     return (sheet_values_Cauchy){.a = 0.0, .b = 0.0, .c = 0.0, .thickness_nm = 0.0};
 }
@@ -3750,6 +4930,12 @@ static uint64_t c_call_put_both(uint64_t returned, double a, double b, slice_mut
     return c_call_put(returned, (slice_f64){numbers.at, 2}, list);
 }
 
+// One number alone.
+static uint64_t c_call_put_one(double x, slice_mut_f64 list) {
+    f64_x1 numbers = {{x}};
+    return c_call_put(1, (slice_f64){numbers.at, 1}, list);
+}
+
 static f64_x16 c_call_response(thin_film_solver_CoatingResponse r) {
     thin_film_complex_Complex rs = r.rs;
     thin_film_complex_Complex rp = r.rp;
@@ -3772,6 +4958,27 @@ static f64_x8 c_call_jones(polarization_mueller_JonesMatrix j) {
     thin_film_complex_Complex c = m.at[2];
     thin_film_complex_Complex d = m.at[3];
     return (f64_x8){{a.re, a.im, b.re, b.im, c.re, c.im, d.re, d.im}};
+}
+
+// A Jones matrix by its numbers.
+static uint64_t c_call_put_jones(polarization_mueller_JonesMatrix j, slice_mut_f64 list) {
+    f64_x8 numbers = c_call_jones(j);
+    return c_call_put(8, (slice_f64){numbers.at, 8}, list);
+}
+
+// Two Jones matrices, one after the other.
+static f64_x16 c_call_two_jones(polarization_mueller_JonesMatrix j, polarization_mueller_JonesMatrix k) {
+    f64_x8 a = c_call_jones(j);
+    f64_x8 b = c_call_jones(k);
+    return (f64_x16){{a.at[0], a.at[1], a.at[2], a.at[3], a.at[4], a.at[5], a.at[6], a.at[7], b.at[0], b.at[1],
+            b.at[2], b.at[3], b.at[4], b.at[5], b.at[6], b.at[7]}};
+}
+
+// The same by their numbers.
+static uint64_t c_call_put_two_jones(polarization_mueller_JonesMatrix j, polarization_mueller_JonesMatrix k,
+        slice_mut_f64 list) {
+    f64_x16 numbers = c_call_two_jones(j, k);
+    return c_call_put(16, (slice_f64){numbers.at, 16}, list);
 }
 
 static f64_x16 c_call_mueller(polarization_mueller_MuellerMatrix m) {
@@ -3872,6 +5079,99 @@ static uint64_t c_stack_stack(slice_u8 text, double n_h, double n_l, double n_m,
     return c_stack_put(items, count, list);
 }
 
+// ==== c_scan
+//
+// dihkelu_evaluate_list: one coated surface at many angles and wavelengths, its responses in a list that was
+// lent. dihkelu_invalid_argument: which argument an evaluation is refused for.
+
+// The first case that is refused, at its index; the number is 0 where none is. No layer is read.
+static refusal_Refusal c_scan_first_refused(uint32_t code, double design_wavelength_nm, double n_incident,
+        double n_substrate, slice_f64 angles_rad, slice_f64 wavelengths_nm, slice_f64 layers) {
+    uint64_t i = 0;
+    while (i < angles_rad.count) {
+        uint32_t number = c_layers_refusal_number(code, design_wavelength_nm, n_incident, n_substrate,
+                angles_rad.at[i], wavelengths_nm.at[i], layers);
+        if (number != 0) {
+            return (refusal_Refusal){.number = number, .place = i};
+        }
+        i = i + 1;
+    }
+    return (refusal_Refusal){.number = 0, .place = 0};
+}
+
+// The numbers of one case at a place of a list that has room for them; nothing where it is refused.
+static void c_scan_place_case(uint64_t at, uint32_t code, double design_wavelength_nm, double n_incident,
+        double n_substrate, double angle_incident_rad, double wavelength_nm, slice_f64 layers, slice_mut_f64 list) {
+    thin_film_layers_Evaluation value = c_layers_evaluate(code, design_wavelength_nm, n_incident, n_substrate,
+            angle_incident_rad, wavelength_nm, layers);
+    if (value.tag == thin_film_layers_Evaluation_Response) {
+        thin_film_solver_CoatingResponse r = value.as.Response;
+        c_call_put_response(r, (slice_mut_f64){list.at + at, list.count - at});
+    } else { // thin_film_layers_Evaluation_Refused
+    }
+}
+
+// The numbers of all cases, none of which is refused, at the front of a list that has room for them.
+static void c_scan_place(uint32_t code, double design_wavelength_nm, double n_incident, double n_substrate,
+        slice_f64 angles_rad, slice_f64 wavelengths_nm, slice_f64 layers, slice_mut_f64 list) {
+    uint64_t i = 0;
+    while (i < angles_rad.count) {
+        c_scan_place_case(16 * i, code, design_wavelength_nm, n_incident, n_substrate, angles_rad.at[i],
+                wavelengths_nm.at[i], layers, list);
+        i = i + 1;
+    }
+}
+
+// The cases of lists of equal length: refused, or written.
+static uint64_t c_scan_paired(uint32_t code, double design_wavelength_nm, double n_incident, double n_substrate,
+        slice_f64 angles_rad, slice_f64 wavelengths_nm, slice_f64 layers, slice_mut_f64 list) {
+    refusal_Refusal first = c_scan_first_refused(code, design_wavelength_nm, n_incident, n_substrate, angles_rad,
+            wavelengths_nm, layers);
+    if (first.number != 0) {
+        return c_call_packed(first);
+    }
+    uint64_t count = 16 * angles_rad.count;
+    if (list.count < count) {
+        return 0x800000000u;
+    }
+    c_scan_place(code, design_wavelength_nm, n_incident, n_substrate, angles_rad, wavelengths_nm, layers, list);
+    return count;
+}
+
+// SurfaceCoating::evaluate at angles_rad[i] and wavelengths_nm[i] for each i: 16 numbers of one response after the
+// other at the front of a list. Returns the count of these numbers, or a refusal: 1 for lists of unequal length,
+// that of the first case that is refused, with its index as the place, then 8 for a list that is too short.
+static uint64_t c_scan_evaluate_list(uint32_t code, double design_wavelength_nm, double n_incident,
+        double n_substrate, slice_f64 angles_rad, slice_f64 wavelengths_nm, slice_f64 layers, slice_mut_f64 list) {
+    if (angles_rad.count != wavelengths_nm.count) {
+        return c_call_packed((refusal_Refusal){.number = 1, .place = 0x10000000});
+    }
+    if (0x10000000 <= angles_rad.count) {
+        return c_call_packed((refusal_Refusal){.number = 1, .place = 0x10000000});
+    }
+    return c_scan_paired(code, design_wavelength_nm, n_incident, n_substrate, angles_rad, wavelengths_nm, layers,
+            list);
+}
+
+// The first argument of evaluate that fails a test of the Rust's, in their order: 1 n_incident, 2 n_substrate, 3 the
+// angle, 4 the wavelength; 0 where none fails.
+static uint64_t c_scan_invalid_argument(double n_incident, double n_substrate, double angle_incident_rad,
+        double wavelength_nm) {
+    if (!ieee_finite_positive(n_incident)) {
+        return 1;
+    }
+    if (!ieee_finite_positive(n_substrate)) {
+        return 2;
+    }
+    if (!ieee_is_finite(angle_incident_rad)) {
+        return 3;
+    }
+    if (!ieee_finite_positive(wavelength_nm)) {
+        return 4;
+    }
+    return 0;
+}
+
 // ==== c_mueller
 //
 // dihkelu_to_mueller and dihkelu_mueller_born_wolf: a Jones matrix from 8 numbers that were lent, its Mueller
@@ -3935,6 +5235,295 @@ static uint64_t c_quarter_waves_quarter_waves(double n, double thickness_nm, dou
     return c_call_packed(r);
 }
 
+// ==== c_fresnel
+//
+// The Fresnel equations for callers in C: fresnel.rs, and the Jones matrices of a bare surface, in a list that was lent.
+
+// Rs and Rp at the front of a list. Returns 2, or 8 for a list that is too short.
+static uint64_t c_fresnel_fresnel_dielectric(double cos_theta_i, double n1, double n2, slice_mut_f64 list) {
+    fresnel_Reflectances r = fresnel_fresnel_dielectric(cos_theta_i, n1, n2);
+    return c_call_put_both(2, r.rs, r.rp, list);
+}
+
+// R and T of unpolarized light. Returns 2, or 8.
+static uint64_t c_fresnel_fresnel_unpolarized(double cos_theta_i, double n1, double n2, slice_mut_f64 list) {
+    fresnel_Unpolarized r = fresnel_fresnel_unpolarized(cos_theta_i, n1, n2);
+    return c_call_put_both(2, r.r_total, r.t_total, list);
+}
+
+// Schlick's approximation. Returns 1, or 8.
+static uint64_t c_fresnel_schlick_approx(double cos_theta_i, double n1, double n2, slice_mut_f64 list) {
+    return c_call_put_one(fresnel_schlick_approx(cos_theta_i, n1, n2), list);
+}
+
+// The Jones matrices of a bare surface, of the reflected light and of the transmitted. Returns 16, or a refusal: 1,
+// then 8.
+static uint64_t c_fresnel_surface_fresnel_jones(double n1, double n2, double angle_i_rad, slice_mut_f64 list) {
+    polarization_FresnelJones surface = polarization_surface_fresnel_jones(n1, n2, angle_i_rad);
+    if (surface.refusal != 0) {
+        return c_call_packed((refusal_Refusal){.number = 1, .place = 0});
+    }
+    polarization_SurfaceJones m = surface.matrices;
+    polarization_mueller_JonesMatrix reflection = m.reflection;
+    polarization_mueller_JonesMatrix transmission = m.transmission;
+    return c_call_put_two_jones(reflection, transmission, list);
+}
+
+// ==== c_presets
+//
+// The layers of quarter_wave_ar and bragg_mirror for callers in C, in a list that was lent.
+
+// One quarter-wave layer of index sqrt(n_ambient * n_substrate): n, k, thickness. Returns 3, or 8 for a list that is
+// too short.
+static uint64_t c_presets_quarter_wave_ar(double n_ambient, double n_substrate, double design_wavelength_nm,
+        slice_mut_f64 list) {
+    thin_film_coating_Built built = thin_film_coating_Coating_quarter_wave_ar(n_ambient, n_substrate,
+            design_wavelength_nm);
+    thin_film_coating_Layers layers = built.layers;
+    thin_film_solver_ThinFilmLayer_x64 items = layers.items;
+    thin_film_solver_ThinFilmLayer layer = items.at[0];
+    f64_x3 numbers = {{layer.n, layer.k, layer.thickness_nm}};
+    return c_call_put(3, (slice_f64){numbers.at, 3}, list);
+}
+
+// The layers of (H L)^pairs H at the front of a list that has room for them.
+static void c_presets_place(double n_high, double n_low, uint64_t pairs, double design_wavelength_nm,
+        slice_mut_f64 list) {
+    uint64_t i = 0;
+    while (i < pairs * 2 + 1) {
+        thin_film_solver_ThinFilmLayer layer = thin_film_presets_bragg(n_high, n_low, design_wavelength_nm, i);
+        list.at[3 * i] = layer.n;
+        list.at[3 * i + 1] = layer.k;
+        list.at[3 * i + 2] = layer.thickness_nm;
+        i = i + 1;
+    }
+}
+
+// (H L)^pairs H, a quarter wave each: n, k, thickness of one layer after the other. Returns the count of these
+// numbers, or a refusal: 3 for more than 31 pairs, then 8.
+static uint64_t c_presets_bragg_mirror(double n_high, double n_low, uint32_t pairs, double design_wavelength_nm,
+        slice_mut_f64 list) {
+    if (31 < pairs) {
+        return c_call_packed((refusal_Refusal){.number = 3, .place = 0});
+    }
+    uint64_t count = (uint64_t)pairs;
+    uint64_t numbers = 3 * (count * 2 + 1);
+    if (list.count < numbers) {
+        return 0x800000000u;
+    }
+    c_presets_place(n_high, n_low, count, design_wavelength_nm, list);
+    return numbers;
+}
+
+// ==== c_names
+//
+// Names of coatings for callers in C: the code that a name stands for.
+
+// The code of a coating of the user's own.
+static uint32_t c_names_custom_code(thin_film_coating_Coating coating) {
+    switch (coating) {
+    case thin_film_coating_Coating_Multilayer:
+        return 5;
+    case thin_film_coating_Coating_IdealBeamsplitter:
+        return 6;
+    case thin_film_coating_Coating_IdealMirror:
+        return 7;
+    default: // thin_film_coating_Coating_IdealAr
+        return 8;
+    }
+}
+
+// The code that dihkelu_evaluate has a coating by.
+static uint32_t c_names_code_of(thin_film_SurfaceCoating coating) {
+    switch (coating.tag) {
+    case thin_film_SurfaceCoating_IdealAr:
+        return 1;
+    case thin_film_SurfaceCoating_MgF2:
+        return 2;
+    case thin_film_SurfaceCoating_BroadbandAr:
+        return 3;
+    case thin_film_SurfaceCoating_HighReflectanceMirror:
+        return 4;
+    default: // thin_film_SurfaceCoating_Custom
+    {
+        thin_film_coating_Coating custom = coating.as.Custom;
+        return c_names_custom_code(custom);
+    }
+    }
+}
+
+// SurfaceCoating::from_format_name: the coating's code, 0 for none; or a refusal: 2.
+static uint64_t c_names_coating_from_name(slice_u8 name) {
+    name_coating_Named value = name_coating_from_format_name(name);
+    switch (value.tag) {
+    case name_coating_Named_Coating:
+    {
+        thin_film_SurfaceCoating coating = value.as.Coating;
+        return (uint64_t)c_names_code_of(coating);
+    }
+    case name_coating_Named_Nothing:
+        return 0;
+    default: // name_coating_Named_Refused
+    {
+        refusal_Refusal r = value.as.Refused;
+        return c_call_packed(r);
+    }
+    }
+}
+
+// ==== c_polarization
+//
+// Jones and Stokes vectors, Jones and Mueller matrices for callers in C: from numbers that were lent to a list that was
+// lent. A list of another length than is needed is refused with 1, an output that is too short with 8.
+
+static polarization_stokes_JonesVector c_polarization_vector(slice_f64 numbers) {
+    return (polarization_stokes_JonesVector){.ex = {.re = numbers.at[0], .im = numbers.at[1]},
+            .ey = {.re = numbers.at[2], .im = numbers.at[3]}};
+}
+
+static polarization_stokes_StokesVector c_polarization_stokes(slice_f64 numbers) {
+    return (polarization_stokes_StokesVector){.s0 = numbers.at[0], .s1 = numbers.at[1], .s2 = numbers.at[2],
+            .s3 = numbers.at[3]};
+}
+
+static polarization_mueller_JonesMatrix c_polarization_jones(slice_f64 numbers) {
+    return (polarization_mueller_JonesMatrix){
+            .m = {{{.re = numbers.at[0], .im = numbers.at[1]}, {.re = numbers.at[2], .im = numbers.at[3]},
+            {.re = numbers.at[4], .im = numbers.at[5]}, {.re = numbers.at[6], .im = numbers.at[7]}}}};
+}
+
+static polarization_mueller_MuellerMatrix c_polarization_mueller(slice_f64 numbers) {
+    return (polarization_mueller_MuellerMatrix){
+            .m = {{numbers.at[0], numbers.at[1], numbers.at[2], numbers.at[3], numbers.at[4], numbers.at[5],
+            numbers.at[6], numbers.at[7], numbers.at[8], numbers.at[9], numbers.at[10], numbers.at[11],
+            numbers.at[12], numbers.at[13], numbers.at[14], numbers.at[15]}}};
+}
+
+static uint64_t c_polarization_put_vector(polarization_stokes_JonesVector v, slice_mut_f64 list) {
+    thin_film_complex_Complex ex = v.ex;
+    thin_film_complex_Complex ey = v.ey;
+    f64_x4 numbers = {{ex.re, ex.im, ey.re, ey.im}};
+    return c_call_put(4, (slice_f64){numbers.at, 4}, list);
+}
+
+static uint64_t c_polarization_put_stokes(polarization_stokes_StokesVector s, slice_mut_f64 list) {
+    f64_x4 numbers = {{s.s0, s.s1, s.s2, s.s3}};
+    return c_call_put(4, (slice_f64){numbers.at, 4}, list);
+}
+
+static uint64_t c_polarization_put_figures(polarization_stokes_StokesVector s, slice_mut_f64 list) {
+    double whole = polarization_stokes_StokesVector_degree_of_polarization(s);
+    double linear = polarization_stokes_StokesVector_degree_of_linear_polarization(s);
+    double circular = polarization_stokes_StokesVector_degree_of_circular_polarization(s);
+    double orientation = polarization_stokes_StokesVector_orientation_angle_rad(s);
+    double ellipticity = polarization_stokes_StokesVector_ellipticity_angle_rad(s);
+    f64_x5 numbers = {{whole, linear, circular, orientation, ellipticity}};
+    return c_call_put(5, (slice_f64){numbers.at, 5}, list);
+}
+
+// A diattenuator, its amplitudes the parts of a vector.
+static uint64_t c_polarization_diattenuating(polarization_stokes_JonesVector v, slice_mut_f64 list) {
+    thin_film_complex_Complex tx = v.ex;
+    thin_film_complex_Complex ty = v.ey;
+    return c_call_put_jones(polarization_mueller_JonesMatrix_diattenuator(tx, ty), list);
+}
+
+// JonesVector::to_stokes: S0 to S3. Returns 4.
+static uint64_t c_polarization_to_stokes(slice_f64 numbers, slice_mut_f64 list) {
+    if (numbers.count != 4) {
+        return c_call_packed((refusal_Refusal){.number = 1, .place = 0});
+    }
+    return c_polarization_put_stokes(polarization_stokes_JonesVector_to_stokes(c_polarization_vector(numbers)), list);
+}
+
+// JonesVector::normalize. Returns 4.
+static uint64_t c_polarization_jones_normalize(slice_f64 numbers, slice_mut_f64 list) {
+    if (numbers.count != 4) {
+        return c_call_packed((refusal_Refusal){.number = 1, .place = 0});
+    }
+    return c_polarization_put_vector(polarization_stokes_JonesVector_normalize(c_polarization_vector(numbers)), list);
+}
+
+// JonesVector::intensity. Returns 1.
+static uint64_t c_polarization_jones_intensity(slice_f64 numbers, slice_mut_f64 list) {
+    if (numbers.count != 4) {
+        return c_call_packed((refusal_Refusal){.number = 1, .place = 0});
+    }
+    return c_call_put_one(polarization_stokes_JonesVector_intensity(c_polarization_vector(numbers)), list);
+}
+
+// JonesMatrix::diattenuator of two amplitudes. Returns 8.
+static uint64_t c_polarization_diattenuator(slice_f64 numbers, slice_mut_f64 list) {
+    if (numbers.count != 4) {
+        return c_call_packed((refusal_Refusal){.number = 1, .place = 0});
+    }
+    return c_polarization_diattenuating(c_polarization_vector(numbers), list);
+}
+
+// Its degrees of polarization, linear and circular too, its orientation and its ellipticity. Returns 5.
+static uint64_t c_polarization_stokes_figures(slice_f64 numbers, slice_mut_f64 list) {
+    if (numbers.count != 4) {
+        return c_call_packed((refusal_Refusal){.number = 1, .place = 0});
+    }
+    return c_polarization_put_figures(c_polarization_stokes(numbers), list);
+}
+
+// JonesMatrix::apply. Returns 4.
+static uint64_t c_polarization_jones_apply(slice_f64 matrix, slice_f64 numbers, slice_mut_f64 list) {
+    if (matrix.count != 8) {
+        return c_call_packed((refusal_Refusal){.number = 1, .place = 0});
+    }
+    if (numbers.count != 4) {
+        return c_call_packed((refusal_Refusal){.number = 1, .place = 0});
+    }
+    return c_polarization_put_vector(polarization_mueller_JonesMatrix_apply(c_polarization_jones(matrix),
+            c_polarization_vector(numbers)), list);
+}
+
+// JonesMatrix::mul: the first times the second. Returns 8.
+static uint64_t c_polarization_jones_mul(slice_f64 matrix, slice_f64 numbers, slice_mut_f64 list) {
+    if (matrix.count != 8) {
+        return c_call_packed((refusal_Refusal){.number = 1, .place = 0});
+    }
+    if (numbers.count != 8) {
+        return c_call_packed((refusal_Refusal){.number = 1, .place = 0});
+    }
+    return c_call_put_jones(polarization_mueller_JonesMatrix_mul(c_polarization_jones(matrix),
+            c_polarization_jones(numbers)), list);
+}
+
+// MuellerMatrix::apply. Returns 4.
+static uint64_t c_polarization_mueller_apply(slice_f64 matrix, slice_f64 numbers, slice_mut_f64 list) {
+    if (matrix.count != 16) {
+        return c_call_packed((refusal_Refusal){.number = 1, .place = 0});
+    }
+    if (numbers.count != 4) {
+        return c_call_packed((refusal_Refusal){.number = 1, .place = 0});
+    }
+    return c_polarization_put_stokes(polarization_mueller_MuellerMatrix_apply(c_polarization_mueller(matrix),
+            c_polarization_stokes(numbers)), list);
+}
+
+// At an angle to the x-axis.
+static uint64_t c_polarization_linear_polarizer(double angle_rad, slice_mut_f64 list) {
+    return c_call_put_jones(polarization_mueller_JonesMatrix_linear_polarizer(angle_rad), list);
+}
+
+// Of a retardance, its fast axis at an angle.
+static uint64_t c_polarization_retarder(double retardance_rad, double fast_axis_rad, slice_mut_f64 list) {
+    return c_call_put_jones(polarization_mueller_JonesMatrix_retarder(retardance_rad, fast_axis_rad), list);
+}
+
+// Its fast axis at an angle.
+static uint64_t c_polarization_quarter_wave_plate(double fast_axis_rad, slice_mut_f64 list) {
+    return c_call_put_jones(polarization_mueller_JonesMatrix_quarter_wave_plate(fast_axis_rad), list);
+}
+
+// The same.
+static uint64_t c_polarization_half_wave_plate(double fast_axis_rad, slice_mut_f64 list) {
+    return c_call_put_jones(polarization_mueller_JonesMatrix_half_wave_plate(fast_axis_rad), list);
+}
+
 // ==== sheet_answers
 //
 // The answers of a surface of a sheet, from the sheet's bytes: document 01, section 7. The SURFACE's kind
@@ -3982,32 +5571,127 @@ static thin_film_layers_Evaluation sheet_answers_evaluate_at(slice_u8 src, uint6
             .as.Response = sheet_answers_solve(src, at, n, reversed, wavelength_nm, light)};
 }
 
-// The products of the n films after the block at a place, in their order or reversed, at a wavelength. Films that take
-// turns, as in H L H L, are worked out once.
+// A place that holds no layer.
+static thin_film_solver_ThinFilmLayer sheet_answers_presets_no_layer(void) {
+    return (thin_film_solver_ThinFilmLayer){.n = 0.0, .k = 0.0, .thickness_nm = 0.0};
+}
+
+static thin_film_solver_ThinFilmLayer_x16 sheet_answers_presets_mgf2(double design_wavelength_nm) {
+    thin_film_solver_ThinFilmLayer m = thin_film_presets_quarter_wave(1.38, design_wavelength_nm);
+    thin_film_solver_ThinFilmLayer o = sheet_answers_presets_no_layer();
+    return (thin_film_solver_ThinFilmLayer_x16){{m, o, o, o, o, o, o, o, o, o, o, o, o, o, o, o}};
+}
+
+static thin_film_solver_ThinFilmLayer_x16 sheet_answers_presets_broadband(void) {
+    thin_film_solver_ThinFilmLayer_x4 four = thin_film_presets_broadband();
+    thin_film_solver_ThinFilmLayer a = four.at[0];
+    thin_film_solver_ThinFilmLayer b = four.at[1];
+    thin_film_solver_ThinFilmLayer c = four.at[2];
+    thin_film_solver_ThinFilmLayer d = four.at[3];
+    thin_film_solver_ThinFilmLayer o = sheet_answers_presets_no_layer();
+    return (thin_film_solver_ThinFilmLayer_x16){{a, b, c, d, o, o, o, o, o, o, o, o, o, o, o, o}};
+}
+
+// (H L)^7 H.
+static thin_film_solver_ThinFilmLayer_x16 sheet_answers_presets_mirror(void) {
+    thin_film_solver_ThinFilmLayer h = thin_film_presets_quarter_wave(2.3, 550.0);
+    thin_film_solver_ThinFilmLayer l = thin_film_presets_quarter_wave(1.46, 550.0);
+    thin_film_solver_ThinFilmLayer o = sheet_answers_presets_no_layer();
+    return (thin_film_solver_ThinFilmLayer_x16){{h, l, h, l, h, l, h, l, h, l, h, l, h, l, h, o}};
+}
+
+// No powers that are known.
+static surface_real_Known sheet_answers_presets_unknown(void) {
+    surface_Powers powers = {.reflectance_s = 0.0, .reflectance_p = 0.0, .transmittance_s = 0.0,
+            .transmittance_p = 0.0};
+    return (surface_real_Known){.known = false, .powers = powers};
+}
+
+// The powers with the first n layers.
+static surface_real_Known sheet_answers_presets_layers_powers(thin_film_solver_ThinFilmLayer_x16 layers, uint64_t n,
+        gate_limits_Surface surface, double wavelength_nm) {
+    thin_film_layers_Prepared value = thin_film_coating_prepare(thin_film_coating_Coating_Multilayer,
+            surface.n_substrate < surface.n_incident, n, surface.n_incident, surface.n_substrate, surface.angle_rad,
+            wavelength_nm);
+    if (value.tag == thin_film_layers_Prepared_Answered) {
+        return sheet_answers_presets_unknown();
+    }
+    bool reversed = value.as.Layers.reversed;
+    thin_film_solver_Incidence light = value.as.Layers.light;
+    surface_real_Stack none = surface_real_no_films();
+    surface_real_Stack stack = surface_real_films_join_all(light, layers, n, reversed, none);
+    return surface_real_finish(light, stack);
+}
+
+// The powers of a preset coating, and whether they are known; those of another are not.
+static surface_real_Known sheet_answers_presets_preset_powers(thin_film_SurfaceCoating coating,
+        gate_limits_Surface surface, double wavelength_nm) {
+    switch (coating.tag) {
+    case thin_film_SurfaceCoating_MgF2:
+    {
+        double design_wavelength_nm = coating.as.MgF2;
+        return sheet_answers_presets_layers_powers(sheet_answers_presets_mgf2(design_wavelength_nm), 1, surface,
+                wavelength_nm);
+    }
+    case thin_film_SurfaceCoating_BroadbandAr:
+        return sheet_answers_presets_layers_powers(sheet_answers_presets_broadband(), 4, surface, wavelength_nm);
+    case thin_film_SurfaceCoating_HighReflectanceMirror:
+        return sheet_answers_presets_layers_powers(sheet_answers_presets_mirror(), 15, surface, wavelength_nm);
+    case thin_film_SurfaceCoating_IdealAr:
+        return sheet_answers_presets_unknown();
+    default: // thin_film_SurfaceCoating_Custom
+        return sheet_answers_presets_unknown();
+    }
+}
+
+// The n layers after the block at a place, at a wavelength, in the sheet's order: read in one walk.
+static thin_film_solver_ThinFilmLayer_x16 sheet_answers_quick_layers_after(slice_u8 src, uint64_t at, uint64_t n,
+        double wavelength_nm) {
+    thin_film_solver_ThinFilmLayer_x16 layers = {{{0}}};
+    uint64_t place = sheet_next_place(src, at);
+    uint64_t i = 0;
+    while (i < n) {
+        layers.at[i] = sheet_values_layer_at(src, place, wavelength_nm);
+        place = sheet_next_place(src, place);
+        i = i + 1;
+    }
+    return layers;
+}
+
+// The products of the n films after the block at a place, in their order or reversed, one by one: for one or two films
+// arrays do not pay.
 static surface_real_Stack sheet_answers_quick_stack_at(slice_u8 src, uint64_t at, uint64_t n, bool reversed,
         double wavelength_nm, thin_film_solver_Incidence light) {
     surface_real_Stack stack = surface_real_no_films();
-    surface_real_Met older = surface_real_none_met();
-    surface_real_Met newer = surface_real_none_met();
     uint64_t i = 0;
     while (i < n) {
         uint64_t j = thin_film_layers_nth_index(reversed, n, i);
         thin_film_solver_ThinFilmLayer layer = sheet_answers_layer_after(src, at, j, wavelength_nm);
-        surface_real_Met met = surface_real_meet(light, layer, older);
-        surface_real_Film film = met.film;
-        stack = surface_real_join(stack, film);
-        older = newer;
-        newer = met;
+        stack = surface_real_join(stack, surface_real_film_of(light, layer));
         i = i + 1;
     }
     return stack;
 }
 
-// The powers with these films.
+// The powers over real numbers, and whether they are known; no admitted sheet has more than 16 layers after a SURFACE.
+static surface_real_Known sheet_answers_quick_quick_powers(slice_u8 src, uint64_t at, uint64_t n, bool reversed,
+        double wavelength_nm, thin_film_solver_Incidence light) {
+    if (16 < n) {
+        return sheet_answers_presets_unknown();
+    }
+    if (n <= 2) {
+        return surface_real_finish(light, sheet_answers_quick_stack_at(src, at, n, reversed, wavelength_nm, light));
+    }
+    thin_film_solver_ThinFilmLayer_x16 layers = sheet_answers_quick_layers_after(src, at, n, wavelength_nm);
+    surface_real_Stack none = surface_real_no_films();
+    surface_real_Stack stack = surface_real_films_join_all(light, layers, n, reversed, none);
+    return surface_real_finish(light, stack);
+}
+
+// The powers with the n films after the block at a place.
 static surface_Powers sheet_answers_quick_powers_with(slice_u8 src, uint64_t at, uint64_t n, bool reversed,
         double wavelength_nm, thin_film_solver_Incidence light) {
-    surface_real_Known quick = surface_real_finish(light,
-            sheet_answers_quick_stack_at(src, at, n, reversed, wavelength_nm, light));
+    surface_real_Known quick = sheet_answers_quick_quick_powers(src, at, n, reversed, wavelength_nm, light);
     if (quick.known) {
         surface_Powers powers = quick.powers;
         return powers;
@@ -4029,6 +5713,11 @@ static sheet_answers_PowersReply sheet_answers_quick_answered(thin_film_layers_E
 // The powers of a coated surface at a place with the n layers after it.
 static sheet_answers_PowersReply sheet_answers_quick_coated_powers(slice_u8 src, uint64_t at, uint64_t n,
         gate_limits_Surface surface, thin_film_SurfaceCoating coating, double wavelength_nm) {
+    surface_real_Known preset = sheet_answers_presets_preset_powers(coating, surface, wavelength_nm);
+    if (preset.known) {
+        surface_Powers powers = preset.powers;
+        return (sheet_answers_PowersReply){.tag = sheet_answers_PowersReply_Powers, .as.Powers = powers};
+    }
     thin_film_layers_Prepared value = thin_film_reading_prepare_surface(coating, n, surface.n_incident,
             surface.n_substrate, surface.angle_rad, wavelength_nm);
     if (value.tag == thin_film_layers_Prepared_Answered) {
@@ -4051,6 +5740,42 @@ static sheet_answers_PowersReply sheet_answers_powers_at(slice_u8 src, uint64_t 
     }
     thin_film_SurfaceCoating coating = value.as.Coated;
     return sheet_answers_quick_coated_powers(src, at, n, surface, coating, wavelength_nm);
+}
+
+// The light that meets a surface, from the sine and the cosine of its angle.
+static thin_film_solver_Incidence sheet_answers_quick_light_with(gate_limits_Surface surface, math_trig_SinCos theta,
+        double wavelength_nm) {
+    return (thin_film_solver_Incidence){.n_incident = surface.n_incident, .n_substrate = surface.n_substrate,
+            .cos_theta0 = theta.cos, .snell = surface.n_incident * theta.sin, .wavelength_nm = wavelength_nm};
+}
+
+// The powers of a surface with layers of its own, from the sine and the cosine of its angle.
+static sheet_answers_PowersReply sheet_answers_quick_custom_powers(slice_u8 src, uint64_t at, uint64_t n,
+        gate_limits_Surface surface, math_trig_SinCos theta, double wavelength_nm) {
+    if (n <= 64) {
+        if (thin_film_valid_valid(surface.n_incident, surface.n_substrate, surface.angle_rad, wavelength_nm)) {
+            bool reversed = surface.n_substrate < surface.n_incident;
+            thin_film_solver_Incidence light = sheet_answers_quick_light_with(surface, theta, wavelength_nm);
+            return (sheet_answers_PowersReply){.tag = sheet_answers_PowersReply_Powers,
+                    .as.Powers = sheet_answers_quick_powers_with(src, at, n, reversed, wavelength_nm, light)};
+        }
+    }
+    thin_film_SurfaceCoating coating = {.tag = thin_film_SurfaceCoating_Custom,
+            .as.Custom = thin_film_coating_Coating_Multilayer};
+    return sheet_answers_quick_coated_powers(src, at, n, surface, coating, wavelength_nm);
+}
+
+// The same from the sine and the cosine of its angle.
+static sheet_answers_PowersReply sheet_answers_powers_with_angle(slice_u8 src, uint64_t at, uint64_t n,
+        gate_limits_Surface surface, math_trig_SinCos theta, double wavelength_nm) {
+    if (surface.coating == 0) {
+        return (sheet_answers_PowersReply){.tag = sheet_answers_PowersReply_Powers,
+                .as.Powers = surface_bare_powers_with(surface, theta.cos)};
+    }
+    if (surface.coating == 5) {
+        return sheet_answers_quick_custom_powers(src, at, n, surface, theta, wavelength_nm);
+    }
+    return sheet_answers_powers_at(src, at, n, surface, wavelength_nm);
 }
 
 // The answers of the surface at a place with the n layers after it.
@@ -4148,6 +5873,30 @@ static bool gate_metal_holds(slice_u8 src, uint64_t at, double wavelength_nm) {
     return gate_metal_layers(src, sheet_next_place(src, at), n, wavelength_nm);
 }
 
+// The sine and the cosine of the SURFACE at a place, from the i-th that are kept, if these are its own.
+static math_trig_SinCos gate_kept_at(uint64_t at, double angle_rad, uint64_t i, const u64_x64 *places,
+        const f64_x64 *sines, const f64_x64 *cosines) {
+    uint64_t j = i % 64;
+    if (0 < at) {
+        if (places->at[j] == at) {
+            return (math_trig_SinCos){.sin = sines->at[j], .cos = cosines->at[j]};
+        }
+    }
+    return math_trig_sin_cos(angle_rad);
+}
+
+// The SURFACE at a place is judged, and its sine and cosine are the i-th that are kept.
+static gate_limits_Judgement gate_judge_keeping(slice_u8 src, uint64_t at, uint64_t i, u64_x64 *places,
+        f64_x64 *sines, f64_x64 *cosines) {
+    gate_limits_Surface surface = sheet_values_surface_at(src, at);
+    math_trig_SinCos theta = math_trig_sin_cos(surface.angle_rad);
+    uint64_t j = i % 64;
+    places->at[j] = at;
+    sines->at[j] = theta.sin;
+    cosines->at[j] = theta.cos;
+    return gate_limits_judge_with(surface, theta);
+}
+
 // A LAYER, or else its SURFACE under the limits of metal films.
 static bool gate_plain_stands(slice_u8 src, uint64_t at, uint64_t surface, double wavelength_nm, double snell) {
     return gate_limits_layer_within(snell, sheet_values_plain_at(src, at))
@@ -4160,8 +5909,9 @@ static bool gate_cauchy_stands(slice_u8 src, uint64_t at, uint64_t surface, doub
             || gate_metal_holds(src, surface, wavelength_nm);
 }
 
-// The block at a place, at a wavelength and after the SURFACE at another.
-static gate_Passage gate_judge(slice_u8 src, uint64_t at, uint64_t surface, double wavelength_nm, double snell) {
+// The block at a place, at a wavelength and after the SURFACE at another, which was the i-th.
+static gate_Passage gate_judge(slice_u8 src, uint64_t at, uint64_t surface, double wavelength_nm, double snell,
+        uint64_t i, u64_x64 *places, f64_x64 *sines, f64_x64 *cosines) {
     uint32_t kind = sheet_kind_at(src, at);
     if (kind == 2) {
         sheet_values_Beam beam = sheet_values_beam_at(src, at);
@@ -4169,7 +5919,7 @@ static gate_Passage gate_judge(slice_u8 src, uint64_t at, uint64_t surface, doub
                 .surface = surface};
     }
     if (kind == 3) {
-        gate_limits_Judgement judgement = gate_limits_judge_surface(sheet_values_surface_at(src, at));
+        gate_limits_Judgement judgement = gate_judge_keeping(src, at, i, places, sines, cosines);
         return (gate_Passage){.passes = judgement.passes, .snell = judgement.snell, .surface = at};
     }
     if (kind == 4) {
@@ -4187,20 +5937,30 @@ static gate_Passage gate_judge(slice_u8 src, uint64_t at, uint64_t surface, doub
     return (gate_Passage){.passes = true, .snell = snell, .surface = surface};
 }
 
+// One more of 64 where a SURFACE has taken the place of another.
+static uint64_t gate_next_slot(uint64_t i, uint64_t before, uint64_t surface) {
+    if (surface == before) {
+        return i;
+    }
+    return (i % 64 + 1) % 64;
+}
+
 // The limits of a sheet that is in grammar, block after block, each layer at the wavelength that its SURFACE is met with.
-static gate_Gated gate_limits(slice_u8 src, uint32_t count) {
+static gate_Gated gate_limits(slice_u8 src, uint32_t count, u64_x64 *places, f64_x64 *sines, f64_x64 *cosines) {
     uint64_t total = src.count / 4;
     sheet_values_Beam beam = sheet_values_beam_of(src);
     double wavelength_nm = beam.wavelength_nm;
     uint64_t at = 0;
     uint64_t surface = 0;
     double snell = 0.0;
+    uint64_t i = 0;
     while (at < total) {
         wavelength_nm = sheet_values_met_with(src, at, wavelength_nm);
-        gate_Passage passage = gate_judge(src, at, surface, wavelength_nm, snell);
+        gate_Passage passage = gate_judge(src, at, surface, wavelength_nm, snell, i, places, sines, cosines);
         if (!passage.passes) {
             return gate_outside(at);
         }
+        i = gate_next_slot(i, surface, passage.surface);
         snell = passage.snell;
         surface = passage.surface;
         at = sheet_next_place(src, at);
@@ -4208,18 +5968,26 @@ static gate_Gated gate_limits(slice_u8 src, uint32_t count) {
     return (gate_Gated){.tag = gate_Gated_Admitted, .as.Admitted = count};
 }
 
-// The gate: the length, then the grammar, then the limits.
-static gate_Gated gate_gate(slice_u8 src) {
+// The gate: the length, then the grammar, then the limits. What is kept stays right.
+static gate_Gated gate_gate_keeping(slice_u8 src, u64_x64 *places, f64_x64 *sines, f64_x64 *cosines) {
     if (!gate_length_fits(src)) {
         return (gate_Gated){.tag = gate_Gated_Refused, .as.Refused = {.number = 4, .place = 0}};
     }
     sheet_Verdict value = sheet_grammar(src);
     if (value.tag == sheet_Verdict_Whole) {
         uint32_t count = value.as.Whole;
-        return gate_limits(src, count);
+        return gate_limits(src, count, places, sines, cosines);
     }
     uint64_t place = value.as.Fault;
     return (gate_Gated){.tag = gate_Gated_Refused, .as.Refused = {.number = 5, .place = place}};
+}
+
+// The gate alone.
+static gate_Gated gate_gate(slice_u8 src) {
+    u64_x64 places = {{0}};
+    f64_x64 sines = {{0}};
+    f64_x64 cosines = {{0}};
+    return gate_gate_keeping(src, &places, &sines, &cosines);
 }
 
 // The layer of either kind at a place, at a wavelength.
@@ -4246,8 +6014,11 @@ static bool gate_layers_pass(slice_u8 src, uint64_t at, uint64_t n, double wavel
 
 // The layers of the SURFACE at a place, under either set of limits.
 static bool gate_surface_holds(slice_u8 src, uint64_t at, double wavelength_nm) {
-    gate_limits_Judgement judgement = gate_limits_judge_surface(sheet_values_surface_at(src, at));
     uint64_t n = sheet_layer_run(src, at);
+    if (n == 0) {
+        return true;
+    }
+    gate_limits_Judgement judgement = gate_limits_judge_surface(sheet_values_surface_at(src, at));
     uint64_t place = sheet_next_place(src, at);
     return gate_layers_pass(src, place, n, wavelength_nm, judgement.snell)
             || gate_metal_holds(src, at, wavelength_nm);
@@ -4268,6 +6039,11 @@ static bool gate_layers_hold(slice_u8 src, uint64_t at, uint32_t n, double wavel
         i = i + 1;
     }
     return true;
+}
+
+// A wavelength, for n SURFACEs, the first of which begins at a place.
+static bool gate_holds_from(slice_u8 src, uint64_t at, uint32_t n, double wavelength_nm) {
+    return gate_limits_wavelength_passes(wavelength_nm) && gate_layers_hold(src, at, n, wavelength_nm);
 }
 
 // A wavelength, with done of a sheet's count of SURFACEs behind it.
@@ -4486,48 +6262,67 @@ static train_steps_Chosen train_steps_choose(bool reflected, surface_Powers r) {
     return (train_steps_Chosen){.s = r.transmittance_s, .p = r.transmittance_p};
 }
 
-// Of the surface at a place with the n layers after it. No surface within the limits is refused.
-static train_steps_Chosen train_steps_chosen_at(slice_u8 src, uint64_t at, uint64_t n, double wavelength_nm) {
-    gate_limits_Surface surface = sheet_values_surface_at(src, at);
-    sheet_answers_PowersReply value = sheet_answers_powers_at(src, at, n, surface, wavelength_nm);
-    if (value.tag == sheet_answers_PowersReply_Powers) {
-        surface_Powers r = value.as.Powers;
-        return train_steps_choose(surface.reflected, r);
+// No surface within the limits is refused.
+static train_steps_Chosen train_steps_chosen_of(bool reflected, sheet_answers_PowersReply reply) {
+    if (reply.tag == sheet_answers_PowersReply_Powers) {
+        surface_Powers r = reply.as.Powers;
+        return train_steps_choose(reflected, r);
     }
     return (train_steps_Chosen){.s = 0.0 / 0.0, .p = 0.0 / 0.0};
 }
 
-// The state after the surface at a place with the n layers after it, met with a wavelength.
-static train_steps_State train_steps_moved_from(slice_u8 src, uint64_t at, uint64_t n, double wavelength_nm,
-        train_steps_State state) {
-    train_steps_Chosen c = train_steps_chosen_at(src, at, n, wavelength_nm);
+// Of the surface at a place with the n layers after it.
+static train_steps_Chosen train_steps_chosen_at(slice_u8 src, uint64_t at, uint64_t n, double wavelength_nm) {
+    gate_limits_Surface surface = sheet_values_surface_at(src, at);
+    sheet_answers_PowersReply reply = sheet_answers_powers_at(src, at, n, surface, wavelength_nm);
+    return train_steps_chosen_of(surface.reflected, reply);
+}
+
+// The same with the sine and the cosine that the gate kept of the i-th surface.
+static train_steps_Chosen train_steps_chosen_kept(slice_u8 src, uint64_t at, uint64_t n, double wavelength_nm,
+        uint64_t i, const u64_x64 *places, const f64_x64 *sines, const f64_x64 *cosines) {
+    gate_limits_Surface surface = sheet_values_surface_at(src, at);
+    math_trig_SinCos theta = gate_kept_at(at, surface.angle_rad, i, places, sines, cosines);
+    sheet_answers_PowersReply reply = sheet_answers_powers_with_angle(src, at, n, surface, theta, wavelength_nm);
+    return train_steps_chosen_of(surface.reflected, reply);
+}
+
+// The state after a surface of these powers, met with a wavelength.
+static train_steps_State train_steps_moved(train_steps_Chosen c, double wavelength_nm, train_steps_State state) {
     return (train_steps_State){.done = state.done + 1, .s = state.s * c.s, .p = state.p * c.p,
             .wavelength_nm = wavelength_nm};
 }
 
 // The state after the surface that begins at a place, which is met with its own kind 7's wavelength or the one held.
-static train_steps_State train_steps_moved_at(slice_u8 src, uint64_t begin, train_steps_State state) {
+static train_steps_State train_steps_moved_at(slice_u8 src, uint64_t begin, train_steps_State state,
+        const u64_x64 *places, const f64_x64 *sines, const f64_x64 *cosines) {
     double wavelength_nm = sheet_values_met_with(src, begin, state.wavelength_nm);
     uint64_t at = sheet_onto(src, begin);
-    return train_steps_moved_from(src, at, sheet_layer_run(src, at), wavelength_nm, state);
+    uint64_t n = sheet_layer_run(src, at);
+    uint64_t i = (uint64_t)state.done;
+    train_steps_Chosen c = train_steps_chosen_kept(src, at, n, wavelength_nm, i, places, sines, cosines);
+    return train_steps_moved(c, wavelength_nm, state);
 }
 
 // One surface on from any state; a refusal leaves the state as it was.
 static train_steps_TrainReply train_steps_step(slice_u8 src, train_steps_State state) {
-    gate_Gated value = gate_gate(src);
+    u64_x64 places = {{0}};
+    f64_x64 sines = {{0}};
+    f64_x64 cosines = {{0}};
+    gate_Gated value = gate_gate_keeping(src, &places, &sines, &cosines);
     if (value.tag == gate_Gated_Admitted) {
         uint32_t count = value.as.Admitted;
         if (count <= state.done) {
             return (train_steps_TrainReply){.tag = train_steps_TrainReply_Refused,
                     .as.Refused = {.number = 7, .place = 0}};
         }
-        if (!gate_holds(src, state.done, count, state.wavelength_nm)) {
+        uint64_t begin = sheet_begin_of(src, state.done);
+        if (!gate_holds_from(src, begin, count - state.done, state.wavelength_nm)) {
             return (train_steps_TrainReply){.tag = train_steps_TrainReply_Refused,
                     .as.Refused = {.number = 11, .place = 0}};
         }
-        uint64_t begin = sheet_begin_of(src, state.done);
         return (train_steps_TrainReply){.tag = train_steps_TrainReply_State,
-                .as.State = train_steps_moved_at(src, begin, state)};
+                .as.State = train_steps_moved_at(src, begin, state, &places, &sines, &cosines)};
     }
     refusal_Refusal r = value.as.Refused;
     return (train_steps_TrainReply){.tag = train_steps_TrainReply_Refused, .as.Refused = r};
@@ -4550,7 +6345,8 @@ static train_steps_TrainReply train_steps_retune(slice_u8 src, train_steps_State
 }
 
 // The powers after each of count surfaces, written to a list that has room for them.
-static void train_steps_write_each(slice_u8 src, uint64_t count, slice_mut_f64 list) {
+static void train_steps_write_each(slice_u8 src, uint64_t count, const u64_x64 *places, const f64_x64 *sines,
+        const f64_x64 *cosines, slice_mut_f64 list) {
     sheet_values_Beam beam = sheet_values_beam_of(src);
     double s = beam.s;
     double p = beam.p;
@@ -4560,48 +6356,199 @@ static void train_steps_write_each(slice_u8 src, uint64_t count, slice_mut_f64 l
     while (i < count) {
         wavelength_nm = sheet_values_met_with(src, begin, wavelength_nm);
         uint64_t at = sheet_onto(src, begin);
-        uint64_t n = sheet_layer_run(src, at);
-        train_steps_Chosen c = train_steps_chosen_at(src, at, n, wavelength_nm);
+        sheet_LayerRun run = sheet_layers_on(src, at);
+        uint64_t n = run.count;
+        train_steps_Chosen c = train_steps_chosen_kept(src, at, n, wavelength_nm, i, places, sines, cosines);
         s = s * c.s;
         p = p * c.p;
         list.at[2 * i] = s;
         list.at[2 * i + 1] = p;
-        begin = sheet_place_on(src, at, n + 1);
+        begin = run.next;
         i = i + 1;
     }
-}
-
-// The state after count surfaces from the start, with a wavelength in place of the BEAM's; it gates nothing.
-static train_steps_State train_steps_run_at(slice_u8 src, uint32_t count, double wavelength_nm) {
-    sheet_values_Beam beam = sheet_values_beam_of(src);
-    train_steps_State state = {.done = 0, .s = beam.s, .p = beam.p, .wavelength_nm = wavelength_nm};
-    uint64_t begin = sheet_begin_of(src, 0);
-    uint32_t i = 0;
-    while (i < count) {
-        double met_nm = sheet_values_met_with(src, begin, state.wavelength_nm);
-        uint64_t at = sheet_onto(src, begin);
-        uint64_t n = sheet_layer_run(src, at);
-        state = train_steps_moved_from(src, at, n, met_nm, state);
-        begin = sheet_place_on(src, at, n + 1);
-        i = i + 1;
-    }
-    return state;
 }
 
 // A run over the whole sheet from its start: s, p after each surface go to the lent list.
 static gate_Gated train_steps_run(slice_u8 src, slice_mut_f64 list) {
-    gate_Gated value = gate_gate(src);
+    u64_x64 places = {{0}};
+    f64_x64 sines = {{0}};
+    f64_x64 cosines = {{0}};
+    gate_Gated value = gate_gate_keeping(src, &places, &sines, &cosines);
     if (value.tag == gate_Gated_Admitted) {
         uint32_t count = value.as.Admitted;
         uint64_t n = (uint64_t)count;
         if (list.count < 2 * n) {
             return (gate_Gated){.tag = gate_Gated_Refused, .as.Refused = {.number = 8, .place = 0}};
         }
-        train_steps_write_each(src, n, list);
+        train_steps_write_each(src, n, &places, &sines, &cosines, list);
         return (gate_Gated){.tag = gate_Gated_Admitted, .as.Admitted = count};
     }
     refusal_Refusal r = value.as.Refused;
     return (gate_Gated){.tag = gate_Gated_Refused, .as.Refused = r};
+}
+
+// ==== train_lines
+//
+// A train at 16 lines of a band at once: surface after surface, and at each of them all lines together, so that what does
+// not hang on the wavelength is worked out once. Each line's state is that of train_steps.
+
+// Whether the n layers from a place on are of kind 4 and do not absorb.
+static bool train_lines_steady(slice_u8 src, uint64_t at, uint64_t n) {
+    uint64_t place = at;
+    uint64_t i = 0;
+    while (i < n) {
+        if (sheet_kind_at(src, place) == 6) {
+            return false;
+        }
+        thin_film_solver_ThinFilmLayer layer = sheet_values_plain_at(src, place);
+        if (!(layer.k == 0.0)) {
+            return false;
+        }
+        place = sheet_next_place(src, place);
+        i = i + 1;
+    }
+    return true;
+}
+
+// The products of the n layers of kind 4 after the block at a place at each line, in their order or reversed.
+static surface_lines_Stacks train_lines_stacks_at(slice_u8 src, uint64_t at, uint64_t n, bool reversed,
+        thin_film_solver_Incidence light, f64_x16 nm) {
+    uint64_t from = sheet_next_place(src, at);
+    surface_lines_Stacks stacks = surface_lines_no_lines();
+    uint64_t i = 0;
+    while (i < n) {
+        uint64_t j = thin_film_layers_nth_index(reversed, n, i);
+        thin_film_solver_ThinFilmLayer layer = sheet_values_plain_at(src, sheet_place_on(src, from, j));
+        stacks = surface_lines_join_lines(stacks, light, layer, nm);
+        i = i + 1;
+    }
+    return stacks;
+}
+
+// The powers at one line, of the surface at a place with n layers: from their product where that tells, or else as a run has them.
+static train_steps_Chosen train_lines_chosen_line(slice_u8 src, uint64_t at, uint64_t n, gate_limits_Surface surface,
+        thin_film_solver_Incidence light, surface_real_Stack stack) {
+    if (thin_film_valid_valid(surface.n_incident, surface.n_substrate, surface.angle_rad, light.wavelength_nm)) {
+        surface_real_Known last = surface_real_finish(light, stack);
+        if (last.known) {
+            surface_Powers powers = last.powers;
+            return train_steps_choose(surface.reflected, powers);
+        }
+        return train_steps_chosen_at(src, at, n, light.wavelength_nm);
+    }
+    return train_steps_chosen_at(src, at, n, light.wavelength_nm);
+}
+
+// Those at each line, of a surface with n layers of kind 4.
+static train_lines_Lines train_lines_quick_lines(slice_u8 src, uint64_t at, uint64_t n, gate_limits_Surface surface,
+        f64_x16 nm) {
+    thin_film_solver_Incidence light = thin_film_solver_Incidence_new(surface.n_incident, surface.n_substrate,
+            surface.angle_rad, 500.0);
+    bool reversed = surface.n_substrate < surface.n_incident;
+    surface_lines_Stacks stacks = train_lines_stacks_at(src, at, n, reversed, light, nm);
+    f64_x16 s = {{0}};
+    f64_x16 p = {{0}};
+    uint64_t i = 0;
+    while (i < 16) {
+        thin_film_solver_Incidence here = {.n_incident = light.n_incident, .n_substrate = light.n_substrate,
+                .cos_theta0 = light.cos_theta0, .snell = light.snell, .wavelength_nm = nm.at[i]};
+        train_steps_Chosen c = train_lines_chosen_line(src, at, n, surface, here, surface_lines_line_of(stacks, i));
+        s.at[i] = c.s;
+        p.at[i] = c.p;
+        i = i + 1;
+    }
+    return (train_lines_Lines){.s = s, .p = p};
+}
+
+// Those at each line, one after the other.
+static train_lines_Lines train_lines_each_line(slice_u8 src, uint64_t at, uint64_t n, f64_x16 nm) {
+    f64_x16 p = {{0}};
+    f64_x16 i = {{0}};
+    uint64_t c = 0;
+    while (c < 16) {
+        train_steps_Chosen value = train_steps_chosen_at(src, at, n, nm.at[c]);
+        p.at[c] = value.s;
+        i.at[c] = value.p;
+        c = c + 1;
+    }
+    return (train_lines_Lines){.s = p, .p = i};
+}
+
+// The powers at each line that s and p are multiplied by, of the surface at a place with the n layers after it.
+static train_lines_Lines train_lines_chosen_lines(slice_u8 src, uint64_t at, uint64_t n, f64_x16 nm) {
+    gate_limits_Surface surface = sheet_values_surface_at(src, at);
+    if (surface.coating == 5) {
+        if (n <= 64) {
+            if (train_lines_steady(src, sheet_next_place(src, at), n)) {
+                return train_lines_quick_lines(src, at, n, surface, nm);
+            }
+        }
+    }
+    return train_lines_each_line(src, at, n, nm);
+}
+
+// The wavelength that the surface that begins at a place is met with, at each line.
+static f64_x16 train_lines_met_lines(slice_u8 src, uint64_t begin, f64_x16 nm) {
+    f64_x16 i = {{0}};
+    uint64_t value = 0;
+    while (value < 16) {
+        i.at[value] = sheet_values_met_with(src, begin, nm.at[value]);
+        value = value + 1;
+    }
+    return i;
+}
+
+// Place by place.
+static f64_x16 train_lines_multiplied(f64_x16 x, f64_x16 y) {
+    f64_x16 z = y;
+    f64_x16 i = {{0}};
+    uint64_t value = 0;
+    while (value < 16) {
+        i.at[value] = x.at[value] * z.at[value];
+        value = value + 1;
+    }
+    return i;
+}
+
+// After the surface that begins at a place: the SURFACE with the n layers after it is at another.
+static train_lines_Course train_lines_moved_lines(slice_u8 src, uint64_t begin, uint64_t at, uint64_t n,
+        train_lines_Course course) {
+    f64_x16 held = course.nm;
+    f64_x16 s = course.s;
+    f64_x16 p = course.p;
+    f64_x16 nm = train_lines_met_lines(src, begin, held);
+    train_lines_Lines by = train_lines_chosen_lines(src, at, n, nm);
+    f64_x16 by_s = by.s;
+    f64_x16 by_p = by.p;
+    f64_x16 next_s = train_lines_multiplied(s, by_s);
+    f64_x16 next_p = train_lines_multiplied(p, by_p);
+    return (train_lines_Course){.nm = nm, .s = next_s, .p = next_p};
+}
+
+// s and p at each line after count surfaces from the start, with a line's wavelength in place of the BEAM's; it gates nothing.
+static train_lines_Lines train_lines_run_lines(slice_u8 src, uint32_t count, f64_x16 nm) {
+    sheet_values_Beam beam = sheet_values_beam_of(src);
+    f64_x16 value;
+    for (size_t each = 0; each < 16; each++) {
+        value.at[each] = beam.s;
+    }
+    f64_x16 value_2;
+    for (size_t each = 0; each < 16; each++) {
+        value_2.at[each] = beam.p;
+    }
+    train_lines_Course course = {.nm = nm, .s = value, .p = value_2};
+    uint64_t begin = sheet_begin_of(src, 0);
+    uint32_t i = 0;
+    while (i < count) {
+        uint64_t at = sheet_onto(src, begin);
+        uint64_t n = sheet_layer_run(src, at);
+        course = train_lines_moved_lines(src, begin, at, n, course);
+        begin = sheet_place_on(src, at, n + 1);
+        i = i + 1;
+    }
+    f64_x16 s = course.s;
+    f64_x16 p = course.p;
+    return (train_lines_Lines){.s = s, .p = p};
 }
 
 // ==== band
@@ -4632,11 +6579,58 @@ static uint64_t band_first_weight_outside(slice_u32 weights) {
     return i;
 }
 
+// Whether the gate takes a line's wavelength, where it is known or not whether all layers always pass.
+static bool band_line_passes(slice_u8 src, uint32_t count, bool always, double wavelength_nm) {
+    if (always) {
+        return gate_limits_wavelength_passes(wavelength_nm);
+    }
+    return gate_holds(src, 0, count, wavelength_nm);
+}
+
+// The n layers from a place on.
+static bool band_steady_layers_steady(slice_u8 src, uint64_t at, uint64_t n, double snell) {
+    uint64_t place = at;
+    uint64_t i = 0;
+    while (i < n) {
+        if (sheet_kind_at(src, place) == 6) {
+            return false;
+        }
+        if (!gate_limits_layer_within(snell, sheet_values_plain_at(src, place))) {
+            return false;
+        }
+        place = sheet_next_place(src, place);
+        i = i + 1;
+    }
+    return true;
+}
+
+// The layers of the SURFACE at a place.
+static bool band_steady_surface_steady(slice_u8 src, uint64_t at) {
+    gate_limits_Judgement judgement = gate_limits_judge_surface(sheet_values_surface_at(src, at));
+    uint64_t n = sheet_layer_run(src, at);
+    return band_steady_layers_steady(src, sheet_next_place(src, at), n, judgement.snell);
+}
+
+// Those of all of count SURFACEs.
+static bool band_steady_steady(slice_u8 src, uint32_t count) {
+    uint64_t place = sheet_begin_of(src, 0);
+    uint32_t i = 0;
+    while (i < count) {
+        if (!band_steady_surface_steady(src, place)) {
+            return false;
+        }
+        place = sheet_after_layers(src, place);
+        i = i + 1;
+    }
+    return true;
+}
+
 // The first line whose wavelength the gate refuses; their count where there is none.
 static uint64_t band_first_wavelength_outside(slice_u8 src, uint32_t count, slice_f64 wavelengths) {
+    bool always = band_steady_steady(src, count);
     uint64_t i = 0;
     while (i < wavelengths.count) {
-        if (!gate_holds(src, 0, count, wavelengths.at[i])) {
+        if (!band_line_passes(src, count, always, wavelengths.at[i])) {
             return i;
         }
         i = i + 1;
@@ -4644,9 +6638,32 @@ static uint64_t band_first_wavelength_outside(slice_u8 src, uint32_t count, slic
     return i;
 }
 
-// The train at a line, from its start to its last surface.
-static train_steps_State band_at_line(slice_u8 src, uint32_t count, double wavelength_nm) {
-    return train_steps_run_at(src, count, wavelength_nm);
+// The i-th wavelength; 500 nm past the last.
+static double band_nth_nm(slice_f64 wavelengths, uint64_t i) {
+    if (i < wavelengths.count) {
+        return wavelengths.at[i];
+    }
+    return 500.0;
+}
+
+// Sixteen wavelengths from one on.
+static f64_x16 band_sixteen_nm(slice_f64 wavelengths, uint64_t from) {
+    f64_x16 nm = {{0}};
+    uint64_t i = 0;
+    while (i < 16) {
+        nm.at[i] = band_nth_nm(wavelengths, from + i);
+        i = i + 1;
+    }
+    return nm;
+}
+
+// The trains at the sixteen lines that the i-th is among, from their start to their last surface: run at the first of them.
+static train_lines_Lines band_lines_at(slice_u8 src, uint32_t count, slice_f64 wavelengths, uint64_t i,
+        train_lines_Lines before) {
+    if (i % 16 == 0) {
+        return train_lines_run_lines(src, count, band_sixteen_nm(wavelengths, i));
+    }
+    return before;
 }
 
 // Each weight times each power is added up in the order of the lines, onto +0; the totals are divided by
@@ -4656,12 +6673,15 @@ static band_BandPowers band_weighed(slice_u8 src, uint32_t count, slice_f64 wave
     double s = 0.0;
     double p = 0.0;
     uint32_t whole = 0;
+    train_lines_Lines lines = {.s = {{0}}, .p = {{0}}};
     uint64_t i = 0;
     while (i < n) {
-        train_steps_State line = band_at_line(src, count, wavelengths.at[i]);
+        lines = band_lines_at(src, count, wavelengths, i, lines);
+        f64_x16 of_s = lines.s;
+        f64_x16 of_p = lines.p;
         uint32_t weight = weights.at[i];
-        s = s + (double)weight * line.s;
-        p = p + (double)weight * line.p;
+        s = s + (double)weight * of_s.at[i % 16];
+        p = p + (double)weight * of_p.at[i % 16];
         whole = whole + weight;
         i = i + 1;
     }
@@ -4722,6 +6742,28 @@ uint64_t dihkelu_evaluate(uint32_t code, double design_wavelength_nm, double n_i
     return c_call_packed(r_2);
 }
 
+// The same at many angles and wavelengths, angles_rad[i] and wavelengths_nm[i] being case i: writes the responses one
+// after the other and returns the count of their numbers; or a refusal: 1 for lists of unequal length, that of the first
+// case that is refused, 1 or 3, with its index as the place, then 8.
+uint64_t dihkelu_evaluate_list(uint32_t code, double design_wavelength_nm, double n_incident, double n_substrate,
+        const double *angles_rad_at, size_t angles_rad_count, const double *wavelengths_nm_at,
+        size_t wavelengths_nm_count, const double *layers_at, size_t layers_count, double *list_at,
+        size_t list_count) {
+    slice_f64 angles_rad = {angles_rad_at, angles_rad_count};
+    slice_f64 wavelengths_nm = {wavelengths_nm_at, wavelengths_nm_count};
+    slice_f64 layers = {layers_at, layers_count};
+    slice_mut_f64 list = {list_at, list_count};
+    return c_scan_evaluate_list(code, design_wavelength_nm, n_incident, n_substrate, angles_rad, wavelengths_nm,
+            layers, list);
+}
+
+// Which argument earned evaluate's refusal 1: 1 n_incident, 2 n_substrate, 3 the angle, 4 the wavelength, the first
+// of them that fails; 0 where none does.
+uint64_t dihkelu_invalid_argument(double n_incident, double n_substrate, double angle_incident_rad,
+        double wavelength_nm) {
+    return c_scan_invalid_argument(n_incident, n_substrate, angle_incident_rad, wavelength_nm);
+}
+
 // The layers that a text of the stack shorthand stands for, H, L and M being quarter waves of three
 // indices at the design wavelength: writes n, k, thickness of one after the other, as dihkelu_evaluate
 // takes them, and returns the count of these numbers; or a refusal: 1, 9, 10, then 8.
@@ -4759,6 +6801,141 @@ uint64_t dihkelu_reflectance_range(double n1_low, double n1_high, double n2_low,
 // count; or a refusal: 14.
 uint64_t dihkelu_quarter_waves(double n, double thickness_nm, double wavelength_nm, double *remainder_nm) {
     return c_quarter_waves_quarter_waves(n, thickness_nm, wavelength_nm, remainder_nm);
+}
+
+// Rs and Rp of a dielectric interface: writes both and returns 2; or 8.
+uint64_t dihkelu_fresnel_dielectric(double cos_theta_i, double n1, double n2, double *list_at, size_t list_count) {
+    slice_mut_f64 list = {list_at, list_count};
+    return c_fresnel_fresnel_dielectric(cos_theta_i, n1, n2, list);
+}
+
+// R and T of unpolarized light: writes both and returns 2; or 8.
+uint64_t dihkelu_fresnel_unpolarized(double cos_theta_i, double n1, double n2, double *list_at, size_t list_count) {
+    slice_mut_f64 list = {list_at, list_count};
+    return c_fresnel_fresnel_unpolarized(cos_theta_i, n1, n2, list);
+}
+
+// Schlick's approximation: writes it and returns 1; or 8.
+uint64_t dihkelu_schlick_approx(double cos_theta_i, double n1, double n2, double *list_at, size_t list_count) {
+    slice_mut_f64 list = {list_at, list_count};
+    return c_fresnel_schlick_approx(cos_theta_i, n1, n2, list);
+}
+
+// The Jones matrices of a bare surface, of the reflected light and of the transmitted: writes them and returns 16; or
+// a refusal: 1, then 8.
+uint64_t dihkelu_surface_fresnel_jones(double n1, double n2, double angle_i_rad, double *list_at, size_t list_count) {
+    slice_mut_f64 list = {list_at, list_count};
+    return c_fresnel_surface_fresnel_jones(n1, n2, angle_i_rad, list);
+}
+
+// Coating::quarter_wave_ar: writes n, k, thickness of its layer and returns 3; or 8.
+uint64_t dihkelu_quarter_wave_ar(double n_ambient, double n_substrate, double design_wavelength_nm, double *list_at,
+        size_t list_count) {
+    slice_mut_f64 list = {list_at, list_count};
+    return c_presets_quarter_wave_ar(n_ambient, n_substrate, design_wavelength_nm, list);
+}
+
+// Coating::bragg_mirror: writes n, k, thickness of one layer after the other and returns the count of these numbers; or
+// a refusal: 3 for more than 31 pairs, then 8.
+uint64_t dihkelu_bragg_mirror(double n_high, double n_low, uint32_t pairs, double design_wavelength_nm,
+        double *list_at, size_t list_count) {
+    slice_mut_f64 list = {list_at, list_count};
+    return c_presets_bragg_mirror(n_high, n_low, pairs, design_wavelength_nm, list);
+}
+
+// SurfaceCoating::from_format_name: returns the code that dihkelu_evaluate has the coating by, 0 for none; or a
+// refusal: 2.
+uint64_t dihkelu_coating_from_name(const uint8_t *name_at, size_t name_count) {
+    slice_u8 name = {name_at, name_count};
+    return c_names_coating_from_name(name);
+}
+
+// JonesVector::to_stokes: writes S0 to S3 and returns 4.
+uint64_t dihkelu_to_stokes(const double *field_at, size_t field_count, double *list_at, size_t list_count) {
+    slice_f64 field = {field_at, field_count};
+    slice_mut_f64 list = {list_at, list_count};
+    return c_polarization_to_stokes(field, list);
+}
+
+// JonesVector::normalize: writes the vector and returns 4.
+uint64_t dihkelu_jones_normalize(const double *field_at, size_t field_count, double *list_at, size_t list_count) {
+    slice_f64 field = {field_at, field_count};
+    slice_mut_f64 list = {list_at, list_count};
+    return c_polarization_jones_normalize(field, list);
+}
+
+// JonesVector::intensity: writes it and returns 1.
+uint64_t dihkelu_jones_intensity(const double *field_at, size_t field_count, double *list_at, size_t list_count) {
+    slice_f64 field = {field_at, field_count};
+    slice_mut_f64 list = {list_at, list_count};
+    return c_polarization_jones_intensity(field, list);
+}
+
+// The degrees of polarization, of linear and of circular polarization, the orientation and the ellipticity: writes
+// them and returns 5.
+uint64_t dihkelu_stokes_figures(const double *beam_at, size_t beam_count, double *list_at, size_t list_count) {
+    slice_f64 beam = {beam_at, beam_count};
+    slice_mut_f64 list = {list_at, list_count};
+    return c_polarization_stokes_figures(beam, list);
+}
+
+// JonesMatrix::apply: writes the vector and returns 4.
+uint64_t dihkelu_jones_apply(const double *matrix_at, size_t matrix_count, const double *field_at, size_t field_count,
+        double *list_at, size_t list_count) {
+    slice_f64 matrix = {matrix_at, matrix_count};
+    slice_f64 field = {field_at, field_count};
+    slice_mut_f64 list = {list_at, list_count};
+    return c_polarization_jones_apply(matrix, field, list);
+}
+
+// JonesMatrix::mul: writes the product and returns 8.
+uint64_t dihkelu_jones_mul(const double *left_at, size_t left_count, const double *right_at, size_t right_count,
+        double *list_at, size_t list_count) {
+    slice_f64 left = {left_at, left_count};
+    slice_f64 right = {right_at, right_count};
+    slice_mut_f64 list = {list_at, list_count};
+    return c_polarization_jones_mul(left, right, list);
+}
+
+// MuellerMatrix::apply: writes the Stokes vector and returns 4.
+uint64_t dihkelu_mueller_apply(const double *matrix_at, size_t matrix_count, const double *beam_at, size_t beam_count,
+        double *list_at, size_t list_count) {
+    slice_f64 matrix = {matrix_at, matrix_count};
+    slice_f64 beam = {beam_at, beam_count};
+    slice_mut_f64 list = {list_at, list_count};
+    return c_polarization_mueller_apply(matrix, beam, list);
+}
+
+// JonesMatrix::diattenuator of two amplitudes, each re, im: writes the matrix and returns 8.
+uint64_t dihkelu_diattenuator(const double *amplitudes_at, size_t amplitudes_count, double *list_at,
+        size_t list_count) {
+    slice_f64 amplitudes = {amplitudes_at, amplitudes_count};
+    slice_mut_f64 list = {list_at, list_count};
+    return c_polarization_diattenuator(amplitudes, list);
+}
+
+// JonesMatrix::linear_polarizer: writes the matrix and returns 8; or 8.
+uint64_t dihkelu_linear_polarizer(double angle_rad, double *list_at, size_t list_count) {
+    slice_mut_f64 list = {list_at, list_count};
+    return c_polarization_linear_polarizer(angle_rad, list);
+}
+
+// JonesMatrix::retarder.
+uint64_t dihkelu_retarder(double retardance_rad, double fast_axis_rad, double *list_at, size_t list_count) {
+    slice_mut_f64 list = {list_at, list_count};
+    return c_polarization_retarder(retardance_rad, fast_axis_rad, list);
+}
+
+// JonesMatrix::quarter_wave_plate.
+uint64_t dihkelu_quarter_wave_plate(double fast_axis_rad, double *list_at, size_t list_count) {
+    slice_mut_f64 list = {list_at, list_count};
+    return c_polarization_quarter_wave_plate(fast_axis_rad, list);
+}
+
+// JonesMatrix::half_wave_plate.
+uint64_t dihkelu_half_wave_plate(double fast_axis_rad, double *list_at, size_t list_count) {
+    slice_mut_f64 list = {list_at, list_count};
+    return c_polarization_half_wave_plate(fast_axis_rad, list);
 }
 
 // An answer of the gate as one number.

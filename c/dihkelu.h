@@ -13,12 +13,17 @@
  *
  * A call returns one number. Its high 32 bits are 0 where the call answers; the low 32 bits are then what the call
  * says below. Where it refuses, the high 32 bits are the documents' number of the refusal and the low 32 bits its
- * place, a word of the sheet, a byte of the text or a line of the band counted from 0; the place is 0 where the documents give none.
+ * place, a word of the sheet, a byte of the text, a line of the band or a case of a list counted from 0; the place is 0 where the documents give none.
  *
- *   1  evaluate: the Rust's InvalidParameter, an unknown code, or a count of layers that is no multiple of 3;
- *      stack: an index or the design wavelength is not positive and finite; to_mueller, mueller_born_wolf: there are
- *      not 8 numbers
- *   3  evaluate: more than 64 layers, where the code is that of explicit layers (any other ignores them)
+ *   1  evaluate: the Rust's InvalidParameter (dihkelu_invalid_argument says which argument), an unknown code, or a count of
+ *      layers that is no multiple of 3; evaluate_list: the same of the case at this place, or DIHKELU_CASES for lists of
+ *      unequal length;
+ *      stack: an index or the design wavelength is not positive and finite; surface_fresnel_jones: the Rust's
+ *      InvalidParameter; to_mueller, mueller_born_wolf and the calls on vectors and matrices: there are not 4, 8 or 16
+ *      numbers, as the call has it
+ *   2  coating_from_name: over 32 bytes, at 32; else the byte at this place is over 127
+ *   3  evaluate, evaluate_list: more than 64 layers, where the code is that of explicit layers (any other ignores them);
+ *      bragg_mirror: more than 31 pairs
  *   4  the sheet's bytes are no multiple of 4, under 36 or over 30,500 (39,460 where the first word is 0x10000002)
  *   5  the word at this place is out of grammar
  *   6  the BEAM, SURFACE, layer or kind 7 at this place is outside the limits
@@ -42,18 +47,18 @@
  * it, or each number of a state. Every call answers or refuses for all bytes, all numbers and all counts; no call keeps anything between calls,
  * and any number of threads may call at once. Where an answer is not a number its bits may be those of any NaN.
  *
- * Link with libdihkelu.a and the C library's mathematics (-lm): its fmod is called. The proved library is for x86-64; the
- * one that is built from C (c/) is for machines of 64 bits.
+ * Link with libdihkelu.a and nothing else: of the C library memcpy and memset are called, at most. The proved library is
+ * for x86-64; the one that is built from C (c/) is for machines of 64 bits.
  *
  * WHAT THE CALLER OWES, since no callee can check it:
- *   - A sheet, a text, a list of layers, a Jones matrix, a band's wavelengths and weights and a list or an output that is
+ *   - A sheet, a text, a list of layers, a Jones matrix, angles, wavelengths, a band's weights and a list or an output that is
  *     written are each passed as a pointer and a count of elements (bytes, doubles or uint32_t), two arguments one after
  *     the other. So many elements are there, readable, and writable in the list and the output; a pointer to doubles or
  *     weights is aligned for them. Where the count is 0 the pointer may be anything, null too: nothing is read or written
  *     through it.
  *   - A number that is written, such as a state's s, is passed as a pointer to it, which is never null. The numbers of a
  *     state are apart from each other and from the sheet.
- *   - The list or the output overlaps neither the sheet nor the text nor the layers nor the Jones matrix nor the band, and
+ *   - The list or the output overlaps neither the sheet nor the text nor the layers nor the Jones matrix nor the band nor the angles, and
  *     no other thread writes
  *     any of them meanwhile.
  *   - One double that is written, remainder_nm, is a pointer that is not null, to a double that is there, aligned and writable.
@@ -222,6 +227,25 @@ DIHKELU_MUST_USE uint64_t dihkelu_evaluate(uint32_t code, double design_waveleng
                                            const double *layers, size_t layers_count, double *list,
                                            size_t list_count);
 
+/* So many cases are too many for one call: their doubles would be 2^32. */
+#define DIHKELU_CASES 0x10000000u
+
+/* The same at many angles and wavelengths: case i has angles_rad[i] and wavelengths_nm[i]. Writes 16 doubles a case, one
+ * case after the other, and returns how many these are. Refuses with 1 at DIHKELU_CASES where there are not as many
+ * wavelengths as angles, or so many cases or more; then as dihkelu_evaluate refuses the first case that it refuses, with 1
+ * or 3 at that case; then with 8. Nothing is written where one case is refused. */
+DIHKELU_MUST_USE uint64_t dihkelu_evaluate_list(uint32_t code, double design_wavelength_nm, double n_incident,
+                                                double n_substrate, const double *angles_rad, size_t angles_count,
+                                                const double *wavelengths_nm, size_t wavelengths_count,
+                                                const double *layers, size_t layers_count, double *list,
+                                                size_t list_count);
+
+/* Which argument earned a 1 of dihkelu_evaluate: returns 1 for n_incident, 2 for n_substrate, 3 for the angle, 4 for the
+ * wavelength, the first of them that is not finite or, but for the angle, not above zero; 0 where none is, and the 1 was
+ * for the code or the count of the layers' numbers. Refuses never. */
+DIHKELU_MUST_USE uint64_t dihkelu_invalid_argument(double n_incident, double n_substrate, double angle_incident_rad,
+                                                   double wavelength_nm);
+
 /* The most doubles that dihkelu_stack writes: 64 layers of 3. */
 #define DIHKELU_STACK 192
 
@@ -257,6 +281,94 @@ DIHKELU_MUST_USE uint64_t dihkelu_reflectance_range(double n1_low, double n1_hig
  * (+0) and below q. Refuses with 14, and leaves *remainder_nm. */
 DIHKELU_MUST_USE uint64_t dihkelu_quarter_waves(double n, double thickness_nm, double wavelength_nm,
                                                 double *remainder_nm);
+
+/* ---- fresnel.rs: any doubles are taken, as the Rust takes them */
+
+/* Rs and Rp of a dielectric interface met at an angle of this cosine, which is clamped to 0..1; 1, 1 under total internal
+ * reflection. Writes 2 doubles and returns 2; refuses with 8. */
+DIHKELU_MUST_USE uint64_t dihkelu_fresnel_dielectric(double cos_theta_i, double n1, double n2, double *list,
+                                                     size_t list_count);
+
+/* The same of unpolarized light: R, which is (Rs + Rp)/2, and T, which is what is left. Writes 2 doubles and returns 2;
+ * refuses with 8. */
+DIHKELU_MUST_USE uint64_t dihkelu_fresnel_unpolarized(double cos_theta_i, double n1, double n2, double *list,
+                                                      size_t list_count);
+
+/* Schlick's approximation of that R. Writes 1 double and returns 1; refuses with 8. */
+DIHKELU_MUST_USE uint64_t dihkelu_schlick_approx(double cos_theta_i, double n1, double n2, double *list,
+                                                 size_t list_count);
+
+/* How many doubles two Jones matrices are. */
+#define DIHKELU_TWO_JONES 16
+
+/* The Jones matrices of a bare surface, of the reflected light, then of the transmitted: 8 doubles each. Returns 16;
+ * refuses with 1, 8. */
+DIHKELU_MUST_USE uint64_t dihkelu_surface_fresnel_jones(double n1, double n2, double angle_i_rad, double *list,
+                                                        size_t list_count);
+
+/* ---- layers and names of coatings */
+
+/* A quarter wave of index sqrt(n_ambient n_substrate) at the design wavelength. Writes n, k, thickness in nm of its layer,
+ * as dihkelu_evaluate takes it, and returns 3; refuses with 8. */
+DIHKELU_MUST_USE uint64_t dihkelu_quarter_wave_ar(double n_ambient, double n_substrate, double design_wavelength_nm,
+                                                  double *list, size_t list_count);
+
+/* (H L)^pairs H, quarter waves of two indices. Writes n, k, thickness in nm of one layer after the other and returns how
+ * many doubles these are; refuses with 3 for more than 31 pairs, then with 8. */
+DIHKELU_MUST_USE uint64_t dihkelu_bragg_mirror(double n_high, double n_low, uint32_t pairs, double design_wavelength_nm,
+                                               double *list, size_t list_count);
+
+/* The coating that a name stands for, of name_count bytes (no byte 0 ends it): returns the code that dihkelu_evaluate has
+ * it by, 1 IdealAr, 2 MgF2 at a design wavelength of 550 nm, 3 BroadbandAr, 4 HighReflectanceMirror; 0 for none, as of an
+ * empty name. An unknown name is IdealAr, as in the Rust. Refuses with 2. */
+DIHKELU_MUST_USE uint64_t dihkelu_coating_from_name(const uint8_t *name, size_t name_count);
+
+/* ---- Jones and Stokes vectors. A Jones vector is 4 doubles, Ex and Ey, each re, im; a Stokes vector is S0 to S3; a Jones
+ * matrix is 8 doubles, as dihkelu_to_mueller takes it; a Mueller matrix is 16, row after row. A list of another count is
+ * refused with 1, then a list that is too short with 8. */
+
+/* JonesVector::to_stokes. Writes S0 to S3 and returns 4; refuses with 1, 8. */
+DIHKELU_MUST_USE uint64_t dihkelu_to_stokes(const double *field, size_t field_count, double *list, size_t list_count);
+
+/* JonesVector::normalize, to intensity 1. Writes the vector and returns 4; refuses with 1, 8. */
+DIHKELU_MUST_USE uint64_t dihkelu_jones_normalize(const double *field, size_t field_count, double *list,
+                                                  size_t list_count);
+
+/* JonesVector::intensity. Writes 1 double and returns 1; refuses with 1, 8. */
+DIHKELU_MUST_USE uint64_t dihkelu_jones_intensity(const double *field, size_t field_count, double *list,
+                                                  size_t list_count);
+
+/* Of a Stokes vector: the degree of polarization, of linear and of circular polarization, the orientation and the
+ * ellipticity in radians. Writes 5 doubles and returns 5; refuses with 1, 8. */
+DIHKELU_MUST_USE uint64_t dihkelu_stokes_figures(const double *beam, size_t beam_count, double *list,
+                                                 size_t list_count);
+
+/* ---- Jones and Mueller matrices */
+
+/* JonesMatrix::apply. Writes the vector and returns 4; refuses with 1, 8. */
+DIHKELU_MUST_USE uint64_t dihkelu_jones_apply(const double *matrix, size_t matrix_count, const double *field,
+                                              size_t field_count, double *list, size_t list_count);
+
+/* JonesMatrix::mul: left times right, light passing right first. Writes the matrix and returns 8; refuses with 1, 8. */
+DIHKELU_MUST_USE uint64_t dihkelu_jones_mul(const double *left, size_t left_count, const double *right,
+                                            size_t right_count, double *list, size_t list_count);
+
+/* MuellerMatrix::apply. Writes the Stokes vector and returns 4; refuses with 1, 8. */
+DIHKELU_MUST_USE uint64_t dihkelu_mueller_apply(const double *matrix, size_t matrix_count, const double *beam,
+                                                size_t beam_count, double *list, size_t list_count);
+
+/* JonesMatrix::diattenuator of two amplitudes, each re, im, such as the first four doubles of a response, which give its
+ * reflected light, and the next four its transmitted. Writes the matrix and returns 8; refuses with 1, 8. */
+DIHKELU_MUST_USE uint64_t dihkelu_diattenuator(const double *amplitudes, size_t amplitudes_count, double *list,
+                                               size_t list_count);
+
+/* A linear polarizer at an angle to the x-axis; a retarder, a quarter-wave and a half-wave plate, their fast axis at an
+ * angle. Each writes its Jones matrix and returns 8; refuses with 8. */
+DIHKELU_MUST_USE uint64_t dihkelu_linear_polarizer(double angle_rad, double *list, size_t list_count);
+DIHKELU_MUST_USE uint64_t dihkelu_retarder(double retardance_rad, double fast_axis_rad, double *list,
+                                           size_t list_count);
+DIHKELU_MUST_USE uint64_t dihkelu_quarter_wave_plate(double fast_axis_rad, double *list, size_t list_count);
+DIHKELU_MUST_USE uint64_t dihkelu_half_wave_plate(double fast_axis_rad, double *list, size_t list_count);
 
 #ifdef __cplusplus
 }

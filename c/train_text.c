@@ -36,20 +36,8 @@ typedef struct {
 } train_text_Digits;
 
 typedef struct {
-    uint8_t at[3];
-} u8_x3;
-
-typedef struct {
     uint8_t at[1];
 } u8_x1;
-
-typedef struct {
-    uint8_t at[4];
-} u8_x4;
-
-typedef struct {
-    uint8_t at[8];
-} u8_x8;
 
 typedef struct {
     double at[128];

@@ -14,12 +14,19 @@ module dihkelu
     integer(c_int32_t), parameter, public :: dihkelu_coated_count = 69
     integer(c_int32_t), parameter, public :: dihkelu_edition_1_count = 30500
     integer(c_int32_t), parameter, public :: dihkelu_lines_count = 64
+    integer(c_int32_t), parameter, public :: dihkelu_cases_count = 268435456
     integer(c_int32_t), parameter, public :: dihkelu_stack_count = 192
     integer(c_int32_t), parameter, public :: dihkelu_mueller_count = 16
+    integer(c_int32_t), parameter, public :: dihkelu_two_jones_count = 16
 
     public :: dihkelu_version, dihkelu_gate, dihkelu_start, dihkelu_step, dihkelu_retune, dihkelu_run, dihkelu_edition_1, &
-        dihkelu_band, dihkelu_answers, dihkelu_evaluate, dihkelu_stack, dihkelu_to_mueller, dihkelu_mueller_born_wolf, &
-        dihkelu_reflectance_range, dihkelu_quarter_waves, dihkelu_refusal, dihkelu_place, dihkelu_value
+        dihkelu_band, dihkelu_answers, dihkelu_evaluate, dihkelu_evaluate_list, dihkelu_invalid_argument, dihkelu_stack, &
+        dihkelu_to_mueller, dihkelu_mueller_born_wolf, dihkelu_reflectance_range, dihkelu_quarter_waves, &
+        dihkelu_fresnel_dielectric, dihkelu_fresnel_unpolarized, dihkelu_schlick_approx, dihkelu_surface_fresnel_jones, &
+        dihkelu_quarter_wave_ar, dihkelu_bragg_mirror, dihkelu_coating_from_name, dihkelu_to_stokes, &
+        dihkelu_jones_normalize, dihkelu_jones_intensity, dihkelu_stokes_figures, dihkelu_jones_apply, dihkelu_jones_mul, &
+        dihkelu_mueller_apply, dihkelu_diattenuator, dihkelu_linear_polarizer, dihkelu_retarder, &
+        dihkelu_quarter_wave_plate, dihkelu_half_wave_plate, dihkelu_refusal, dihkelu_place, dihkelu_value
 
     interface
         function dihkelu_version() bind(c, name='dihkelu_version') result(returned)
@@ -168,6 +175,42 @@ module dihkelu
             integer(c_int64_t) :: returned
         end function dihkelu_evaluate
 
+        ! The same at many angles and wavelengths: case i has angles_rad[i] and wavelengths_nm[i]. Writes 16 doubles a case, one
+        ! case after the other, and returns how many these are. Refuses with 1 at DIHKELU_CASES where there are not as many
+        ! wavelengths as angles, or so many cases or more; then as dihkelu_evaluate refuses the first case that it refuses, with 1
+        ! or 3 at that case; then with 8. Nothing is written where one case is refused.
+        function dihkelu_evaluate_list(code, design_wavelength_nm, n_incident, n_substrate, angles_rad, angles_count, &
+            wavelengths_nm, wavelengths_count, layers, layers_count, list, list_count) &
+            bind(c, name='dihkelu_evaluate_list') result(returned)
+            import :: c_double, c_int32_t, c_int64_t, c_size_t
+            integer(c_int32_t), value :: code
+            real(c_double), value :: design_wavelength_nm
+            real(c_double), value :: n_incident
+            real(c_double), value :: n_substrate
+            real(c_double), intent(in) :: angles_rad(*)
+            integer(c_size_t), value :: angles_count
+            real(c_double), intent(in) :: wavelengths_nm(*)
+            integer(c_size_t), value :: wavelengths_count
+            real(c_double), intent(in) :: layers(*)
+            integer(c_size_t), value :: layers_count
+            real(c_double), intent(inout) :: list(*)
+            integer(c_size_t), value :: list_count
+            integer(c_int64_t) :: returned
+        end function dihkelu_evaluate_list
+
+        ! Which argument earned a 1 of dihkelu_evaluate: returns 1 for n_incident, 2 for n_substrate, 3 for the angle, 4 for the
+        ! wavelength, the first of them that is not finite or, but for the angle, not above zero; 0 where none is, and the 1 was
+        ! for the code or the count of the layers' numbers. Refuses never.
+        function dihkelu_invalid_argument(n_incident, n_substrate, angle_incident_rad, wavelength_nm) &
+            bind(c, name='dihkelu_invalid_argument') result(returned)
+            import :: c_double, c_int64_t
+            real(c_double), value :: n_incident
+            real(c_double), value :: n_substrate
+            real(c_double), value :: angle_incident_rad
+            real(c_double), value :: wavelength_nm
+            integer(c_int64_t) :: returned
+        end function dihkelu_invalid_argument
+
         ! A stack in the coating makers' shorthand, such as "(HL)^7 H", of text_count bytes (no byte 0 ends it). H, L and M
         ! are quarter waves of n_h, n_l, n_m at the design wavelength: thickness design / (4 n), k 0. A whole number 1 to 99
         ! before a letter multiplies its thickness; a power ^1 to ^31 repeats the letter or bracket before it; brackets nest at
@@ -240,6 +283,229 @@ module dihkelu
             real(c_double), intent(inout) :: remainder_nm
             integer(c_int64_t) :: returned
         end function dihkelu_quarter_waves
+
+        ! Rs and Rp of a dielectric interface met at an angle of this cosine, which is clamped to 0..1; 1, 1 under total internal
+        ! reflection. Writes 2 doubles and returns 2; refuses with 8.
+        function dihkelu_fresnel_dielectric(cos_theta_i, n1, n2, list, list_count) &
+            bind(c, name='dihkelu_fresnel_dielectric') result(returned)
+            import :: c_double, c_int64_t, c_size_t
+            real(c_double), value :: cos_theta_i
+            real(c_double), value :: n1
+            real(c_double), value :: n2
+            real(c_double), intent(inout) :: list(*)
+            integer(c_size_t), value :: list_count
+            integer(c_int64_t) :: returned
+        end function dihkelu_fresnel_dielectric
+
+        ! The same of unpolarized light: R, which is (Rs + Rp)/2, and T, which is what is left. Writes 2 doubles and returns 2;
+        ! refuses with 8.
+        function dihkelu_fresnel_unpolarized(cos_theta_i, n1, n2, list, list_count) &
+            bind(c, name='dihkelu_fresnel_unpolarized') result(returned)
+            import :: c_double, c_int64_t, c_size_t
+            real(c_double), value :: cos_theta_i
+            real(c_double), value :: n1
+            real(c_double), value :: n2
+            real(c_double), intent(inout) :: list(*)
+            integer(c_size_t), value :: list_count
+            integer(c_int64_t) :: returned
+        end function dihkelu_fresnel_unpolarized
+
+        ! Schlick's approximation of that R. Writes 1 double and returns 1; refuses with 8.
+        function dihkelu_schlick_approx(cos_theta_i, n1, n2, list, list_count) bind(c, name='dihkelu_schlick_approx') &
+            result(returned)
+            import :: c_double, c_int64_t, c_size_t
+            real(c_double), value :: cos_theta_i
+            real(c_double), value :: n1
+            real(c_double), value :: n2
+            real(c_double), intent(inout) :: list(*)
+            integer(c_size_t), value :: list_count
+            integer(c_int64_t) :: returned
+        end function dihkelu_schlick_approx
+
+        ! The Jones matrices of a bare surface, of the reflected light, then of the transmitted: 8 doubles each. Returns 16;
+        ! refuses with 1, 8.
+        function dihkelu_surface_fresnel_jones(n1, n2, angle_i_rad, list, list_count) &
+            bind(c, name='dihkelu_surface_fresnel_jones') result(returned)
+            import :: c_double, c_int64_t, c_size_t
+            real(c_double), value :: n1
+            real(c_double), value :: n2
+            real(c_double), value :: angle_i_rad
+            real(c_double), intent(inout) :: list(*)
+            integer(c_size_t), value :: list_count
+            integer(c_int64_t) :: returned
+        end function dihkelu_surface_fresnel_jones
+
+        ! A quarter wave of index sqrt(n_ambient n_substrate) at the design wavelength. Writes n, k, thickness in nm of its layer,
+        ! as dihkelu_evaluate takes it, and returns 3; refuses with 8.
+        function dihkelu_quarter_wave_ar(n_ambient, n_substrate, design_wavelength_nm, list, list_count) &
+            bind(c, name='dihkelu_quarter_wave_ar') result(returned)
+            import :: c_double, c_int64_t, c_size_t
+            real(c_double), value :: n_ambient
+            real(c_double), value :: n_substrate
+            real(c_double), value :: design_wavelength_nm
+            real(c_double), intent(inout) :: list(*)
+            integer(c_size_t), value :: list_count
+            integer(c_int64_t) :: returned
+        end function dihkelu_quarter_wave_ar
+
+        ! (H L)^pairs H, quarter waves of two indices. Writes n, k, thickness in nm of one layer after the other and returns how
+        ! many doubles these are; refuses with 3 for more than 31 pairs, then with 8.
+        function dihkelu_bragg_mirror(n_high, n_low, pairs, design_wavelength_nm, list, list_count) &
+            bind(c, name='dihkelu_bragg_mirror') result(returned)
+            import :: c_double, c_int32_t, c_int64_t, c_size_t
+            real(c_double), value :: n_high
+            real(c_double), value :: n_low
+            integer(c_int32_t), value :: pairs
+            real(c_double), value :: design_wavelength_nm
+            real(c_double), intent(inout) :: list(*)
+            integer(c_size_t), value :: list_count
+            integer(c_int64_t) :: returned
+        end function dihkelu_bragg_mirror
+
+        ! The coating that a name stands for, of name_count bytes (no byte 0 ends it): returns the code that dihkelu_evaluate has
+        ! it by, 1 IdealAr, 2 MgF2 at a design wavelength of 550 nm, 3 BroadbandAr, 4 HighReflectanceMirror; 0 for none, as of an
+        ! empty name. An unknown name is IdealAr, as in the Rust. Refuses with 2.
+        function dihkelu_coating_from_name(name, name_count) bind(c, name='dihkelu_coating_from_name') result(returned)
+            import :: c_int64_t, c_int8_t, c_size_t
+            integer(c_int8_t), intent(in) :: name(*)
+            integer(c_size_t), value :: name_count
+            integer(c_int64_t) :: returned
+        end function dihkelu_coating_from_name
+
+        ! JonesVector::to_stokes. Writes S0 to S3 and returns 4; refuses with 1, 8.
+        function dihkelu_to_stokes(field, field_count, list, list_count) bind(c, name='dihkelu_to_stokes') &
+            result(returned)
+            import :: c_double, c_int64_t, c_size_t
+            real(c_double), intent(in) :: field(*)
+            integer(c_size_t), value :: field_count
+            real(c_double), intent(inout) :: list(*)
+            integer(c_size_t), value :: list_count
+            integer(c_int64_t) :: returned
+        end function dihkelu_to_stokes
+
+        ! JonesVector::normalize, to intensity 1. Writes the vector and returns 4; refuses with 1, 8.
+        function dihkelu_jones_normalize(field, field_count, list, list_count) bind(c, name='dihkelu_jones_normalize') &
+            result(returned)
+            import :: c_double, c_int64_t, c_size_t
+            real(c_double), intent(in) :: field(*)
+            integer(c_size_t), value :: field_count
+            real(c_double), intent(inout) :: list(*)
+            integer(c_size_t), value :: list_count
+            integer(c_int64_t) :: returned
+        end function dihkelu_jones_normalize
+
+        ! JonesVector::intensity. Writes 1 double and returns 1; refuses with 1, 8.
+        function dihkelu_jones_intensity(field, field_count, list, list_count) bind(c, name='dihkelu_jones_intensity') &
+            result(returned)
+            import :: c_double, c_int64_t, c_size_t
+            real(c_double), intent(in) :: field(*)
+            integer(c_size_t), value :: field_count
+            real(c_double), intent(inout) :: list(*)
+            integer(c_size_t), value :: list_count
+            integer(c_int64_t) :: returned
+        end function dihkelu_jones_intensity
+
+        ! Of a Stokes vector: the degree of polarization, of linear and of circular polarization, the orientation and the
+        ! ellipticity in radians. Writes 5 doubles and returns 5; refuses with 1, 8.
+        function dihkelu_stokes_figures(beam, beam_count, list, list_count) bind(c, name='dihkelu_stokes_figures') &
+            result(returned)
+            import :: c_double, c_int64_t, c_size_t
+            real(c_double), intent(in) :: beam(*)
+            integer(c_size_t), value :: beam_count
+            real(c_double), intent(inout) :: list(*)
+            integer(c_size_t), value :: list_count
+            integer(c_int64_t) :: returned
+        end function dihkelu_stokes_figures
+
+        ! JonesMatrix::apply. Writes the vector and returns 4; refuses with 1, 8.
+        function dihkelu_jones_apply(matrix, matrix_count, field, field_count, list, list_count) &
+            bind(c, name='dihkelu_jones_apply') result(returned)
+            import :: c_double, c_int64_t, c_size_t
+            real(c_double), intent(in) :: matrix(*)
+            integer(c_size_t), value :: matrix_count
+            real(c_double), intent(in) :: field(*)
+            integer(c_size_t), value :: field_count
+            real(c_double), intent(inout) :: list(*)
+            integer(c_size_t), value :: list_count
+            integer(c_int64_t) :: returned
+        end function dihkelu_jones_apply
+
+        ! JonesMatrix::mul: left times right, light passing right first. Writes the matrix and returns 8; refuses with 1, 8.
+        function dihkelu_jones_mul(left, left_count, right, right_count, list, list_count) &
+            bind(c, name='dihkelu_jones_mul') result(returned)
+            import :: c_double, c_int64_t, c_size_t
+            real(c_double), intent(in) :: left(*)
+            integer(c_size_t), value :: left_count
+            real(c_double), intent(in) :: right(*)
+            integer(c_size_t), value :: right_count
+            real(c_double), intent(inout) :: list(*)
+            integer(c_size_t), value :: list_count
+            integer(c_int64_t) :: returned
+        end function dihkelu_jones_mul
+
+        ! MuellerMatrix::apply. Writes the Stokes vector and returns 4; refuses with 1, 8.
+        function dihkelu_mueller_apply(matrix, matrix_count, beam, beam_count, list, list_count) &
+            bind(c, name='dihkelu_mueller_apply') result(returned)
+            import :: c_double, c_int64_t, c_size_t
+            real(c_double), intent(in) :: matrix(*)
+            integer(c_size_t), value :: matrix_count
+            real(c_double), intent(in) :: beam(*)
+            integer(c_size_t), value :: beam_count
+            real(c_double), intent(inout) :: list(*)
+            integer(c_size_t), value :: list_count
+            integer(c_int64_t) :: returned
+        end function dihkelu_mueller_apply
+
+        ! JonesMatrix::diattenuator of two amplitudes, each re, im, such as the first four doubles of a response, which give its
+        ! reflected light, and the next four its transmitted. Writes the matrix and returns 8; refuses with 1, 8.
+        function dihkelu_diattenuator(amplitudes, amplitudes_count, list, list_count) &
+            bind(c, name='dihkelu_diattenuator') result(returned)
+            import :: c_double, c_int64_t, c_size_t
+            real(c_double), intent(in) :: amplitudes(*)
+            integer(c_size_t), value :: amplitudes_count
+            real(c_double), intent(inout) :: list(*)
+            integer(c_size_t), value :: list_count
+            integer(c_int64_t) :: returned
+        end function dihkelu_diattenuator
+
+        ! A linear polarizer at an angle to the x-axis; a retarder, a quarter-wave and a half-wave plate, their fast axis at an
+        ! angle. Each writes its Jones matrix and returns 8; refuses with 8.
+        function dihkelu_linear_polarizer(angle_rad, list, list_count) bind(c, name='dihkelu_linear_polarizer') &
+            result(returned)
+            import :: c_double, c_int64_t, c_size_t
+            real(c_double), value :: angle_rad
+            real(c_double), intent(inout) :: list(*)
+            integer(c_size_t), value :: list_count
+            integer(c_int64_t) :: returned
+        end function dihkelu_linear_polarizer
+
+        function dihkelu_retarder(retardance_rad, fast_axis_rad, list, list_count) bind(c, name='dihkelu_retarder') &
+            result(returned)
+            import :: c_double, c_int64_t, c_size_t
+            real(c_double), value :: retardance_rad
+            real(c_double), value :: fast_axis_rad
+            real(c_double), intent(inout) :: list(*)
+            integer(c_size_t), value :: list_count
+            integer(c_int64_t) :: returned
+        end function dihkelu_retarder
+
+        function dihkelu_quarter_wave_plate(fast_axis_rad, list, list_count) bind(c, name='dihkelu_quarter_wave_plate') &
+            result(returned)
+            import :: c_double, c_int64_t, c_size_t
+            real(c_double), value :: fast_axis_rad
+            real(c_double), intent(inout) :: list(*)
+            integer(c_size_t), value :: list_count
+            integer(c_int64_t) :: returned
+        end function dihkelu_quarter_wave_plate
+
+        function dihkelu_half_wave_plate(fast_axis_rad, list, list_count) bind(c, name='dihkelu_half_wave_plate') &
+            result(returned)
+            import :: c_double, c_int64_t, c_size_t
+            real(c_double), value :: fast_axis_rad
+            real(c_double), intent(inout) :: list(*)
+            integer(c_size_t), value :: list_count
+            integer(c_int64_t) :: returned
+        end function dihkelu_half_wave_plate
     end interface
 
 contains

@@ -107,6 +107,33 @@ extern "C" {
         list: *mut f64,
         list_count: usize,
     ) -> u64;
+    /// The same at many angles and wavelengths: case i has angles_rad[i] and wavelengths_nm[i]. Writes 16 doubles a case, one
+    /// case after the other, and returns how many these are. Refuses with 1 at DIHKELU_CASES where there are not as many
+    /// wavelengths as angles, or so many cases or more; then as dihkelu_evaluate refuses the first case that it refuses, with 1
+    /// or 3 at that case; then with 8. Nothing is written where one case is refused.
+    pub fn dihkelu_evaluate_list(
+        code: u32,
+        design_wavelength_nm: f64,
+        n_incident: f64,
+        n_substrate: f64,
+        angles_rad: *const f64,
+        angles_count: usize,
+        wavelengths_nm: *const f64,
+        wavelengths_count: usize,
+        layers: *const f64,
+        layers_count: usize,
+        list: *mut f64,
+        list_count: usize,
+    ) -> u64;
+    /// Which argument earned a 1 of dihkelu_evaluate: returns 1 for n_incident, 2 for n_substrate, 3 for the angle, 4 for the
+    /// wavelength, the first of them that is not finite or, but for the angle, not above zero; 0 where none is, and the 1 was
+    /// for the code or the count of the layers' numbers. Refuses never.
+    pub fn dihkelu_invalid_argument(
+        n_incident: f64,
+        n_substrate: f64,
+        angle_incident_rad: f64,
+        wavelength_nm: f64,
+    ) -> u64;
     /// A stack in the coating makers' shorthand, such as "(HL)^7 H", of text_count bytes (no byte 0 ends it). H, L and M
     /// are quarter waves of n_h, n_l, n_m at the design wavelength: thickness design / (4 n), k 0. A whole number 1 to 99
     /// before a letter multiplies its thickness; a power ^1 to ^31 repeats the letter or bracket before it; brackets nest at
@@ -160,4 +187,137 @@ extern "C" {
         wavelength_nm: f64,
         remainder_nm: *mut f64,
     ) -> u64;
+    /// Rs and Rp of a dielectric interface met at an angle of this cosine, which is clamped to 0..1; 1, 1 under total internal
+    /// reflection. Writes 2 doubles and returns 2; refuses with 8.
+    pub fn dihkelu_fresnel_dielectric(
+        cos_theta_i: f64,
+        n1: f64,
+        n2: f64,
+        list: *mut f64,
+        list_count: usize,
+    ) -> u64;
+    /// The same of unpolarized light: R, which is (Rs + Rp)/2, and T, which is what is left. Writes 2 doubles and returns 2;
+    /// refuses with 8.
+    pub fn dihkelu_fresnel_unpolarized(
+        cos_theta_i: f64,
+        n1: f64,
+        n2: f64,
+        list: *mut f64,
+        list_count: usize,
+    ) -> u64;
+    /// Schlick's approximation of that R. Writes 1 double and returns 1; refuses with 8.
+    pub fn dihkelu_schlick_approx(
+        cos_theta_i: f64,
+        n1: f64,
+        n2: f64,
+        list: *mut f64,
+        list_count: usize,
+    ) -> u64;
+    /// The Jones matrices of a bare surface, of the reflected light, then of the transmitted: 8 doubles each. Returns 16;
+    /// refuses with 1, 8.
+    pub fn dihkelu_surface_fresnel_jones(
+        n1: f64,
+        n2: f64,
+        angle_i_rad: f64,
+        list: *mut f64,
+        list_count: usize,
+    ) -> u64;
+    /// A quarter wave of index sqrt(n_ambient n_substrate) at the design wavelength. Writes n, k, thickness in nm of its layer,
+    /// as dihkelu_evaluate takes it, and returns 3; refuses with 8.
+    pub fn dihkelu_quarter_wave_ar(
+        n_ambient: f64,
+        n_substrate: f64,
+        design_wavelength_nm: f64,
+        list: *mut f64,
+        list_count: usize,
+    ) -> u64;
+    /// (H L)^pairs H, quarter waves of two indices. Writes n, k, thickness in nm of one layer after the other and returns how
+    /// many doubles these are; refuses with 3 for more than 31 pairs, then with 8.
+    pub fn dihkelu_bragg_mirror(
+        n_high: f64,
+        n_low: f64,
+        pairs: u32,
+        design_wavelength_nm: f64,
+        list: *mut f64,
+        list_count: usize,
+    ) -> u64;
+    /// The coating that a name stands for, of name_count bytes (no byte 0 ends it): returns the code that dihkelu_evaluate has
+    /// it by, 1 IdealAr, 2 MgF2 at a design wavelength of 550 nm, 3 BroadbandAr, 4 HighReflectanceMirror; 0 for none, as of an
+    /// empty name. An unknown name is IdealAr, as in the Rust. Refuses with 2.
+    pub fn dihkelu_coating_from_name(name: *const u8, name_count: usize) -> u64;
+    /// JonesVector::to_stokes. Writes S0 to S3 and returns 4; refuses with 1, 8.
+    pub fn dihkelu_to_stokes(
+        field: *const f64,
+        field_count: usize,
+        list: *mut f64,
+        list_count: usize,
+    ) -> u64;
+    /// JonesVector::normalize, to intensity 1. Writes the vector and returns 4; refuses with 1, 8.
+    pub fn dihkelu_jones_normalize(
+        field: *const f64,
+        field_count: usize,
+        list: *mut f64,
+        list_count: usize,
+    ) -> u64;
+    /// JonesVector::intensity. Writes 1 double and returns 1; refuses with 1, 8.
+    pub fn dihkelu_jones_intensity(
+        field: *const f64,
+        field_count: usize,
+        list: *mut f64,
+        list_count: usize,
+    ) -> u64;
+    /// Of a Stokes vector: the degree of polarization, of linear and of circular polarization, the orientation and the
+    /// ellipticity in radians. Writes 5 doubles and returns 5; refuses with 1, 8.
+    pub fn dihkelu_stokes_figures(
+        beam: *const f64,
+        beam_count: usize,
+        list: *mut f64,
+        list_count: usize,
+    ) -> u64;
+    /// JonesMatrix::apply. Writes the vector and returns 4; refuses with 1, 8.
+    pub fn dihkelu_jones_apply(
+        matrix: *const f64,
+        matrix_count: usize,
+        field: *const f64,
+        field_count: usize,
+        list: *mut f64,
+        list_count: usize,
+    ) -> u64;
+    /// JonesMatrix::mul: left times right, light passing right first. Writes the matrix and returns 8; refuses with 1, 8.
+    pub fn dihkelu_jones_mul(
+        left: *const f64,
+        left_count: usize,
+        right: *const f64,
+        right_count: usize,
+        list: *mut f64,
+        list_count: usize,
+    ) -> u64;
+    /// MuellerMatrix::apply. Writes the Stokes vector and returns 4; refuses with 1, 8.
+    pub fn dihkelu_mueller_apply(
+        matrix: *const f64,
+        matrix_count: usize,
+        beam: *const f64,
+        beam_count: usize,
+        list: *mut f64,
+        list_count: usize,
+    ) -> u64;
+    /// JonesMatrix::diattenuator of two amplitudes, each re, im, such as the first four doubles of a response, which give its
+    /// reflected light, and the next four its transmitted. Writes the matrix and returns 8; refuses with 1, 8.
+    pub fn dihkelu_diattenuator(
+        amplitudes: *const f64,
+        amplitudes_count: usize,
+        list: *mut f64,
+        list_count: usize,
+    ) -> u64;
+    /// A linear polarizer at an angle to the x-axis; a retarder, a quarter-wave and a half-wave plate, their fast axis at an
+    /// angle. Each writes its Jones matrix and returns 8; refuses with 8.
+    pub fn dihkelu_linear_polarizer(angle_rad: f64, list: *mut f64, list_count: usize) -> u64;
+    pub fn dihkelu_retarder(
+        retardance_rad: f64,
+        fast_axis_rad: f64,
+        list: *mut f64,
+        list_count: usize,
+    ) -> u64;
+    pub fn dihkelu_quarter_wave_plate(fast_axis_rad: f64, list: *mut f64, list_count: usize) -> u64;
+    pub fn dihkelu_half_wave_plate(fast_axis_rad: f64, list: *mut f64, list_count: usize) -> u64;
 }
