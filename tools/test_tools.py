@@ -2,6 +2,7 @@
 """Tests of the tools themselves: that they fail when they should, and say what to run. Needs what tools/test has built."""
 
 import os
+import re
 import shutil
 import subprocess
 import sys
@@ -95,7 +96,9 @@ class Compare(unittest.TestCase):
         self.assertEqual(run(ORACLE, "compare", "--count", "100")[0], 0)
         self.assertEqual(run(ORACLE, "compare", "--count", "0")[0], 1)
         status, out, _ = run(ORACLE, "compare", "--count", "100", "--spoil", "5")
-        self.assertEqual((status, out.count("99 of 100 agree"), out.count("9 of 10 sheets agree")), (1, 13, 2), out)
+        # one answer of each function is spoiled, and of each of the two that take sheets
+        self.assertEqual((status, set(re.findall(r"(\d+) of 100 agree", out)), out.count("9 of 10 sheets agree")), (1, {"99"}, 2), out)
+        self.assertGreaterEqual(out.count("99 of 100 agree"), 34, out)
 
     def test_counts(self):
         for words in [["x"], ["1", "many"], ["1", "9"], ["1", "0"]]:
