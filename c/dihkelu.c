@@ -1014,7 +1014,7 @@ static uint64_t name_bytes_kept(slice_u8 s) {
 static name_bytes_Span name_bytes_trim_span(slice_u8 name) {
     uint64_t a = name_bytes_leading(name);
     if (a < name.count) {
-        uint64_t len = name_bytes_kept((slice_u8){name.at + a, name.count - a});
+        uint64_t len = name_bytes_kept((slice_u8){a == 0 ? name.at : name.at + a, name.count - a});
         return (name_bytes_Span){.place = a, .len = len};
     }
     return (name_bytes_Span){.place = 0, .len = 0};
@@ -1025,7 +1025,7 @@ static slice_u8 name_bytes_trimmed(slice_u8 name) {
     name_bytes_Span s = name_bytes_trim_span(name);
     uint64_t a = s.place;
     uint64_t e = a + s.len;
-    return (slice_u8){name.at + a, e - a};
+    return (slice_u8){a == 0 ? name.at : name.at + a, e - a};
 }
 
 // p stands at the beginning of s.
@@ -1052,12 +1052,12 @@ static bool name_bytes_is(slice_u8 s, slice_u8 p) {
 static bool name_bytes_contains(slice_u8 s, slice_u8 p) {
     uint64_t k = 0;
     while (k < s.count) {
-        if (name_bytes_begins((slice_u8){s.at + k, s.count - k}, p)) {
+        if (name_bytes_begins((slice_u8){k == 0 ? s.at : s.at + k, s.count - k}, p)) {
             return true;
         }
         k = k + 1;
     }
-    return name_bytes_begins((slice_u8){s.at + k, s.count - k}, p);
+    return name_bytes_begins((slice_u8){k == 0 ? s.at : s.at + k, s.count - k}, p);
 }
 
 // a to z in upper case.
@@ -5106,7 +5106,7 @@ static void c_scan_place_case(uint64_t at, uint32_t code, double design_waveleng
             angle_incident_rad, wavelength_nm, layers);
     if (value.tag == thin_film_layers_Evaluation_Response) {
         thin_film_solver_CoatingResponse r = value.as.Response;
-        c_call_put_response(r, (slice_mut_f64){list.at + at, list.count - at});
+        c_call_put_response(r, (slice_mut_f64){at == 0 ? list.at : list.at + at, list.count - at});
     } else { // thin_film_layers_Evaluation_Refused
     }
 }

@@ -397,9 +397,19 @@ class Printer:
         base = self.elements(t[2], pointer)
         if base is None and pointer[0] == "addr" and pointer[1][0] == "deref" and pointer[1][1] == t[2]:
             base = self.text(pointer)
+            inner = pointer[1][2]
+            if inner[0] == "offset" and inner[1][0] in ("field", "addr") and self.of_a_list(inner[1]):
+                # a list of nothing may stand at NULL, to which C adds nothing, not even 0
+                base = f"{self.text(self.index_of(t[2], inner[2]), 9)} == 0 ? {self.elements(t[2], inner[1])} : {base}"
         if base is None:
             raise Unknown(f"a list over {pointer}")
         return f"{{{base}, {self.text(count)}}}"
+
+    def of_a_list(self, pointer):
+        """Whether a pointer is a list's own."""
+        if pointer[0] == "addr" and pointer[1][0] == "deref":
+            pointer = pointer[1][2]
+        return pointer[0] == "field" and self.f.type_of(pointer[1])[0] == "slice"
 
     # ---- statements
 
