@@ -165,6 +165,7 @@ extern "C" {
         list_count: usize,
     ) -> u64;
     fn dihkelu_coating_from_name(name: *const u8, name_count: usize) -> u64;
+    fn dihkelu_coating_name(code: u32, output: *mut u8, output_count: usize) -> u64;
     fn dihkelu_to_stokes(
         field: *const f64,
         field_count: usize,
@@ -559,6 +560,15 @@ pub fn bragg_mirror(
 /// The code that `evaluate` has the coating of a name by; 0 for none.
 pub fn coating_from_name(name: &[u8]) -> Result<u32, Refusal> {
     outcome(unsafe { dihkelu_coating_from_name(name.as_ptr(), name.len()) })
+}
+
+/// The most bytes that `coating_name` writes.
+pub const NAME: usize = 6;
+
+/// The name of the coating that `evaluate` has by a code: writes it to the front of the output, gives its length in bytes.
+pub fn coating_name(code: u32, output: &mut [u8]) -> Result<u32, Refusal> {
+    let (at, count) = (output.as_mut_ptr(), output.len());
+    outcome(unsafe { dihkelu_coating_name(code, at, count) })
 }
 
 /// The Stokes vector of a Jones vector: writes it, gives 4.

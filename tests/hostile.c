@@ -437,6 +437,25 @@ static void single_calls(void) {
     if (size > 32 ? r != (2ull << 32 | 32) : over < size ? r != (2ull << 32 | over) : r > 4) wrong("coating_from_name", "another number", r);
     refusals[dihkelu_refusal(r)]++;
     free(name);
+
+    /* a code's name, whatever the output held: the bytes behind it stay, and all of them where it is refused */
+    static const char *const names[] = {"", "AR", "MGF2", "BBAR", "MIRROR", "CUSTOM", "CUSTOM", "CUSTOM", "CUSTOM"};
+    uint32_t code = below(8) ? (uint32_t)below(10) : (uint32_t)draw();
+    size_t length = code > 8 ? 0 : strlen(names[code]), room = below(10);
+    uint8_t *now = block(room), *before = block(room);
+    for (size_t j = 0; j < room; j++) before[j] = (uint8_t)draw();
+    memcpy(now, before, room);
+    r = dihkelu_coating_name(code, now, room);
+    calls++;
+    if (r != (length == 0 ? 2ull << 32 : room < length ? short_list : length)) wrong("coating_name", "another number", r);
+    size_t front = dihkelu_refusal(r) ? 0 : length;
+    if (front && memcmp(now, names[code], front) != 0) wrong("coating_name", "another name", r);
+    if (memcmp(now + front, before + front, room - front) != 0) wrong("coating_name", "an output changed behind the name", r);
+    if (front && dihkelu_coating_from_name(now, front) != (code < 5 ? code : 1)) wrong("coating_name", "a name of another code", r);
+    if (dihkelu_refusal(r)) refusals[dihkelu_refusal(r)]++;
+    else answers_given++;
+    free(now);
+    free(before);
 }
 
 /* An index: an end of what is allowed or a neighbour of it, an index of glass, or any number. */
@@ -541,6 +560,8 @@ static void null_calls(void) {
     expect("linear_polarizer", dihkelu_linear_polarizer(0.0, NULL, 0), eight);
     expect("bragg_mirror", dihkelu_bragg_mirror(2.3, 1.46, 7, 550.0, NULL, 0), eight);
     expect("coating_from_name", dihkelu_coating_from_name(NULL, 0), 0);
+    expect("coating_name", dihkelu_coating_name(0, NULL, 0), 2ull << 32);
+    expect("coating_name", dihkelu_coating_name(1, NULL, 0), eight);
     for (uint32_t code = 1; code <= 8; code++) {
         expect("evaluate", dihkelu_evaluate(code, 550.0, 1.0, 1.5, 0.3, 550.0, NULL, 0, list, DIHKELU_RESPONSE), DIHKELU_RESPONSE);
         expect("evaluate", dihkelu_evaluate(code, 550.0, 1.0, 1.5, 0.3, 550.0, NULL, 0, NULL, 0), eight);

@@ -158,6 +158,14 @@ static size_t call(unsigned function) {
         free(bytes);
         return 1;
     }
+    if (function == 227) {
+        uint8_t *output = block(list_count);
+        for (size_t i = 0; i < list_count; i++) output[i] = 0xA5;
+        found[0] = dihkelu_coating_name((uint32_t)a[1], output, list_count);
+        for (size_t i = 0; i < list_count; i++) found[1 + i] = output[i];
+        free(output);
+        return 1 + list_count;
+    }
     if ((function < 205 || function > 226) && (function < 183 || function > 189)) return 0;
     double *list = block(8 * list_count);
     for (size_t i = 0; i < list_count; i++) list[i] = -7.25;

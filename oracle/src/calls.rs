@@ -10,7 +10,7 @@ use crate::record::{bits, Arguments};
 use crate::values::Rng;
 
 /// The numbers of these calls.
-pub const NUMBERS: std::ops::RangeInclusive<u16> = 206..=226;
+pub const NUMBERS: std::ops::RangeInclusive<u16> = 206..=227;
 
 /// A list as it is lent.
 fn lent(room: u64) -> Vec<f64> {
@@ -45,6 +45,12 @@ fn made(number: u16, words: &[u64]) -> Vec<u64> {
         }
         207 => vec![u64::from(dihkelu::invalid_argument(a.floats()))],
         214 => vec![returned(dihkelu::coating_from_name(&a.bytes()))],
+        227 => {
+            let (mut output, code) = (vec![0xA5; a.int() as usize], a.int() as u32);
+            let mut words = vec![returned(dihkelu::coating_name(code, &mut output))];
+            words.extend(output.into_iter().map(u64::from));
+            words
+        }
         _ => {
             let mut list = lent(a.int());
             let outcome = single(number, a, &mut list);

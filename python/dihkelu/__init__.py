@@ -25,6 +25,7 @@ from .calls import (
     band,
     bragg_mirror,
     coating_from_name,
+    coating_name,
     diattenuator,
     edition_1,
     environment_ok,

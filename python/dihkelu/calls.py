@@ -356,6 +356,13 @@ def coating_from_name(name: str | bytes) -> int:
     return answered(_library.dihkelu_coating_from_name(data, len(data)), "coating_from_name")
 
 
+def coating_name(code: int) -> str:
+    """The name of the coating that `evaluate` has by a code."""
+    out = (ctypes.c_uint8 * 6)()
+    count = answered(_library.dihkelu_coating_name(min(operator.index(code) % (1 << 64), 9), out, len(out)), "coating_name")
+    return bytes(out[:count]).decode()
+
+
 def to_stokes(field: Sequence[complex]) -> Stokes:
     """The Stokes vector of a Jones vector, Ex and Ey."""
     s0, s1, s2, s3 = _written("to_stokes", 4, _parts(field))

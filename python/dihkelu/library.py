@@ -43,6 +43,7 @@ CALLS = {
     "quarter_wave_ar": [Double] * 3 + LIST,
     "bragg_mirror": [Double, Double, U32, Double] + LIST,
     "coating_from_name": SHEET,
+    "coating_name": [U32, ctypes.POINTER(ctypes.c_uint8), Size],
     "to_stokes": LIST * 2,
     "jones_normalize": LIST * 2,
     "jones_intensity": LIST * 2,

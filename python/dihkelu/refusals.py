@@ -29,6 +29,8 @@ class NameRefused(Refused):
 
     @property
     def sentence(self) -> str:  # type: ignore[override]
+        if self.call == "coating_name":
+            return "there is no coating of this code"
         return "the name has more than 32 bytes" if self.place == 32 else "byte {place} of the name is no ASCII"
 
 

@@ -151,6 +151,9 @@ class Refusals(unittest.TestCase):
             (dihkelu.InvalidParameter, 1, 0, lambda: dihkelu.surface_fresnel_jones(0.0, 1.5, 0.0)),
             (dihkelu.NameRefused, 2, 1, lambda: dihkelu.coating_from_name("A\u00e9")),
             (dihkelu.NameRefused, 2, 32, lambda: dihkelu.coating_from_name("A" * 33)),
+            (dihkelu.NameRefused, 2, 0, lambda: dihkelu.coating_name(0)),
+            (dihkelu.NameRefused, 2, 0, lambda: dihkelu.coating_name(9)),
+            (dihkelu.NameRefused, 2, 0, lambda: dihkelu.coating_name((1 << 32) + 1)),
             (dihkelu.TooManyLayers, 3, 0, lambda: dihkelu.bragg_mirror(2.3, 1.46, 32, 550.0)),
             (dihkelu.TooManyLayers, 3, 0, lambda: dihkelu.bragg_mirror(2.3, 1.46, -1, 550.0)),
             (dihkelu.TooManyLayers, 3, 0, lambda: dihkelu.evaluate(5, 1.0, 1.5, 0.0, 550.0, [(1.5, 0.0, 10.0)] * 65)),
@@ -254,6 +257,11 @@ class Surfaces(unittest.TestCase):
         names = {"": 0, "none": 0, "AR": dihkelu.IDEAL_AR, " MgF2 ": dihkelu.MGF2, "He-Ne": dihkelu.BROADBAND_AR, "HR": dihkelu.MIRROR, "what": dihkelu.IDEAL_AR}
         for name, code in names.items():
             self.assertEqual(dihkelu.coating_from_name(name), code)
+        codes = {"AR": dihkelu.IDEAL_AR, "MGF2": dihkelu.MGF2, "BBAR": dihkelu.BROADBAND_AR, "MIRROR": dihkelu.MIRROR}
+        for name, code in codes.items():
+            self.assertEqual(dihkelu.coating_name(code), name)
+            self.assertEqual(dihkelu.coating_from_name(name), code)
+        self.assertEqual([dihkelu.coating_name(code) for code in range(5, 9)], ["CUSTOM"] * 4)
 
     def test_polarization(self):
         self.assertEqual(dihkelu.to_stokes((1.0, 1j)), (2.0, 0.0, 0.0, 2.0))

@@ -1,10 +1,16 @@
-// Names of coatings for callers in C: the code that a name stands for.
+// Names of coatings for callers in C: the code that a name stands for, and the name of a code's coating.
 ghost use mathlib.Core.Path.{_≡_};
+ghost use mathlib.Core.List.{_++_};
+ghost use Prim.Native.Nat.{_≤_};
+ghost use lib.ListN.{length, drop};
 ghost use Rattle.refusal.specs.Outcome.{map};
-ghost use Rattle.name_coating.specs.Name.{from-format-name};
+ghost use Rattle.name_coating.specs.Name.{from-format-name, format-name};
 ghost use Rattle.thin_film.specs.declared.SurfaceCoating.the-variants as SurfaceCoating;
+ghost use Rattle.thin_film.specs.Coating.{standard-wavelength};
+ghost use Rattle.c_layers.specs.Evaluate.{call-coating};
 ghost use Rattle.c_call.specs.Call.{returned};
-ghost use Rattle.c_names.specs.Names.{code-of, named-code};
+ghost use Rattle.c_names.specs.Names.{code-of, named-code, left, laid, name-left, coating-name};
+use gate_limits::Interface;
 use name_coating::Named;
 use thin_film::SurfaceCoating;
 use thin_film_coating::Coating;
@@ -44,5 +50,61 @@ pub fn coating_from_name(name: &[u8]) -> u64
         Named::Coating(coating) => code_of(coating) as u64,
         Named::Nothing => 0,
         Named::Refused(r) => c_call::packed(r),
+    }
+}
+
+// ---- to_format_name
+
+// The coating that dihkelu_evaluate has by a code; an MgF2 at 550 nm.
+fn coating_of(code: u32) -> Interface
+    ensures { λ r. ⌜ r ≡ call-coating code standard-wavelength ⌝ }
+{
+    if code == 8 {
+        return Interface::Coated(SurfaceCoating::Custom(Coating::IdealAr));
+    }
+    gate_limits::coded(code, 550.0)
+}
+
+// A name at the front of an output that has room for it.
+fn copy(name: &[u8], output: &mut [u8])
+    requires { ⌜ length (now name) ≤ length (now output) ⌝ }
+    ensures { λ r. ⌜ now (output .exit) ≡ now (name .entry) ++ drop (length (now (name .entry))) (now (output .entry)) ⌝ }
+{
+    let mut i = 0;
+    while i < name.len() {
+        output[i] = name[i];
+        i += 1;
+    }
+}
+
+// The same, and its length; 8 for an output that is too short.
+fn put(name: &[u8], output: &mut [u8]) -> u64
+    ensures { λ r. ⌜ left r (now (output .exit)) ≡ laid (now (name .entry)) (now (output .entry)) ⌝ }
+{
+    if output.len() < name.len() {
+        return 0x8_0000_0000;
+    }
+    copy(name, output);
+    name.len() as u64
+}
+
+// The name of a coating.
+fn put_name(coating: SurfaceCoating, output: &mut [u8]) -> u64
+    ensures { λ r. ⌜ left r (now (output .exit)) ≡ laid (format-name coating) (now (output .entry)) ⌝ }
+{
+    let text = name_coating::to_format_name(coating);
+    let bytes = text.bytes;
+    let len = text.len;
+    put(&bytes[..len], output)
+}
+
+// SurfaceCoating::to_format_name of the coating that a code stands for: writes the name to the front of the
+// output and returns its length; or a refusal: 2 for a code that has none, then 8.
+pub fn coating_name(code: u32, output: &mut [u8]) -> u64
+    ensures { λ r. ⌜ left r (now (output .exit)) ≡ name-left (coating-name code) (now (output .entry)) ⌝ }
+{
+    match coating_of(code) {
+        Interface::Coated(coating) => put_name(coating, output),
+        Interface::Bare => 0x2_0000_0000,
     }
 }

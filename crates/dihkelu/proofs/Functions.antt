@@ -1,21 +1,26 @@
 -- What the numbers tell that the calls of single functions return. Assumes nothing.
 use mathlib.Core.Path.{_≡_, refl, sym}
 use mathlib.Core.Bool.{Bool, true, false, cond}
-use mathlib.Core.List.{List}
+use mathlib.Core.List.{List, _++_}
 use mathlib.Core.Option.{Option}
 use Prim.Native.Nat.{ℕ, _^_, _<_}
 use native.Mathlib.Omega.{arith}
 use borrow.Author.Tests.{leb-true}
 use lib.Dec.{leb, lit<}
-use lib.ListN.{length}
+use lib.ListN.{length, drop}
 use lib.Ieee.{Float}
 use Rattle.refusal.specs.Outcome.{Outcome, answer, refusal, map, too-many-layers}
 use Rattle.thin_film_solver.specs.declared.ThinFilmLayer.{ThinFilmLayer}
 use Rattle.thin_film_presets.specs.Layers.{bragg-layers}
 use Rattle.thin_film_coating.specs.Coating.{quarter-wave-layers}
 use Rattle.thin_film.specs.declared.SurfaceCoating.{SurfaceCoating}
+use Rattle.thin_film.specs.Coating.{standard-wavelength}
+use Rattle.gate_limits.specs.declared.Interface.{Interface}
+use Rattle.gate_limits.specs.declared.Interface.the-variants.{Bare, Coated}
+use Rattle.c_layers.specs.Evaluate.{call-coating}
 use Rattle.polarization.specs.Surface.{surface-fresnel-jones}
 use Rattle.name_coating.specs.Name.{from-format-name}
+use Rattle.c_call.specs.Call.{packed}
 use Rattle.c_call.specs.Layout.{alone, entries}
 use Rattle.c_call.proofs.Returned.{Sound}
 use Rattle.c_stack.specs.Stack.{flat, stacked}
@@ -24,10 +29,12 @@ use Rattle.c_fresnel.specs.Fresnel.{reflectances, totals, matrices}
 use Rattle.c_fresnel.proofs.Surface.{surface-sound}
 use Rattle.c_presets.specs.Presets.{mirror}
 use Rattle.c_presets.proofs.Mirror.{long, mirror-sound}
-use Rattle.c_names.specs.Names.{named-code}
+use Rattle.c_names.specs.Names.{named-code, name-of, coating-name, left, name-left, name-said}
 use Rattle.c_names.proofs.Refused.{name-sound, small}
+use Rattle.c_names.proofs.Short.{Short, short}
 use Rattle.c_polarization.specs.Numbers.{of, of-two, parts, parameters, figures}
 use Rattle.c_polarization.proofs.Taken.{sound, sound-two}
+use Rattle.dihkelu.specs.Numbers.{Tells}
 use Rattle.dihkelu.specs.Functions.{FunctionNumbers}
 use Rattle.dihkelu.proofs.Rewritten.{Fine, Small}
 use Rattle.dihkelu.proofs.Numbers.{tells, tells-fine}
@@ -49,6 +56,18 @@ fine : (o : Outcome (Option SurfaceCoating)) → Sound o → Fine Small (map nam
 fine (answer coating) h = small coating
 fine (refusal number place) h = h
 
+coating-name-tells : (o : Outcome (List ℕ)) → Fine Short o → (output : List ℕ) → Tells (name-said o output) (name-left o output .returned)
+coating-name-tells (refusal number place) h output = tells-fine (refusal number place) h
+coating-name-tells (answer name) h output = go (leb (length name) (length output))
+  where
+    go : (b : Bool) → Tells (cond b (answer (length name)) (refusal 8 0)) (cond b (left (length name) (name ++ drop (length name) output)) (left (packed 8 0) output) .returned)
+    go true = tells-fine (answer (length name)) h
+    go false = tells-fine (refusal 8 0) (lit< tt, lit< tt)
+
+coating-name-fine : (i : Interface) → Fine Short (name-of i)
+coating-name-fine (Coated coating) = short coating
+coating-name-fine Bare = (lit< tt, lit< tt)
+
 pub function-numbers : FunctionNumbers
 function-numbers = record {
   of-dielectric = λ r list. tells reflectances (answer r) tt (λ a e. lit< tt) list;
@@ -61,6 +80,7 @@ function-numbers = record {
   of-surface-fresnel-jones = λ n1 n2 angle list. tells matrices (surface-fresnel-jones n1 n2 angle) (surface-sound n1 n2 angle) (λ a e. lit< tt) list;
   of-bragg-mirror = λ n-high n-low pairs design list. tells stacked (mirror n-high n-low pairs design) (mirror-sound n-high n-low design pairs) (few n-high n-low pairs design) list;
   of-name = λ name. tells-fine (map named-code (from-format-name name)) (fine (from-format-name name) (name-sound name));
+  of-coating-name = λ code output. coating-name-tells (coating-name code) (coating-name-fine (call-coating code standard-wavelength)) output;
   of-parts = λ count call numbers list. tells parts (of count call numbers) (sound parts count call numbers list) (λ a e. lit< tt) list;
   of-parameters = λ count call numbers list. tells parameters (of count call numbers) (sound parameters count call numbers list) (λ a e. lit< tt) list;
   of-figures = λ count call numbers list. tells figures (of count call numbers) (sound figures count call numbers list) (λ a e. lit< tt) list;

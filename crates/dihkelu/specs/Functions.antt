@@ -17,7 +17,7 @@ use Rattle.c_call.specs.Layout.{alone, entries}
 use Rattle.c_stack.specs.Stack.{stacked}
 use Rattle.c_fresnel.specs.Fresnel.{reflectances, totals, matrices}
 use Rattle.c_presets.specs.Presets.{mirror}
-use Rattle.c_names.specs.Names.{named-code}
+use Rattle.c_names.specs.Names.{named-code, coating-name, name-left, name-said}
 use Rattle.c_polarization.specs.Numbers.{of, of-two, parts, parameters, figures}
 use Rattle.dihkelu.specs.Numbers.{Tells, said}
 
@@ -31,13 +31,15 @@ pub record FunctionNumbers : Type 0 where
   pub of-quarter-wave-ar : (n-ambient n-substrate design : Float) (list : List Float)
       → Tells (said stacked (answer (quarter-wave-layers n-ambient n-substrate design)) list)
       (written (stacked (quarter-wave-layers n-ambient n-substrate design)) list .returned)
-  -- a bare surface, a mirror, a name
+  -- a bare surface, a mirror, a name, a code
   pub of-surface-fresnel-jones : (n1 n2 angle : Float) (list : List Float)
       → Tells (said matrices (surface-fresnel-jones n1 n2 angle) list)
       (answered matrices (surface-fresnel-jones n1 n2 angle) list .returned)
   pub of-bragg-mirror : (n-high n-low : Float) (pairs : ℕ) (design : Float) (list : List Float)
       → Tells (said stacked (mirror n-high n-low pairs design) list) (answered stacked (mirror n-high n-low pairs design) list .returned)
   pub of-name : (name : List ℕ) → Tells (map named-code (from-format-name name)) (returned (map named-code (from-format-name name)))
+  pub of-coating-name : (code : ℕ) (output : List ℕ) → Tells (name-said (coating-name code) output)
+      (name-left (coating-name code) output .returned)
   -- calls that take one list of so many numbers, or two: whatever they work out
   pub of-parts : (count : ℕ) (call : List Float → JonesVector) (numbers list : List Float)
       → Tells (said parts (of count call numbers) list) (answered parts (of count call numbers) list .returned)

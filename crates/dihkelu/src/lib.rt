@@ -27,7 +27,7 @@ ghost use Rattle.c_fresnel.specs.Fresnel.{reflectances, totals, matrices};
 ghost use Rattle.thin_film_coating.specs.Coating.{quarter-wave-layers};
 ghost use Rattle.c_presets.specs.Presets.{mirror};
 ghost use Rattle.name_coating.specs.Name.{from-format-name};
-ghost use Rattle.c_names.specs.Names.{named-code};
+ghost use Rattle.c_names.specs.Names.{named-code, left, name-left, coating-name};
 ghost use Rattle.polarization_stokes.specs.Jones.{intensity, normalize, to-stokes};
 ghost use Rattle.polarization_mueller.specs.Jones.{linear-polarizer, retarder, quarter-wave-plate, half-wave-plate, diattenuator, apply, mul};
 ghost use Rattle.polarization_mueller.specs.Mueller.{apply-mueller};
@@ -294,6 +294,16 @@ pub extern "C" fn dihkelu_coating_from_name(name: &[u8]) -> u64
     ensures { λ r. ⌜ r ≡ returned (map named-code (from-format-name (now (name .entry)))) ⌝ }
 {
     c_names::coating_from_name(name)
+}
+
+// SurfaceCoating::to_format_name of the coating that dihkelu_evaluate has by a code: writes the name to the front of the
+// output and returns its length in bytes; or a refusal: 2 for a code that has no coating, then 8 for an output that is
+// too short.
+#[no_mangle]
+pub extern "C" fn dihkelu_coating_name(code: u32, output: &mut [u8]) -> u64
+    ensures { λ r. ⌜ left r (now (output .exit)) ≡ name-left (coating-name code) (now (output .entry)) ⌝ }
+{
+    c_names::coating_name(code, output)
 }
 
 // ---- Jones and Stokes vectors: 4 numbers each, else 1; then 8

@@ -1,4 +1,4 @@
-// The functions 208 to 226, the calls that are single functions. Each gives what a call returns and all of the list that it was
+// The functions 208 to 227, the calls that are single functions. Each gives what a call returns and all of the list that it was
 // lent, in so many words; none where it is not one of these or its list is too long to lend.
 
 // What a call returned, and the first n numbers of the list; the words behind them do not count.
@@ -136,6 +136,32 @@ fn name_call(name: &[u8], out: &mut [u64; 256]) -> usize {
     1
 }
 
+fn word_of(byte: u8) -> u64 {
+    byte as u64
+}
+
+// The first n bytes of an output, each as a word, behind what the call returned.
+fn put_bytes(out: &mut [u64; 256], output: &[u8; 200], n: usize) {
+    let mut i = 0;
+    while i < n {
+        if i >= 200 {
+            return;
+        }
+        out[1 + i] = word_of(output[i]);
+        i += 1;
+    }
+}
+
+fn coating_name_call(n: usize, code: u32, out: &mut [u64; 256]) -> usize {
+    let mut output = [0xa5u8; 200];
+    if n > 200 {
+        return 0;
+    }
+    out[0] = dihkelu::dihkelu_coating_name(code, &mut output[..n]);
+    put_bytes(out, &output, n);
+    n + 1
+}
+
 pub fn call(f: usize, a: &[u8], out: &mut [u64; 256]) -> usize {
     let n = test_records::small_at(a, 0) as usize;
     match f {
@@ -145,6 +171,7 @@ pub fn call(f: usize, a: &[u8], out: &mut [u64; 256]) -> usize {
         215..=218 | 222 => list_call(f, n, a, out),
         219..=221 => lists_call(f, n, a, out),
         223 | 225 | 226 => angle_call(f, n, a, out),
+        227 => coating_name_call(n, test_records::small_at(a, 1), out),
         _ => 0,
     }
 }

@@ -5,6 +5,7 @@ use crate::arguments::Arg::{self, *};
 use crate::arguments::Style;
 use crate::functions::exports::{floats, leave, packed, refused};
 use crate::functions::names::from_format_name;
+use crate::functions::thin_film::surface_coating;
 use crate::functions::Function;
 use crate::record::{Arguments, Words};
 use crate::reference::fresnel::{fresnel_dielectric, fresnel_unpolarized, schlick_approx};
@@ -16,7 +17,7 @@ use crate::sheet::Refusal;
 use crate::values::Rng;
 
 /// Lengths of a list at the ends of what these calls need.
-pub const CALL_ROOMS: [u64; 14] = [0, 1, 2, 3, 4, 5, 7, 8, 8, 9, 15, 16, 16, 20];
+pub const CALL_ROOMS: [u64; 15] = [0, 1, 2, 3, 4, 5, 6, 7, 8, 8, 9, 15, 16, 16, 20];
 
 type Call = fn(&mut Arguments, &mut Words);
 type Answer = Result<(u64, Vec<f64>), Refusal>;
@@ -83,6 +84,28 @@ fn code(name: &[u8]) -> u64 {
             SurfaceCoating::Custom(_) => unreachable!("no name of a custom coating"),
         },
     }
+}
+
+/// The name of a code's coating; 2 for a code that has none.
+fn name(code: u64) -> Result<&'static str, Refusal> {
+    match code {
+        1..=8 => Ok(surface_coating(code, 550.0, Vec::new()).to_format_name()),
+        _ => Err(refused(2)),
+    }
+}
+
+/// What is returned, and each byte of the output that was lent: the name at its front, or as it was.
+fn leave_name(r: &mut Words, room: u64, answer: Result<&'static str, Refusal>) {
+    let mut output = vec![0xA5; room as usize];
+    r.int(match answer {
+        Err(refusal) => packed(refusal),
+        Ok(name) if name.len() > output.len() => packed(refused(8)),
+        Ok(name) => {
+            output[..name.len()].copy_from_slice(name.as_bytes());
+            name.len() as u64
+        }
+    });
+    output.into_iter().for_each(|b: u8| r.int(u64::from(b)));
 }
 
 pub fn table() -> Vec<Function> {
@@ -251,6 +274,10 @@ pub fn table() -> Vec<Function> {
                 room,
                 counted(entries(&JonesMatrix::half_wave_plate(axis))),
             );
+        }),
+        call(227, "dihkelu_coating_name", &[CallRoom, AnyCode], |a, r| {
+            let (room, code) = (a.int(), a.int());
+            leave_name(r, room, name(code));
         }),
     ]
 }
