@@ -488,6 +488,16 @@ typedef struct {
     } as;
 } name_coating_Named;
 
+typedef struct {
+    uint8_t at[16];
+} u8_x16;
+
+// A short text: the first len bytes.
+typedef struct {
+    u8_x16 bytes;
+    uint64_t len;
+} thin_film_Text;
+
 // What lies between the two media.
 typedef struct {
     enum {
@@ -689,6 +699,11 @@ typedef struct {
 } f64_x3;
 
 typedef struct {
+    uint8_t *at;
+    uint64_t count;
+} slice_mut_u8;
+
+typedef struct {
     double at[4];
 } f64_x4;
 
@@ -737,11 +752,6 @@ typedef struct {
     refusal_Refusal refusal;
     surface_Answers answers;
 } sheet_surfaces_SurfaceReply;
-
-typedef struct {
-    uint8_t *at;
-    uint64_t count;
-} slice_mut_u8;
 
 // The new sheet's length in bytes, or a refusal.
 typedef struct {
@@ -3946,6 +3956,26 @@ static name_coating_Named name_coating_from_format_name(slice_u8 name) {
     return name_coating_coating_in(name_bytes_trimmed(name));
 }
 
+static thin_film_Text name_coating_to_format_name(thin_film_SurfaceCoating coating) {
+    u8_x16 text = {{65, 82, 0, 0, 0, 0, 0, 0, 0, 0, 0, 0, 0, 0, 0, 0}};
+    u8_x16 text_2 = {{77, 71, 70, 50, 0, 0, 0, 0, 0, 0, 0, 0, 0, 0, 0, 0}};
+    u8_x16 text_3 = {{66, 66, 65, 82, 0, 0, 0, 0, 0, 0, 0, 0, 0, 0, 0, 0}};
+    u8_x16 text_4 = {{77, 73, 82, 82, 79, 82, 0, 0, 0, 0, 0, 0, 0, 0, 0, 0}};
+    u8_x16 text_5 = {{67, 85, 83, 84, 79, 77, 0, 0, 0, 0, 0, 0, 0, 0, 0, 0}};
+    switch (coating.tag) {
+    case thin_film_SurfaceCoating_IdealAr:
+        return (thin_film_Text){.bytes = text, .len = 2};
+    case thin_film_SurfaceCoating_MgF2:
+        return (thin_film_Text){.bytes = text_2, .len = 4};
+    case thin_film_SurfaceCoating_BroadbandAr:
+        return (thin_film_Text){.bytes = text_3, .len = 4};
+    case thin_film_SurfaceCoating_HighReflectanceMirror:
+        return (thin_film_Text){.bytes = text_4, .len = 6};
+    default: // thin_film_SurfaceCoating_Custom
+        return (thin_film_Text){.bytes = text_5, .len = 6};
+    }
+}
+
 // ==== gate_limits
 //
 // One surface of a train: its coating by code, and the limits of document 01's section 3 and of document 02's slip 12.
@@ -5317,7 +5347,7 @@ static uint64_t c_presets_bragg_mirror(double n_high, double n_low, uint32_t pai
 
 // ==== c_names
 //
-// Names of coatings for callers in C: the code that a name stands for.
+// Names of coatings for callers in C: the code that a name stands for, and the name of a code's coating.
 
 // The code of a coating of the user's own.
 static uint32_t c_names_custom_code(thin_film_coating_Coating coating) {
@@ -5369,6 +5399,53 @@ static uint64_t c_names_coating_from_name(slice_u8 name) {
         return c_call_packed(r);
     }
     }
+}
+
+// The coating that dihkelu_evaluate has by a code; an MgF2 at 550 nm.
+static gate_limits_Interface c_names_coating_of(uint32_t code) {
+    if (code == 8) {
+        return (gate_limits_Interface){.tag = gate_limits_Interface_Coated,
+                .as.Coated = {.tag = thin_film_SurfaceCoating_Custom,
+                .as.Custom = thin_film_coating_Coating_IdealAr}};
+    }
+    return gate_limits_coded(code, 550.0);
+}
+
+// A name at the front of an output that has room for it.
+static void c_names_copy(slice_u8 name, slice_mut_u8 output) {
+    uint64_t i = 0;
+    while (i < name.count) {
+        output.at[i] = name.at[i];
+        i = i + 1;
+    }
+}
+
+// The same, and its length; 8 for an output that is too short.
+static uint64_t c_names_put(slice_u8 name, slice_mut_u8 output) {
+    if (output.count < name.count) {
+        return 0x800000000u;
+    }
+    c_names_copy(name, output);
+    return name.count;
+}
+
+// The name of a coating.
+static uint64_t c_names_put_name(thin_film_SurfaceCoating coating, slice_mut_u8 output) {
+    thin_film_Text text = name_coating_to_format_name(coating);
+    u8_x16 bytes = text.bytes;
+    uint64_t len = text.len;
+    return c_names_put((slice_u8){bytes.at, len}, output);
+}
+
+// SurfaceCoating::to_format_name of the coating that a code stands for: writes the name to the front of the
+// output and returns its length; or a refusal: 2 for a code that has none, then 8.
+static uint64_t c_names_coating_name(uint32_t code, slice_mut_u8 output) {
+    gate_limits_Interface value = c_names_coating_of(code);
+    if (value.tag == gate_limits_Interface_Coated) {
+        thin_film_SurfaceCoating coating = value.as.Coated;
+        return c_names_put_name(coating, output);
+    }
+    return 0x200000000u;
 }
 
 // ==== c_polarization
@@ -6848,6 +6925,14 @@ uint64_t dihkelu_bragg_mirror(double n_high, double n_low, uint32_t pairs, doubl
 uint64_t dihkelu_coating_from_name(const uint8_t *name_at, size_t name_count) {
     slice_u8 name = {name_at, name_count};
     return c_names_coating_from_name(name);
+}
+
+// SurfaceCoating::to_format_name of the coating that dihkelu_evaluate has by a code: writes the name to the front of the
+// output and returns its length in bytes; or a refusal: 2 for a code that has no coating, then 8 for an output that is
+// too short.
+uint64_t dihkelu_coating_name(uint32_t code, uint8_t *output_at, size_t output_count) {
+    slice_mut_u8 output = {output_at, output_count};
+    return c_names_coating_name(code, output);
 }
 
 // JonesVector::to_stokes: writes S0 to S3 and returns 4.

@@ -21,7 +21,7 @@
  *      stack: an index or the design wavelength is not positive and finite; surface_fresnel_jones: the Rust's
  *      InvalidParameter; to_mueller, mueller_born_wolf and the calls on vectors and matrices: there are not 4, 8 or 16
  *      numbers, as the call has it
- *   2  coating_from_name: over 32 bytes, at 32; else the byte at this place is over 127
+ *   2  coating_from_name: over 32 bytes, at 32; else the byte at this place is over 127; coating_name: an unknown code
  *   3  evaluate, evaluate_list: more than 64 layers, where the code is that of explicit layers (any other ignores them);
  *      bragg_mirror: more than 31 pairs
  *   4  the sheet's bytes are no multiple of 4, under 36 or over 30,500 (39,460 where the first word is 0x10000002)
@@ -322,6 +322,15 @@ DIHKELU_MUST_USE uint64_t dihkelu_bragg_mirror(double n_high, double n_low, uint
  * it by, 1 IdealAr, 2 MgF2 at a design wavelength of 550 nm, 3 BroadbandAr, 4 HighReflectanceMirror; 0 for none, as of an
  * empty name. An unknown name is IdealAr, as in the Rust. Refuses with 2. */
 DIHKELU_MUST_USE uint64_t dihkelu_coating_from_name(const uint8_t *name, size_t name_count);
+
+/* The most bytes that dihkelu_coating_name writes. */
+#define DIHKELU_NAME 6
+
+/* The name of the coating that dihkelu_evaluate has by this code: 1 AR, 2 MGF2, 3 BBAR, 4 MIRROR, 5 to 8 CUSTOM. Writes it
+ * to the front of the output, with no byte 0 behind it, and returns its length in bytes; bytes past it keep what they held.
+ * dihkelu_coating_from_name gives the code of the name back, but 1 for CUSTOM. Refuses with 2 for any other code, then
+ * with 8. */
+DIHKELU_MUST_USE uint64_t dihkelu_coating_name(uint32_t code, uint8_t *output, size_t output_count);
 
 /* ---- Jones and Stokes vectors. A Jones vector is 4 doubles, Ex and Ey, each re, im; a Stokes vector is S0 to S3; a Jones
  * matrix is 8 doubles, as dihkelu_to_mueller takes it; a Mueller matrix is 16, row after row. A list of another count is

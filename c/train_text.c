@@ -22,10 +22,6 @@ typedef struct {
 } sheet_surfaces_NthSurface;
 
 typedef struct {
-    uint8_t at[16];
-} u8_x16;
-
-typedef struct {
     uint8_t at[20];
 } u8_x20;
 

@@ -18,14 +18,15 @@ module dihkelu
     integer(c_int32_t), parameter, public :: dihkelu_stack_count = 192
     integer(c_int32_t), parameter, public :: dihkelu_mueller_count = 16
     integer(c_int32_t), parameter, public :: dihkelu_two_jones_count = 16
+    integer(c_int32_t), parameter, public :: dihkelu_name_count = 6
 
     public :: dihkelu_version, dihkelu_gate, dihkelu_start, dihkelu_step, dihkelu_retune, dihkelu_run, dihkelu_edition_1, &
         dihkelu_band, dihkelu_answers, dihkelu_evaluate, dihkelu_evaluate_list, dihkelu_invalid_argument, dihkelu_stack, &
         dihkelu_to_mueller, dihkelu_mueller_born_wolf, dihkelu_reflectance_range, dihkelu_quarter_waves, &
         dihkelu_fresnel_dielectric, dihkelu_fresnel_unpolarized, dihkelu_schlick_approx, dihkelu_surface_fresnel_jones, &
-        dihkelu_quarter_wave_ar, dihkelu_bragg_mirror, dihkelu_coating_from_name, dihkelu_to_stokes, &
-        dihkelu_jones_normalize, dihkelu_jones_intensity, dihkelu_stokes_figures, dihkelu_jones_apply, dihkelu_jones_mul, &
-        dihkelu_mueller_apply, dihkelu_diattenuator, dihkelu_linear_polarizer, dihkelu_retarder, &
+        dihkelu_quarter_wave_ar, dihkelu_bragg_mirror, dihkelu_coating_from_name, dihkelu_coating_name, &
+        dihkelu_to_stokes, dihkelu_jones_normalize, dihkelu_jones_intensity, dihkelu_stokes_figures, dihkelu_jones_apply, &
+        dihkelu_jones_mul, dihkelu_mueller_apply, dihkelu_diattenuator, dihkelu_linear_polarizer, dihkelu_retarder, &
         dihkelu_quarter_wave_plate, dihkelu_half_wave_plate, dihkelu_refusal, dihkelu_place, dihkelu_value
 
     interface
@@ -371,6 +372,19 @@ module dihkelu
             integer(c_size_t), value :: name_count
             integer(c_int64_t) :: returned
         end function dihkelu_coating_from_name
+
+        ! The name of the coating that dihkelu_evaluate has by this code: 1 AR, 2 MGF2, 3 BBAR, 4 MIRROR, 5 to 8 CUSTOM. Writes it
+        ! to the front of the output, with no byte 0 behind it, and returns its length in bytes; bytes past it keep what they
+        ! held.
+        ! dihkelu_coating_from_name gives the code of the name back, but 1 for CUSTOM. Refuses with 2 for any other code, then
+        ! with 8.
+        function dihkelu_coating_name(code, output, output_count) bind(c, name='dihkelu_coating_name') result(returned)
+            import :: c_int32_t, c_int64_t, c_int8_t, c_size_t
+            integer(c_int32_t), value :: code
+            integer(c_int8_t), intent(inout) :: output(*)
+            integer(c_size_t), value :: output_count
+            integer(c_int64_t) :: returned
+        end function dihkelu_coating_name
 
         ! JonesVector::to_stokes. Writes S0 to S3 and returns 4; refuses with 1, 8.
         function dihkelu_to_stokes(field, field_count, list, list_count) bind(c, name='dihkelu_to_stokes') &

@@ -245,6 +245,11 @@ extern "C" {
     /// it by, 1 IdealAr, 2 MgF2 at a design wavelength of 550 nm, 3 BroadbandAr, 4 HighReflectanceMirror; 0 for none, as of an
     /// empty name. An unknown name is IdealAr, as in the Rust. Refuses with 2.
     pub fn dihkelu_coating_from_name(name: *const u8, name_count: usize) -> u64;
+    /// The name of the coating that dihkelu_evaluate has by this code: 1 AR, 2 MGF2, 3 BBAR, 4 MIRROR, 5 to 8 CUSTOM. Writes it
+    /// to the front of the output, with no byte 0 behind it, and returns its length in bytes; bytes past it keep what they held.
+    /// dihkelu_coating_from_name gives the code of the name back, but 1 for CUSTOM. Refuses with 2 for any other code, then
+    /// with 8.
+    pub fn dihkelu_coating_name(code: u32, output: *mut u8, output_count: usize) -> u64;
     /// JonesVector::to_stokes. Writes S0 to S3 and returns 4; refuses with 1, 8.
     pub fn dihkelu_to_stokes(
         field: *const f64,
