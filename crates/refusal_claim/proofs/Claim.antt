@@ -27,7 +27,7 @@ use Rattle.thin_film_coating.specs.Coating as Built
 use Rattle.thin_film_coating.specs.Evaluate.{rust-respond, rust-evaluate-coating, evaluate-coating}
 use Rattle.thin_film.specs.declared.SurfaceCoating.{SurfaceCoating}
 use Rattle.thin_film.specs.declared.SurfaceCoating.the-variants as S
-use Rattle.thin_film.specs.Coating.{coating-of, layers-of, to-coating}
+use Rattle.thin_film.specs.Coating.{standard-wavelength, coating-of, layers-of, to-coating}
 use Rattle.thin_film_grammar.specs.Claim as Gives
 use Rattle.thin_film_shorthand.specs.Stack.{stack}
 use Rattle.reflectance_range.specs.Range.{index-valid, range-valid, reflectance-range}
@@ -39,6 +39,7 @@ use Rattle.gate_limits.specs.declared.Interface.the-variants as I
 use Rattle.gate_limits.specs.Coating.{coded}
 use Rattle.c_layers.specs.Evaluate.{layers, call-coating, evaluate-coded, evaluate}
 use Rattle.c_scan.specs.Scan.{at-case, responses, paired, evaluate-list}
+use Rattle.c_names.specs.Names.{name-of, coating-name}
 use Rattle.polarization.specs.Surface.{indices-valid, surface-fresnel-jones}
 use Rattle.name_bytes.specs.Ascii.{first-over}
 use Rattle.name_coating.specs.Name.{from-format-name}
@@ -416,6 +417,17 @@ of-name = record {
   each = ((replicate 33 65, (32, refl)), tt);
 }
 
+name-only : (i : Interface) → Only (2 ∷ []) (name-of i)
+name-only (I.Coated coating) = tt
+name-only I.Bare = tt
+
+of-coating-name : Refuses coating-name (2 ∷ [])
+unfolding call-coating coded
+of-coating-name = record {
+  only = λ code. name-only (call-coating code standard-wavelength);
+  each = ((0, (0, refl)), tt);
+}
+
 -- ---- built coatings
 built-only : (b : Bool) (x : Declared.Built) → x .refusal ≡ 0 → Only (3 ∷ []) (Built.outcome (cond b x Built.too-many))
 built-only true x e = rw e tt
@@ -607,6 +619,7 @@ refusal-claim = record {
   of-evaluate-list = of-evaluate-list;
   of-fresnel = of-fresnel;
   of-name = of-name;
+  of-coating-name = of-coating-name;
   of-bragg-mirror = of-bragg-mirror;
   of-to-coating = of-to-coating;
   of-stack = of-stack;

@@ -19,6 +19,7 @@ use Rattle.thin_film.specs.Evaluate.{evaluate-surface}
 use Rattle.thin_film_shorthand.specs.Stack.{stack}
 use Rattle.reflectance_range.specs.Range.{reflectance-range}
 use Rattle.c_scan.specs.Scan.{evaluate-list}
+use Rattle.c_names.specs.Names.{coating-name}
 use Rattle.polarization.specs.Surface.{surface-fresnel-jones}
 use Rattle.name_coating.specs.Name.{from-format-name}
 use Rattle.sheet.specs.Blocks.{All}
@@ -82,6 +83,7 @@ pub record RefusalClaim : Type 0 where
       (x .0 .1)) (1 ∷ 3 ∷ [])
   pub of-fresnel : Refuses (λ (x : Numbers). surface-fresnel-jones (x .n-incident) (x .n-substrate) (x .angle)) (1 ∷ [])
   pub of-name : Refuses from-format-name (2 ∷ [])
+  pub of-coating-name : Refuses coating-name (2 ∷ [])
   pub of-bragg-mirror : Refuses
       (λ (x : Numbers × ℕ). Built.outcome (at (λ n-high n-low angle design. Built.bragg-mirror n-high n-low (x .1) design) (x .0))) (3 ∷ [])
   pub of-to-coating : Refuses (λ (x : SurfaceCoating × Layers). Built.outcome (to-coating (x .0) (x .1))) (3 ∷ [])
