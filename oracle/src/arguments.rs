@@ -1,7 +1,9 @@
 // Arguments of the recorded functions: what each may be, and random choices.
 
 use crate::band;
-use crate::functions::{born_wolf, calls, edition_1, exports, names, quarter_waves, shorthand, train};
+use crate::functions::{
+    born_wolf, calls, edition_1, exports, names, quarter_waves, shorthand, train,
+};
 use crate::ranges;
 use crate::section2::{PI, T};
 use crate::values::{any, multiple, neighbour, optical, short, square, subnormal, Rng, CORE};

@@ -55,7 +55,11 @@ pub fn band(bytes: &[u8], wavelengths: &[f64], weights: &[u32]) -> Result<[f64; 
     faults.extend((0..lengths[1]).filter(weighed).map(|i| refused(15, i)));
     let turned_back = |i: &usize| gate(&at_wavelength(bytes, wavelengths[*i])).is_err();
     let few = faults.is_empty();
-    faults.extend((0..lengths[0]).filter(|i| few && turned_back(i)).map(|i| refused(16, i)));
+    faults.extend(
+        (0..lengths[0])
+            .filter(|i| few && turned_back(i))
+            .map(|i| refused(16, i)),
+    );
     if let Some(first) = faults.first() {
         return Err(*first);
     }
@@ -146,7 +150,16 @@ pub fn cases() -> Vec<Vec<u64>> {
         (plain.clone(), vec![550.0, f64::NAN], vec![1, 0]),
         (plain.clone(), vec![f64::NAN, 550.0], vec![1, 1001]),
     ];
-    for (a, b) in [(0, 0), (1, 0), (0, 1), (2, 1), (64, 64), (65, 65), (64, 63), (66, 1)] {
+    for (a, b) in [
+        (0, 0),
+        (1, 0),
+        (0, 1),
+        (2, 1),
+        (64, 64),
+        (65, 65),
+        (64, 63),
+        (66, 1),
+    ] {
         bands.push((plain.clone(), lines(a), ones(b)));
     }
     for n in [0, 1, 1000, 1001, u32::MAX] {

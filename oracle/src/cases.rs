@@ -2,7 +2,9 @@
 
 use crate::arguments::{Arg, Style};
 use crate::band;
-use crate::functions::{born_wolf, calls, edition_1, exports, names, quarter_waves, shorthand, train};
+use crate::functions::{
+    born_wolf, calls, edition_1, exports, names, quarter_waves, shorthand, train,
+};
 use crate::section2::PI;
 use crate::values::{neighbour, specials, Rng, CORE};
 

@@ -1,4 +1,5 @@
--- Internal: the whole response of films that do not absorb, over real numbers, as the code has it. What this way does not cover is not known.
+-- Internal: the whole response of films that do not absorb, over real numbers, as the code has it. What this way does not cover is not
+-- known.
 -- A reader need not believe it: `RealResponse` ties it to the definitions of section 4.
 use mathlib.Core.Path.{_≡_}
 use mathlib.Core.Bool.{Bool, true, false, not, _&&_, cond}

@@ -366,9 +366,7 @@ pub fn table() -> Vec<Function> {
         export(
             206,
             "dihkelu_evaluate_list",
-            &[
-                CasesRoom, AnyCode, Wavelength, Index, Index, Cases, Flat,
-            ],
+            &[CasesRoom, AnyCode, Wavelength, Index, Index, Cases, Flat],
             2,
             |a, r| {
                 let (room, code, design) = (a.int(), a.int(), a.float());
