@@ -6,6 +6,6 @@ pub mod TrigBounds
 pub mod Opposites
 pub mod Parity
 pub mod Examples
-mod Shifted
+pub mod Shifted
 pub mod AtZero
 pub mod Constants

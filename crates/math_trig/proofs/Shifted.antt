@@ -17,12 +17,10 @@ use Rattle.whole_nearest.specs.Nearest.{nearest-whole}
 use Rattle.whole_nearest.proofs.Shift.{by-shift, shift-finds}
 use Rattle.math_trig.specs.Angles.{tau, pi, tau-high, tau-low, turns-limit}
 use Rattle.math_trig.specs.Trig.{less-turns, reduce, first-line}
+use Rattle.math_trig.specs.Internal.{tau-rest, near-line}
 use Rattle.math_trig.proofs.Turns.{limit-mag, pi-mag, quotient-mag, no-turn-below}
 use Rattle.math_trig.proofs.Turned.{less-zero-same, reduce-none}
 use Rattle.math_trig.proofs.TrigBounds.{pi-in}
-
-abbrev pub tau-rest : Float
-tau-rest = ofBits binary64 0x3E71_10B4_6000_0000
 
 rest-is : tau-rest ≡ tau ⊖ tau-high
 unfolding sub add neg ofBits
@@ -34,8 +32,8 @@ k-by-shift x t = let q = quotient-mag x (limit-mag x t) in shift-finds (x ⊘ ta
     wide : (n d : ℕ) → n * 2 ^ 0 ≤ 2 ^ 19 * d → n ≤ 2 ^ 50 * d
     wide n d h = omega arith
 
-code-is : (x : Float) → T (le (abs x) turns-limit) → (x ⊖ by-shift (x ⊘ tau) ⊗ tau-high ⊖ by-shift (x ⊘ tau) ⊗ tau-rest ⊖ by-shift (x ⊘ tau) ⊗ tau-low) ≡ reduce x
-unfolding reduce less-turns
+code-is : (x : Float) → T (le (abs x) turns-limit) → near-line x ≡ reduce x
+unfolding near-line reduce less-turns
 code-is x t =
     ap (λ (m : Float). x ⊖ by-shift (x ⊘ tau) ⊗ tau-high ⊖ by-shift (x ⊘ tau) ⊗ m ⊖ by-shift (x ⊘ tau) ⊗ tau-low) rest-is
     ∙ ap (λ (k : Float). x ⊖ k ⊗ tau-high ⊖ k ⊗ (tau ⊖ tau-high) ⊖ k ⊗ tau-low) (k-by-shift x t)
@@ -66,5 +64,5 @@ up-to-pi x t = turned-off x (le-up (abs x) pi-in limit-in tt t) (plain-is x t)
     limit-in : In (2 ^ 20) 0 (2 ^ 20) 0 turns-limit
     limit-in = unfold ofBits in in-lit turns-limit tt
 
-pub up-to-limit : (x : Float) → T (le (abs x) turns-limit) → (x ⊖ by-shift (x ⊘ tau) ⊗ tau-high ⊖ by-shift (x ⊘ tau) ⊗ tau-rest ⊖ by-shift (x ⊘ tau) ⊗ tau-low) ≡ first-line x
+pub up-to-limit : (x : Float) → T (le (abs x) turns-limit) → near-line x ≡ first-line x
 up-to-limit x t = turned-off x t (code-is x t)

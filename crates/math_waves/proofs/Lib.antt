@@ -1,3 +1,5 @@
--- Lists that a loop fills place by place; and cos beside sin's second fold.
+-- Lists that a loop fills or writes place by place; cos beside sin's second fold; and angles below 2^20 in size.
 pub mod Filled
+pub mod Written
 mod Cosines
+mod Sizes

@@ -1,22 +1,28 @@
--- Internal: both folds apart, as the code has them. A reader need not believe it.
-use Prim.Native.Nat.{ℕ}
-use mathlib.Core.Bool.{cond}
+-- Internal: angles below 2^20 in size as the code has them. A reader need not believe it.
+use Prim.Native.Nat.{ℕ, zero, suc}
+use mathlib.Core.Bool.{Bool, true, _&&_, cond}
 use mathlib.Core.List.{List}
 use lib.ListN.{getD}
 use lib.Ieee.{Float, nan, neg, lt}
-use Rattle.math_trig.specs.Angles.{half-pi, minus-half-pi}
-use Rattle.math_trig.specs.Trig.{fold, second-fold, sin-at, cos-at}
-use Rattle.math_waves.specs.declared.Waves.{Waves}
-use Rattle.math_waves.specs.Waves.{filled}
+use Rattle.math_trig.specs.Angles.{half-pi, minus-half-pi, turns-limit}
+use Rattle.math_trig.specs.Trig.{wrap, second-fold, sin-at, cos-at}
+use Rattle.math_trig.specs.Internal.{near-line}
 
 unfoldable pub turned : Float → Float → Float
 turned r c = cond (lt half-pi r) (neg c) (cond (lt r minus-half-pi) (neg c) c)
 
-abbrev pub folded : List Float → ℕ → List Float
-folded x n = filled (λ k. fold (getD x k nan)) n
+unfoldable pub near : Float → Bool
+near x = lt x turns-limit && lt (neg turns-limit) x
 
-abbrev pub from-folds : List Float → ℕ → Waves
-from-folds r n = record {
-  sin = filled (λ k. sin-at (second-fold (getD r k nan))) n;
-  cos = filled (λ k. turned (getD r k nan) (cos-at (second-fold (getD r k nan)))) n;
-}
+-- the first n
+unfoldable pub all-near : List Float → ℕ → Bool
+all-near x zero = true
+all-near x (suc n) = all-near x n && near (getD x n nan)
+
+unfoldable pub near-sin : Float → Float
+near-sin x = sin-at (second-fold (wrap (near-line x)))
+
+unfoldable pub near-cos : Float → Float
+near-cos x =
+    let r = wrap (near-line x) in
+    turned r (cos-at (second-fold r))

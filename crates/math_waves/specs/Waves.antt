@@ -1,11 +1,9 @@
 -- The sines and cosines of up to 16 angles in places. Definitions only.
 use Prim.Native.Nat.{ℕ, zero, suc, _-_}
 use mathlib.Core.List.{List, [], _∷_, _++_}
-use lib.ListN.{getD, replicate}
+use lib.ListN.{getD, set, replicate}
 use lib.Ieee.{Float, nan}
 use Rattle.ieee.specs.Functions.{zero-f}
-use Rattle.math_trig.specs.Trig.{sin, cos}
-use Rattle.math_waves.specs.declared.Waves.{Waves}
 
 -- f 0, f 1, .. up to f (n - 1)
 unfoldable pub firsts : (ℕ → Float) → ℕ → List Float
@@ -16,13 +14,19 @@ firsts f (suc n) = firsts f n ++ (f n ∷ [])
 abbrev pub filled : (ℕ → Float) → ℕ → List Float
 filled f n = firsts f n ++ replicate (16 - n) zero-f
 
+-- f 0, f 1, .. stored in the first n places of a list; the others stay
+unfoldable pub written : (ℕ → Float) → ℕ → List Float → List Float
+written f zero l = l
+written f (suc n) l = set (written f n l) n (f n)
+
 -- n, and 16 where n is more
 abbrev pub at-most-16 : ℕ → ℕ
 at-most-16 n = 16 - (16 - n)
 
--- f of each of the first n of 16 numbers
-abbrev pub each : (Float → Float) → List Float → ℕ → List Float
-each f x n = filled (λ k. f (getD x k nan)) (at-most-16 n)
+-- f of the first n numbers of x
+abbrev pub each-first : (Float → Float) → List Float → ℕ → List Float → List Float
+each-first f x n l = written (λ k. f (getD x k nan)) n l
 
-abbrev pub waves : List Float → ℕ → Waves
-waves x n = record { sin = each sin x n; cos = each cos x n }
+-- of 16 at the most
+abbrev pub each : (Float → Float) → List Float → ℕ → List Float → List Float
+each f x n l = each-first f x (at-most-16 n) l

@@ -1,32 +1,10 @@
-// Sines and cosines of up to 16 angles at once, each with the bits of math_trig's. One loop folds the angles; the other
-// has neither a call that stays nor a branch, so that a compiler can take two angles at a time through both series.
+// Sines and cosines of up to 16 angles at once, each with the bits of math_trig's. The loop has neither a call that stays
+// nor a branch, so that a compiler can take two angles at a time through both series.
 ghost use mathlib.Core.Path.{_≡_};
 ghost use Prim.Native.Nat.{_≤_};
-ghost use lib.ListN.{getD};
-ghost use lib.Ieee.{nan};
-ghost use Rattle.math_trig.specs.Trig.{fold, second-fold, sin-at, cos-at};
-ghost use Rattle.math_waves.specs.Waves.{waves};
-ghost use Rattle.math_waves.specs.Internal.{turned, folded, from-folds};
-
-// The sines and the cosines of angles, place by place.
-pub struct Waves {
-    pub sin: [f64; 16],
-    pub cos: [f64; 16],
-}
-
-// The first n angles, folded to -π..π.
-fn folds(x: [f64; 16], n: usize) -> [f64; 16]
-    requires { ⌜ n ≤ 16 ⌝ }
-    ensures { λ r. ⌜ r ≡ folded x n ⌝ }
-{
-    let mut folds = [0.0; 16];
-    let mut i = 0;
-    while i < n {
-        folds[i] = math_trig::fold(x[i]);
-        i += 1;
-    }
-    folds
-}
+ghost use Rattle.math_trig.specs.Trig as Trig;
+ghost use Rattle.math_waves.specs.Waves.{each-first, each};
+ghost use Rattle.math_waves.specs.Internal.{turned, near, near-sin, near-cos, all-near};
 
 // cos of the folded angle r from c, that of sin's second fold of it: beyond π/2 it changes its sign.
 fn turned(r: f64, c: f64) -> f64
@@ -41,27 +19,54 @@ fn turned(r: f64, c: f64) -> f64
     }
 }
 
-// The sines and cosines of the first n folded angles. cos has the argument of sin up to its sign, so one square serves both.
-fn series(r: [f64; 16], n: usize) -> Waves
-    requires { ⌜ n ≤ 16 ⌝ }
-    ensures { λ w. ⌜ w ≡ from-folds r n ⌝ }
+// Whether an angle is below 2^20 in size.
+fn near(x: f64) -> bool
+    ensures { λ r. ⌜ r ≡ near x ⌝ }
 {
-    let mut sin = [0.0; 16];
-    let mut cos = [0.0; 16];
-    let mut i = 0;
-    while i < n {
-        let a = math_trig::second_fold(r[i]);
-        sin[i] = math_trig::sin_at(a);
-        cos[i] = turned(r[i], math_trig::cos_at(a));
-        i += 1;
-    }
-    Waves { sin, cos }
+    (x < 1048576.0) & (-1048576.0 < x)
 }
 
-// The sines and cosines of the first n of 16 angles, of all where n is more; the other places hold zeros.
-pub fn sin_cos(x: [f64; 16], n: usize) -> Waves
-    ensures { λ r. ⌜ r ≡ waves x n ⌝ }
+// The sines and cosines of the first n angles where all are below 2^20 in size, and whether they are. cos has the argument of sin
+// up to its sign, so one square serves both.
+fn at_once(x: &[f64; 16], n: usize, sin: &mut [f64; 16], cos: &mut [f64; 16]) -> bool
+    requires { ⌜ n ≤ 16 ⌝ }
+    ensures { λ r. ⌜ (r ≡ all-near (now (x .entry)) n) × (now (sin .exit) ≡ each-first near-sin (now (x .entry)) n (now (sin .entry))) × (now (cos .exit) ≡ each-first near-cos (now (x .entry)) n (now (cos .entry))) ⌝ }
+{
+    let mut all = true;
+    let mut i = 0;
+    while i < n {
+        let angle = x[i];
+        all = all & near(angle);
+        let r = math_trig::wrap(math_trig::near_line(angle));
+        let a = math_trig::second_fold(r);
+        let p = math_trig::both_series(a * a);
+        sin[i] = ieee::clamp(a * p.sin, -1.0, 1.0);
+        cos[i] = turned(r, ieee::clamp(p.cos, -1.0, 1.0));
+        i += 1;
+    }
+    all
+}
+
+// The first n angles one by one, of any size.
+fn one_by_one(x: &[f64; 16], n: usize, sin: &mut [f64; 16], cos: &mut [f64; 16])
+    requires { ⌜ n ≤ 16 ⌝ }
+    ensures { λ r. ⌜ (now (sin .exit) ≡ each-first Trig.sin (now (x .entry)) n (now (sin .entry))) × (now (cos .exit) ≡ each-first Trig.cos (now (x .entry)) n (now (cos .entry))) ⌝ }
+{
+    let mut i = 0;
+    while i < n {
+        let waves = math_trig::sin_cos(x[i]);
+        sin[i] = waves.sin;
+        cos[i] = waves.cos;
+        i += 1;
+    }
+}
+
+// The sines and cosines of the first n of 16 angles, of all where n is more; the other places stay as they are.
+pub fn sin_cos(x: &[f64; 16], n: usize, sin: &mut [f64; 16], cos: &mut [f64; 16])
+    ensures { λ r. ⌜ (now (sin .exit) ≡ each Trig.sin (now (x .entry)) n (now (sin .entry))) × (now (cos .exit) ≡ each Trig.cos (now (x .entry)) n (now (cos .entry))) ⌝ }
 {
     let few = if n < 16 { n } else { 16 };
-    series(folds(x, few), few)
+    if !at_once(x, few, sin, cos) {
+        one_by_one(x, few, sin, cos);
+    }
 }

@@ -13,11 +13,11 @@ returns : tie.Need-returns
 returns c = up-to-pi (c .before .before .args .x) (of-true _ (ap (λ (z : Float). le z pi) (sym (c .before .abs .ensures)) ∙ c .if1 .taken))
 
 returns-2 : tie.Need-returns-2
-returns-2 c = up-to-limit (c .before .before .before .args .x) (of-true _ (ap (λ (z : Float). le z turns-limit) (sym (c .before .before .abs .ensures)) ∙ c .if2 .taken))
+returns-2 c = c .near-line .ensures ∙ up-to-limit (c .before .before .before .before .args .x) (of-true _ (ap (λ (z : Float). le z turns-limit) (sym (c .before .before .before .abs .ensures)) ∙ c .before .if2 .taken))
 
 returns-3 : tie.Need-returns-3
 unfolding first-line
 returns-3 c = c .rem .ensures ∙ simp (sym (c .before .before .before .abs .ensures), c .before .if2 .left)
 
 pub first-line-spec : {M : Type 1} → statement M
-first-line-spec = tie.close (tie.spec (λ c κs. search needs) (λ c κs. search needs) returns returns-2 returns-3)
+first-line-spec = tie.close (tie.spec (λ c κs. search needs) (λ c κs. search needs) (λ c κs. search needs) returns returns-2 returns-3)
