@@ -22,6 +22,9 @@ module _ (f : ℕ → Float) where
   unfolding written
   written-more l l₀ i x is e = ap₂ (λ (m : List Float) (y : Float). set m i y) is e ∙ ap (λ (k : ℕ). written f k l₀) (sym (add-one i))
 
+  pub written-all : (l l₀ : List Float) (i n : ℕ) → i ≡ n → l ≡ written f i l₀ → l ≡ written f n l₀
+  written-all l l₀ i n e is = is ∙ ap (λ (k : ℕ). written f k l₀) e
+
   pub length-written : (n : ℕ) (l : List Float) → length (written f n l) ≡ length l
   unfolding written
   length-written zero l = refl

@@ -5,5 +5,6 @@ pub mod Products
 pub mod Powers
 pub mod Whole
 pub mod Turns
-pub mod Stacking
-pub mod Again
+mod Stacking
+mod Again
+mod Arrays

@@ -24,7 +24,6 @@ use Rattle.surface_real.specs.declared.Product.{Product}
 use Rattle.surface_real.specs.declared.Stack.{Stack}
 use Rattle.surface_real.specs.declared.Shares.{Shares}
 use Rattle.surface_real.specs.declared.Known.{Known}
-use Rattle.surface_real.specs.declared.Met.{Met}
 
 -- a NaN
 abbrev pub no-number : Float
@@ -146,22 +145,5 @@ RealPowers =
     → real-powers i layers .powers ≡ coated-powers (solved i layers)
 
 -- ---- films that come again
-unfoldable pub same-number : Float → Float → Bool
-same-number x y = lt zero-f x && eq x y
-
 unfoldable pub both-zero : Float → Float → Bool
 both-zero x y = eq x zero-f && eq y zero-f
-
-unfoldable pub same-film : ThinFilmLayer → ThinFilmLayer → Bool
-same-film a b =
-    same-number (a .n) (b .n) && (same-number (a .«thickness_nm») (b .«thickness_nm») && both-zero (a .k) (b .k))
-
-unfoldable pub meet : Float → Float → ThinFilmLayer → Met → Met
-meet snell wavelength layer earlier =
-    record { layer = layer; film = cond (same-film layer (earlier .layer)) (earlier .film) (film-of snell wavelength layer) }
-
-abbrev pub none-met : Met
-none-met = record {
-  layer = record { n = no-number; k = zero-f; «thickness_nm» = zero-f };
-  film = record { cos = zero-f; «y_s» = zero-f; «z_s» = zero-f; «y_p» = zero-f; «z_p» = zero-f };
-}

@@ -2,7 +2,9 @@
 // [[cos, i y], [i z, cos]] then, and so is each product. What the quick way does not cover makes a NaN, and a NaN or an
 // infinity stays to the end: the powers are known where the last numbers are finite, and are those of thin_film_solver.
 ghost use mathlib.Core.Path.{_≡_};
-ghost use Rattle.surface_real.specs.Internal.{over, real-part, root, cos-theta, medium-of, film-in, film-of, times, join, no-films, cos-theta-sub, power, finish, same-number, both-zero, same-film, meet, none-met};
+ghost use lib.Dec.{T};
+ghost use lib.Ieee.{Float};
+ghost use Rattle.surface_real.specs.Internal.{over, real-part, root, cos-theta, medium-of, film-in, film-of, times, join, no-films, cos-theta-sub, power, finish, both-zero};
 use surface::Powers;
 use thin_film_complex::Complex;
 use thin_film_solver::Incidence;
@@ -242,17 +244,15 @@ pub fn finish(light: Incidence, stack: Stack) -> Known
 
 // ---- films that come again
 
-// A layer and its film.
-pub struct Met {
-    pub layer: ThinFilmLayer,
-    pub film: Film,
-}
-
-// Whether two numbers are one, above zero.
+// Whether two numbers have the same bits; a NaN is the same as no number.
 fn same_number(x: f64, y: f64) -> bool
-    ensures { λ r. ⌜ r ≡ same-number x y ⌝ }
+    ensures { λ r. ⌜ (T r → x ≡ y) ⌝ }
 {
-    if x > 0.0 { x == y } else { false }
+    if x == y {
+        f64::to_bits(x) == f64::to_bits(y)
+    } else {
+        false
+    }
 }
 
 // Whether both numbers are zeros.
@@ -262,9 +262,9 @@ fn both_zero(x: f64, y: f64) -> bool
     if x == 0.0 { y == 0.0 } else { false }
 }
 
-// Whether two layers that do not absorb have one index and one thickness.
-fn same_film(a: ThinFilmLayer, b: ThinFilmLayer) -> bool
-    ensures { λ r. ⌜ r ≡ same-film a b ⌝ }
+// Whether two layers that do not absorb have one index and one thickness: their films are one then.
+pub fn alike(a: ThinFilmLayer, b: ThinFilmLayer) -> bool
+    ensures { λ r. ⌜ (T r → (snell wavelength : Float) → film-of snell wavelength a ≡ film-of snell wavelength b) ⌝ }
 {
     if same_number(a.n, b.n) {
         if same_number(a.thickness_nm, b.thickness_nm) {
@@ -275,37 +275,4 @@ fn same_film(a: ThinFilmLayer, b: ThinFilmLayer) -> bool
     } else {
         false
     }
-}
-
-// A layer with its film, which is that of an earlier one where they are the same.
-pub fn meet(light: Incidence, layer: ThinFilmLayer, earlier: Met) -> Met
-    ensures { λ r. ⌜ r ≡ meet (light .snell) (light .«wavelength_nm») layer earlier ⌝ }
-{
-    let before = earlier.layer;
-    if same_film(layer, before) {
-        let film = earlier.film;
-        Met { layer, film }
-    } else {
-        let film = film_of(light, layer);
-        Met { layer, film }
-    }
-}
-
-// Before the first layer: a NaN is the same as no number.
-pub fn none_met() -> Met
-    ensures { λ r. ⌜ r ≡ none-met ⌝ }
-{
-    let layer = ThinFilmLayer {
-        n: 0.0 / 0.0,
-        k: 0.0,
-        thickness_nm: 0.0,
-    };
-    let film = Film {
-        cos: 0.0,
-        y_s: 0.0,
-        z_s: 0.0,
-        y_p: 0.0,
-        z_p: 0.0,
-    };
-    Met { layer, film }
 }

@@ -1,40 +1,55 @@
 -- `surface_real::films::join_all` meets its contract. Assumes nothing.
-use mathlib.Core.Path.{_≡_, sym, ap, _∙_}
-use mathlib.Core.Logic.{_⊎_, inl, inr, ⊎-elim}
+use mathlib.Core.Path.{_≡_, refl, sym, ap, _∙_}
+use mathlib.Core.Logic.{⊎-elim}
 use Prim.Native.Nat.{ℕ, _≤_, _<_}
 use native.Mathlib.Omega.{arith}
 use mathlib.Core.Bool.{Bool}
 use mathlib.Core.List.{List}
-use lib.ListN.{length, take}
-use lib.Seq.{take-all}
+use lib.ListN.{length, replicate, length-replicate}
 use lib.Ieee.{Float}
-use Rattle.thin_film_solver.specs.declared.ThinFilmLayer.{ThinFilmLayer}
-use Rattle.thin_film_layers.specs.Evaluation.{ordered}
-use Rattle.surface_real.specs.declared.Stack.{Stack}
-use Rattle.surface_real.specs.Internal.{stacked}
+use borrow.Author.Needs.{needs}
+use Rattle.ieee.specs.Functions.{one}
+use Rattle.surface_real.specs.Internal.{film-of}
+use Rattle.surface_real.proofs.Arrays.{own-film}
+use Rattle.surface_real.proofs.Stacking.{all-joined}
 use Rattle.surface_real.proofs.films.join_all.Statement.{statement}
 use Rattle.surface_real.proofs.films.join_all.Tie as tie
 
-few : (c : tie.Joined1) → (c .if1 .few ≤ 16) × (((c .if1 .few ≡ c .before .args .n)) ⊎ ((16 ≤ c .if1 .few) × (16 ≤ c .before .args .n)))
-few c = ⊎-elim (λ w. (omega arith, inl (omega arith))) (λ w. (omega arith, inr (omega arith, omega arith))) (c .if1 .came)
+few : (c : tie.Joined1) → (c .if1 .few ≤ 16) × (c .before .args .count ≤ 16 → c .if1 .few ≡ c .before .args .count)
+few c = ⊎-elim (λ w. (omega arith, λ h. omega arith)) (λ w. (omega arith, λ h. omega (arith, h))) (c .if1 .came)
 
--- the first of 16 layers, or all of them
-firsts : (layers : List ThinFilmLayer) (m n : ℕ) → length layers ≡ 16 → (m ≡ n) ⊎ ((16 ≤ m) × (16 ≤ n)) → take m layers ≡ take n layers
-firsts layers m n long (inl e) = ap (λ (k : ℕ). take k layers) e
-firsts layers m n long (inr e) = take-all m layers (omega (arith, e .0)) ∙ sym (take-all n layers (omega (arith, e .1)))
-
-same : (c : tie.Joined1) → take (c .if1 .few) (c .before .args .layers) ≡ take (c .before .args .n) (c .before .args .layers)
-same c = firsts _ _ _ (c .before .good .1 .0 .1 .0 .1) (few c .1)
-
-taken : (snell wavelength : Float) (reversed : Bool) (layers first : List ThinFilmLayer) (k r : Stack) → r ≡ stacked snell wavelength k (ordered reversed first) → first ≡ layers
-    → r ≡ stacked snell wavelength k (ordered reversed layers)
-taken snell wavelength reversed layers first k r e f = e ∙ ap (λ (l : List ThinFilmLayer). stacked snell wavelength k (ordered reversed l)) f
+films : (c : tie.After-film-count) → c .film-count .result ≤ 16
+films c = omega (arith, c .film-count .ensures .0, few (c .before) .0)
 
 returns : tie.Need-returns
-returns c = taken _ _ _ _ _ _ _ (c .join-turns .ensures) (same (c .before .before .before))
-
-returns-2 : tie.Need-returns-2
-returns-2 c = taken _ _ _ _ _ _ _ (c .join-arrays .ensures) (same (c .before .before .before))
+returns c layers long low stand =
+    let q = c .before .before .before .before .before .before .before in
+    let w = q .before .before .before .before .before .before in
+    let m = w .before .before .before .before in
+    let r = m .before .before .before .before .before in
+    let h = r .before .before .before in
+    let f = h .before .before in
+    let s = f .before .before in
+    let a = s .args in
+    let snell = a .light .snell in
+    let nm = a .light .«wavelength_nm» in
+    let e = few (f .before) .1 low in
+    let own : (j : ℕ) → j < length layers → _ = λ j b.
+        let t = f .film-count .ensures .1 snell nm j (omega (arith, b, long, e)) in
+        own-film snell nm (a .n .now) (a .k .now) (a .d .now) (f .film-count .result) (films f) (replicate 16 one) (length-replicate 16 one) _ _ _ _ _ _ _ _ _ (h .radicands .ensures) (r .roots .ensures)
+        (m .media .ensures .0) (m .media .ensures .1) (m .media .ensures .2) (w .sin-cos .ensures .0) (w .sin-cos .ensures .1) (q .quotients .ensures .0) (q .quotients .ensures .1) _ (t .0)
+        ∙ t .1 ∙ ap (film-of snell nm) (sym (stand j b)) in
+    c .join-films .ensures ∙ all-joined snell nm layers (a .reversed) _ own (a .stack) _ (long ∙ sym e)
 
 pub join-all-spec : {M : Type 1} → statement M
-join-all-spec = tie.close (tie.spec (λ c κs. few c .0) (λ c κs. few (c .before .before) .0) (λ c κs. few (c .before .before) .0) returns returns-2)
+join-all-spec =
+    tie.close
+    (tie.spec
+    (λ c κs. few c .0)
+    (λ c κs. films (c .before))
+    (λ c κs. films (c .before .before .before .before))
+    (λ c κs. films (c .before .before .before .before .before .before .before .before .before))
+    (λ c κs. search needs)
+    (λ c κs. films (c .before .before .before .before .before .before .before .before .before .before .before .before .before .before .before .before .before .before .before))
+    (λ c κs. few (c .before .before .before .before .before .before .before .before .before .before .before .before .before .before .before .before .before .before .before .before .before .before .before .before .before .before .before) .0)
+    returns)
