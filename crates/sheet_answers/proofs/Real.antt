@@ -1,9 +1,7 @@
--- The powers over real numbers of layers in the first of 16 places. Assumes nothing.
+-- The powers over real numbers of layers. Assumes nothing.
 use mathlib.Core.Path.{_≡_, sym, ap, _∙_}
 use mathlib.Core.Bool.{Bool, true}
 use mathlib.Core.List.{List}
-use Prim.Native.Nat.{ℕ}
-use lib.ListN.{take}
 use Rattle.thin_film_solver.specs.declared.ThinFilmLayer.{ThinFilmLayer}
 use Rattle.thin_film_solver.specs.declared.Incidence.{Incidence}
 use Rattle.thin_film_solver.specs.Internal.{solved}
@@ -20,10 +18,7 @@ known-stack light layers k q k-is q-is e =
     let is : q ≡ real-powers light layers = q-is ∙ ap (finish light) k-is in
     ap (λ (z : Known). z .powers) is ∙ whole light layers (ap (λ (z : Known). z .known) (sym is) ∙ e)
 
-pub known : (light : Incidence) (reversed : Bool) (layers places : List ThinFilmLayer) (n : ℕ) (none k : Stack) (q : Known) → take n places ≡ layers → none ≡ no-films
-    → k ≡ stacked (light .snell) (light .«wavelength_nm») none (ordered reversed (take n places)) → q ≡ finish light k → q .known ≡ true
-    → q .powers ≡ coated-powers (solved light (ordered reversed layers))
-known light reversed layers places n none k q there none-is k-is =
-    known-stack light (ordered reversed layers) k q
-    (k-is ∙ ap (λ (z : Stack). stacked (light .snell) (light .«wavelength_nm») z (ordered reversed (take n places))) none-is
-    ∙ ap (λ (l : List ThinFilmLayer). stacked (light .snell) (light .«wavelength_nm») no-films (ordered reversed l)) there)
+pub known : (light : Incidence) (reversed : Bool) (layers : List ThinFilmLayer) (none k : Stack) (q : Known) → none ≡ no-films
+    → k ≡ stacked (light .snell) (light .«wavelength_nm») none (ordered reversed layers) → q ≡ finish light k → q .known ≡ true → q .powers ≡ coated-powers (solved light (ordered reversed layers))
+known light reversed layers none k q none-is k-is =
+    known-stack light (ordered reversed layers) k q (k-is ∙ ap (λ (z : Stack). stacked (light .snell) (light .«wavelength_nm») z (ordered reversed layers)) none-is)

@@ -3,17 +3,18 @@ ghost use mathlib.Core.Path.{_≡_};
 ghost use mathlib.Core.Bool.{true, false};
 ghost use mathlib.Core.List.{List};
 ghost use Prim.Native.Nat.{_≤_};
-ghost use lib.ListN.{take};
+ghost use lib.ListN.{getD, take};
 ghost use lib.Ieee.{lt};
 ghost use Rattle.refusal.specs.Outcome.{answer, map};
 ghost use Rattle.thin_film_solver.specs.declared.ThinFilmLayer as T;
-ghost use Rattle.thin_film_layers.specs.Evaluation.{ordered};
+ghost use Rattle.thin_film_layers.specs.Evaluation.{ordered, no-layer};
 ghost use Rattle.thin_film_presets.specs.Layers.{broadband-layers};
 ghost use Rattle.thin_film_coating.specs.declared.Coating.the-variants.{Multilayer};
 ghost use Rattle.thin_film_coating.specs.Evaluate.{evaluate-coating};
 ghost use Rattle.thin_film.specs.Coating.{mgf2-layers, mirror-layers};
 ghost use Rattle.thin_film.specs.Evaluate.{evaluate-surface};
 ghost use Rattle.surface.specs.Answers.{coated-powers};
+ghost use Rattle.math_waves.specs.Waves.{written};
 use gate_limits::Surface;
 use surface::Powers;
 use surface_real::Known;
@@ -63,6 +64,27 @@ fn mirror() -> [ThinFilmLayer; 16]
     [h, l, h, l, h, l, h, l, h, l, h, l, h, l, h, o]
 }
 
+// The numbers of the first layers, each kind in an array.
+fn spread(
+    layers: [ThinFilmLayer; 16],
+    count: usize,
+    n: &mut [f64; 16],
+    k: &mut [f64; 16],
+    d: &mut [f64; 16],
+)
+    requires { ⌜ count ≤ 16 ⌝ }
+    ensures { λ r. ⌜ (now (n .exit) ≡ written (λ j. getD layers j no-layer .n) count (now (n .entry))) × (now (k .exit) ≡ written (λ j. getD layers j no-layer .k) count (now (k .entry))) × (now (d .exit) ≡ written (λ j. getD layers j no-layer .«thickness_nm») count (now (d .entry))) ⌝ }
+{
+    let mut i = 0;
+    while i < count {
+        let layer = layers[i];
+        n[i] = layer.n;
+        k[i] = layer.k;
+        d[i] = layer.thickness_nm;
+        i += 1;
+    }
+}
+
 // ---- powers
 
 // No powers that are known.
@@ -102,8 +124,26 @@ fn layers_powers(
     ) {
         Prepared::Answered(_) => unknown(),
         Prepared::Layers { reversed, light } => {
+            let mut indices = [1.0; 16];
+            let mut absorbing = [1.0; 16];
+            let mut thicknesses = [1.0; 16];
+            spread(
+                layers,
+                n,
+                &mut indices,
+                &mut absorbing,
+                &mut thicknesses,
+            );
             let none = surface_real::no_films();
-            let stack = surface_real::films::join_all(light, layers, n, reversed, none);
+            let stack = surface_real::films::join_all(
+                light,
+                &indices,
+                &absorbing,
+                &thicknesses,
+                n,
+                reversed,
+                none,
+            );
             surface_real::finish(light, stack)
         }
     }

@@ -2,7 +2,6 @@
 ghost use mathlib.Core.Path.{_≡_};
 ghost use mathlib.Core.Bool.{true};
 ghost use Prim.Native.Nat.{_≤_};
-ghost use lib.ListN.{take};
 ghost use Rattle.refusal.specs.Outcome.{map};
 ghost use Rattle.sheet.specs.Internal.{next-place, layers-at};
 ghost use Rattle.sheet_values.specs.Values.{films};
@@ -13,7 +12,9 @@ ghost use Rattle.thin_film_coating.specs.declared.Coating.the-variants.{Multila
 ghost use Rattle.thin_film.specs.declared.SurfaceCoating.the-variants.{Custom};
 ghost use Rattle.thin_film.specs.Evaluate.{evaluate-surface};
 ghost use Rattle.surface.specs.Answers.{coated-powers};
+ghost use Rattle.math_waves.specs.Waves.{written};
 ghost use Rattle.surface_real.specs.Internal.{no-films, stacked};
+ghost use Rattle.sheet_answers.specs.Internal.{nth-film};
 ghost use Rattle.sheet_answers.specs.Outcome.{outcome-of};
 use crate::PowersReply;
 use crate::presets;
@@ -27,26 +28,30 @@ use thin_film_coating::Coating;
 use thin_film_layers::Evaluation;
 use thin_film_layers::Prepared;
 use thin_film_solver::Incidence;
-use thin_film_solver::ThinFilmLayer;
 
-// The n layers after the block at a place, at a wavelength, in the sheet's order: read in one walk.
-fn layers_after(src: &[u8], at: usize, n: usize, wavelength_nm: f64) -> [ThinFilmLayer; 16]
-    requires { ⌜ n ≤ 16 ⌝ }
-    ensures { λ r. ⌜ take n r ≡ films «wavelength_nm» (layers-at (now (src .entry)) (next-place (now (src .entry)) at) n) ⌝ }
+// The numbers of count layers after the block at a place, at a wavelength, in the sheet's order: read in one walk.
+fn read_layers(
+    src: &[u8],
+    at: usize,
+    count: usize,
+    wavelength_nm: f64,
+    n: &mut [f64; 16],
+    k: &mut [f64; 16],
+    d: &mut [f64; 16],
+)
+    requires { ⌜ count ≤ 16 ⌝ }
+    ensures { λ r. ⌜ (now (n .exit) ≡ written (λ j. nth-film «wavelength_nm» (now (src .entry)) at j .n) count (now (n .entry))) × (now (k .exit) ≡ written (λ j. nth-film «wavelength_nm» (now (src .entry)) at j .k) count (now (k .entry))) × (now (d .exit) ≡ written (λ j. nth-film «wavelength_nm» (now (src .entry)) at j .«thickness_nm») count (now (d .entry))) ⌝ }
 {
-    let mut layers = [ThinFilmLayer {
-        n: 0.0,
-        k: 0.0,
-        thickness_nm: 0.0,
-    }; 16];
     let mut place = sheet::next_place(src, at);
     let mut i = 0;
-    while i < n {
-        layers[i] = sheet_values::layer_at(src, place, wavelength_nm);
+    while i < count {
+        let layer = sheet_values::layer_at(src, place, wavelength_nm);
+        n[i] = layer.n;
+        k[i] = layer.k;
+        d[i] = layer.thickness_nm;
         place = sheet::next_place(src, place);
         i += 1;
     }
-    layers
 }
 
 // The products of the n films after the block at a place, in their order or reversed, one by one: for one or two films
@@ -89,9 +94,28 @@ fn quick_powers(
     if n <= 2 {
         return surface_real::finish(light, stack_at(src, at, n, reversed, wavelength_nm, light));
     }
-    let layers = layers_after(src, at, n, wavelength_nm);
+    let mut indices = [1.0; 16];
+    let mut absorbing = [1.0; 16];
+    let mut thicknesses = [1.0; 16];
+    read_layers(
+        src,
+        at,
+        n,
+        wavelength_nm,
+        &mut indices,
+        &mut absorbing,
+        &mut thicknesses,
+    );
     let none = surface_real::no_films();
-    let stack = surface_real::films::join_all(light, layers, n, reversed, none);
+    let stack = surface_real::films::join_all(
+        light,
+        &indices,
+        &absorbing,
+        &thicknesses,
+        n,
+        reversed,
+        none,
+    );
     surface_real::finish(light, stack)
 }
 

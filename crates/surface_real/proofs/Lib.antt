@@ -8,3 +8,4 @@ pub mod Turns
 mod Stacking
 mod Again
 mod Arrays
+pub mod Stands
