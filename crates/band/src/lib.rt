@@ -1,7 +1,7 @@
 // A whole band (document 02, slip 14): a sheet's train at each of 1 to 64 lines from its start, and the
 // weighed means of s and of p.
 ghost use mathlib.Core.Path.{_≡_};
-ghost use Prim.Native.Nat.{_-_, _<_, _%_};
+ghost use Prim.Native.Nat.{_<_};
 ghost use mathlib.Core.Bool.{true};
 ghost use lib.Dec.{T};
 ghost use lib.Ieee.{Float};
@@ -12,10 +12,9 @@ ghost use Rattle.sheet.specs.Internal.{begin};
 ghost use Rattle.gate.specs.Gate.{gated};
 ghost use Rattle.gate.specs.Internal.{layers-hold-at, holds-at};
 ghost use Rattle.band.specs.Band.{weight-passes, lines-fit, whole-sum, powers, outcome, band};
-ghost use Rattle.band.specs.Internal.{first-false, AllPass, five-hundred, sixteen-nm, Sixteen};
+ghost use Rattle.band.specs.Internal.{first-false, AllPass, five-hundred, all-nm};
 use gate::Gated;
 use refusal::Refusal;
-use train_lines::Lines;
 
 mod steady;
 
@@ -90,29 +89,14 @@ fn nth_nm(wavelengths: &[f64], i: usize) -> f64
     }
 }
 
-// Sixteen wavelengths from one on.
-fn sixteen_nm(wavelengths: &[f64], from: usize) -> [f64; 16]
-    requires { ⌜ from < 64 ⌝ }
-    ensures { λ r. ⌜ r ≡ sixteen-nm (now (wavelengths .entry)) from 16 ⌝ }
+// All wavelengths, in places.
+fn all_nm(wavelengths: &[f64], nm: &mut [f64; 64])
+    ensures { λ r. ⌜ now (nm .exit) ≡ all-nm (now (wavelengths .entry)) 64 (now (nm .entry)) ⌝ }
 {
-    let mut nm = [0.0; 16];
     let mut i = 0;
-    while i < 16 {
-        nm[i] = nth_nm(wavelengths, from + i);
+    while i < 64 {
+        nm[i] = nth_nm(wavelengths, i);
         i += 1;
-    }
-    nm
-}
-
-// The trains at the sixteen lines that the i-th is among, from their start to their last surface: run at the first of them.
-fn lines_at(src: &[u8], count: u32, wavelengths: &[f64], i: usize, before: Lines) -> Lines
-    requires { ⌜ i < 64 ⌝ }
-    ensures { λ r. ⌜ (((i % 16 ≡ 0 → ⊥) → Sixteen (now (src .entry)) count (now (wavelengths .entry)) (i - i % 16) before) → Sixteen (now (src .entry)) count (now (wavelengths .entry)) (i - i % 16) r) ⌝ }
-{
-    if i % 16 == 0 {
-        train_lines::run_lines(src, count, sixteen_nm(wavelengths, i))
-    } else {
-        before
     }
 }
 
@@ -130,21 +114,19 @@ fn weighed(src: &[u8], count: u32, wavelengths: &[f64], weights: &[u32]) -> Band
     ensures { λ r. ⌜ ((x : Sheet) → gated (now (src .entry)) ≡ answer x → length (x .surfaces) ≡ count → AllPass x (now (wavelengths .entry)) → r ≡ powers x (now (wavelengths .entry)) (now (weights .entry))) ⌝ }
 {
     let n = wavelengths.len();
+    let mut nm = [1.0; 64];
+    let mut of_s = [1.0; 64];
+    let mut of_p = [1.0; 64];
+    all_nm(wavelengths, &mut nm);
+    train_lines::run_lines(src, count, n, &mut nm, &mut of_s, &mut of_p);
     let mut s = 0.0;
     let mut p = 0.0;
     let mut whole: u32 = 0;
-    let mut lines = Lines {
-        s: [0.0; 16],
-        p: [0.0; 16],
-    };
     let mut i = 0;
     while i < n {
-        lines = lines_at(src, count, wavelengths, i, lines);
-        let of_s = lines.s;
-        let of_p = lines.p;
         let weight = weights[i];
-        s = s + weight as f64 * of_s[i % 16];
-        p = p + weight as f64 * of_p[i % 16];
+        s = s + weight as f64 * of_s[i];
+        p = p + weight as f64 * of_p[i];
         whole += weight;
         i += 1;
     }

@@ -4,6 +4,7 @@ use mathlib.Core.Bool.{Bool, true, false, cond}
 use mathlib.Core.List.{List, [], _∷_}
 use Prim.Native.Nat.{ℕ, zero, suc, _+_, _-_, _≤_, _<_}
 use native.Mathlib.Nat.{not-suc-le-zero, le-of-suc-le-suc}
+use native.Mathlib.Numerals.{add-one}
 use native.Mathlib.Omega.{arith}
 use borrow.Author.Tests.{ne-eqb}
 use lib.Dec.{eqb}
@@ -27,6 +28,15 @@ unfolding plains place-on
 nth src from zero j d h = absurd (not-suc-le-zero h)
 nth src from (suc n) zero d h = refl
 nth src from (suc n) (suc j) d h = nth src (next-place src from) n j d (le-of-suc-le-suc h)
+
+-- one place on
+one-on-suc : (src : List ℕ) (from i : ℕ) → next-place src (place-on src from i) ≡ place-on src from (suc i)
+unfolding place-on
+one-on-suc src from zero = refl
+one-on-suc src from (suc i) = one-on-suc src (next-place src from) i
+
+pub one-on : (src : List ℕ) (from i : ℕ) → next-place src (place-on src from i) ≡ place-on src from (i + 1)
+one-on src from i = one-on-suc src from i ∙ ap (place-on src from) (sym (add-one i))
 
 -- ---- a kind 4 at a place
 one : (src : List ℕ) (from : ℕ) (w : Float) → eqb (kind (word src from)) 6 ≡ false → film w (layer-at src from) ≡ plain-at src from

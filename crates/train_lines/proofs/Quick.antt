@@ -1,14 +1,13 @@
 -- The quick way at a line gives what a run has. Assumes nothing.
-use mathlib.Core.Path.{_≡_, refl, sym, ap, _∙_, subst}
-use mathlib.Core.Bool.{Bool, true, false, _&&_, cond}
-use mathlib.Core.List.{List, []}
+use mathlib.Core.Path.{_≡_, refl, sym, ap, _∙_}
+use mathlib.Core.Bool.{true}
+use mathlib.Core.List.{List}
 use Prim.Native.Nat.{ℕ, _≤_}
 use native.Mathlib.Omega.{arith}
 use lib.ListN.{length}
 use lib.Ieee.{Float, lt}
 use Rattle.refusal.specs.Outcome.{Outcome, answer, map}
-use Rattle.sheet.specs.Internal.{next-place, surface-at, layers-at}
-use Rattle.sheet_values.specs.Values.{films, surface-value}
+use Rattle.sheet.specs.Internal.{next-place}
 use Rattle.gate_limits.specs.declared.Surface.{Surface}
 use Rattle.gate_limits.specs.Coating.{coded, interface}
 use Rattle.thin_film_solver.specs.declared.ThinFilmLayer.{ThinFilmLayer}
@@ -29,18 +28,21 @@ use Rattle.thin_film.specs.Evaluate.{rust-evaluate-surface, evaluate-surface}
 use Rattle.surface.specs.declared.Powers.{Powers}
 use Rattle.surface.specs.Answers.{coated-powers, powers-of, powers}
 use Rattle.surface_real.specs.declared.Known.{Known}
+use Rattle.surface_real.specs.declared.Stack.{Stack}
 use Rattle.surface_real.specs.Internal.{no-films, stacked, finish}
 use Rattle.surface_real.proofs.Whole.{whole}
+use Rattle.surface_lines.specs.declared.Sides.{Sides}
+use Rattle.surface_lines.specs.Internal.{finished, Told}
 use Rattle.train_steps.specs.declared.Chosen.{Chosen}
 use Rattle.train_steps.specs.Train.{chosen, chosen-of}
 use Rattle.train_steps.specs.Internal.{chosen-alone, chosen-at}
-use Rattle.train_lines.specs.Internal.{plains, quick, quick-chosen}
+use Rattle.train_lines.specs.Internal.{plains, light-of, Steady}
 use Rattle.train_lines.proofs.Plains.{many}
 
 -- ---- custom layers that can be evaluated
 module _ (w : Float) (s : Surface) (ls : List ThinFilmLayer) where
   abbrev light : Incidence
-  light = incidence (s .«n_incident») (s .«n_substrate») (s .«angle_rad») w
+  light = light-of s w
 
   abbrev met : List ThinFilmLayer
   met = ordered (lt (s .«n_substrate») (s .«n_incident»)) ls
@@ -67,21 +69,24 @@ module _ (w : Float) (s : Surface) (ls : List ThinFilmLayer) where
     told e = ap (chosen (s .reflected)) (known e) ∙ ap (chosen-of (s .reflected)) (sym custom)
 
 -- ---- a line
-module _ (src : List ℕ) (place n : ℕ) (s : Surface) (s-is : s ≡ surface-value (surface-at src place [])) (w : Float) (code : s .coating ≡ 5) (few : n ≤ 64)
-    (plain : films w (layers-at src (next-place src place) n) ≡ plains src (next-place src place) n) where
+module _ (src : List ℕ) (place n : ℕ) (s : Surface) (d : Sides) (es ep th : List Float) (h : Steady src place n s d es ep th) (w : Float) where
   abbrev ps : List ThinFilmLayer
   ps = plains src (next-place src place) n
 
   run-is : chosen-of (s .reflected) (powers w s ps) ≡ chosen-at src place n w
   unfolding chosen-at chosen-alone
-  run-is = (λ i. chosen-of (s-is i .reflected) (powers w (s-is i) (sym plain i)))
+  run-is = (λ i. chosen-of (h .s-is i .reflected) (powers w (h .s-is i) (sym (h .plain w) i)))
 
-  either : (a b : Bool) → valid (s .«n_incident») (s .«n_substrate») (s .«angle_rad») w ≡ a → last w s ps .known ≡ b
-      → cond (a && b) (chosen (s .reflected) (last w s ps .powers)) (chosen-at src place n w) ≡ chosen-at src place n w
-  either true true e f = told w s ps code (omega (arith, few, many src (next-place src place) n)) e f ∙ run-is
-  either true false e f = refl
-  either false b e f = refl
+  abbrev stack : Stack
+  stack = stacked (light-of s (h .wavelength) .snell) w no-films (met w s ps)
 
-  pub quick-is : quick-chosen src place n s w ≡ chosen-at src place n w
-  unfolding quick-chosen quick incidence
-  quick-is = either (valid (s .«n_incident») (s .«n_substrate») (s .«angle_rad») w) (last w s ps .known) refl refl
+  -- light's wavelength is not looked at
+  finished-is : finished d stack ≡ last w s ps
+  unfolding incidence finish
+  finished-is = ap (λ (z : Sides). finished z stack) (h .sides-are)
+
+  pub quick-is : (a b : Float) → valid (s .«n_incident») (s .«n_substrate») (s .«angle_rad») w ≡ true → Told d (s .reflected) stack a b → (a ≡ chosen-at src place n w .s) × (b ≡ chosen-at src place n w .p)
+  quick-is a b ok t =
+      let e = told w s ps (h .code) (omega (arith, h .few, many src (next-place src place) n)) ok (ap (λ (z : Known). z .known) (sym finished-is) ∙ t .known) ∙ run-is in
+      let f : chosen (s .reflected) (finished d stack .powers) ≡ chosen-at src place n w = ap (λ (z : Known). chosen (s .reflected) (z .powers)) finished-is ∙ e in
+      (t .s-is ∙ ap (λ (z : Chosen). z .s) f, t .p-is ∙ ap (λ (z : Chosen). z .p) f)

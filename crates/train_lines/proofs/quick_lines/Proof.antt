@@ -1,78 +1,26 @@
 -- `train_lines::quick_lines` meets its contract. Assumes nothing.
-use mathlib.Core.Path.{_≡_, ap, _∙_}
-use mathlib.Core.Bool.{cond}
-use mathlib.Core.List.{List}
-use Prim.Native.Nat.{ℕ, _-_, _≤_, _<_}
-use native.Mathlib.Omega.{arith}
-use borrow.Author.Tests.{lt-ltb}
-use lib.Dec.{ltb}
-use lib.Ieee.{Float, lt}
-use Rattle.sheet.specs.Internal.{next-place}
-use Rattle.gate_limits.specs.declared.Surface.{Surface}
-use Rattle.thin_film_solver.specs.declared.Incidence.{Incidence}
-use Rattle.thin_film_solver.specs.Internal.{incidence}
-use Rattle.thin_film_layers.specs.Evaluation.{ordered}
-use Rattle.surface_real.specs.declared.Stack.{Stack}
-use Rattle.surface_real.specs.Internal.{no-films, stacked}
-use Rattle.surface_lines.specs.declared.Stacks.{Stacks}
-use Rattle.surface_lines.specs.Internal.{line, stack-in}
-use Rattle.train_steps.specs.declared.Chosen.{Chosen}
-use Rattle.train_lines.specs.Internal.{plains, quick, quick-chosen}
-use Rattle.train_lines.proofs.Train.{Filled, none, more, all}
+use mathlib.Core.Path.{_≡_}
+use mathlib.Core.Bool.{Bool, false, not}
+use lib.Dec.{T}
+use Rattle.ieee.proofs.Signs.{of-true}
 use borrow.Author.Needs.{needs}
+use borrow.Author.Tests.{not-false}
 use Rattle.train_lines.proofs.quick_lines.Statement.{statement}
 use Rattle.train_lines.proofs.quick_lines.Tie as tie
 
-module _ (src : List ℕ) (place n : ℕ) (s : Surface) (nm : List Float) where
-  -- what is worked out for a line
-  here : (w : Float) (light : Incidence) → light ≡ incidence (s .«n_incident») (s .«n_substrate») (s .«angle_rad») w → (k : Stacks)
-      → ((j : ℕ) → j < 16 → stack-in k j ≡ stacked (light .snell) (line nm j) no-films (ordered (lt (s .«n_substrate») (s .«n_incident»)) (plains src (next-place src place) n)))
-      → (i : ℕ) → i < 16 → (t : Stack) → t ≡ cond (ltb i 16) (stack-in k i) no-films → (r : Chosen)
-      → r ≡ quick src place n s (record { «n_incident» = light .«n_incident»; «n_substrate» = light .«n_substrate»; «cos_theta0» = light .«cos_theta0»; snell = light .snell; «wavelength_nm» = line nm i }) t
-      → r ≡ quick-chosen src place n s (line nm i)
-  unfolding quick-chosen incidence
-  here w light light-is k k-is i h t t-is r r-is =
-      r-is
-      ∙ ap (quick src place n s (record { «n_incident» = light .«n_incident»; «n_substrate» = light .«n_substrate»; «cos_theta0» = light .«cos_theta0»; snell = light .snell; «wavelength_nm» = line nm i }))
-      (t-is ∙ ap (λ b. cond b (stack-in k i) no-films) (lt-ltb _ _ h) ∙ k-is i h)
-      ∙ ap (λ (z : Incidence). quick src place n s (record { «n_incident» = z .«n_incident»; «n_substrate» = z .«n_substrate»; «cos_theta0» = z .«cos_theta0»; snell = z .snell; «wavelength_nm» = line nm i })
-      (stacked (z .snell) (line nm i) no-films (ordered (lt (s .«n_substrate») (s .«n_incident»)) (plains src (next-place src place) n)))) light-is
+so : (b : Bool) → not b ≡ false → T b
+so b e = of-true b (not-false b e)
 
-abbrev Inv-loop : tie.InvT-loop
-Inv-loop src place n surface nm light reversed k s₀ p₀ i₀ s p i = Filled (λ j. quick-chosen src place n surface (line nm j)) s p i
+returns : tie.Need-returns
+returns c = (c .before .pre .2, λ t. absurd t)
 
-abbrev μ-loop : tie.MeasureT-loop
-μ-loop src place n surface nm light reversed k s₀ p₀ i₀ s p i = 16 - i
+returns-2 : tie.Need-returns-2
+returns-2 c = (c .before .before .before .pre .2, λ t. absurd t)
 
-loop-holds : tie.Need-loop-holds Inv-loop μ-loop
-loop-holds c = none _
-
-loop-again : tie.Need-loop-again Inv-loop μ-loop
-loop-again c =
-    more _ _ _ _ _ (c .before .before .before .loop .inv) (c .before .before .loop-test .taken)
-    (here _ _ _ _ (c .before .before .before .before .before .before .before .before .args .t5) _ _ (c .before .before .before .before .before .before .new .ensures) _ (c .before .before .before .before .stacks-at .ensures) _ (c .before .before .loop-test .taken) _ (c .before .line-of .ensures) _ (c .chosen-line .ensures))
-
-returns : tie.Need-returns Inv-loop μ-loop
-returns c = all _ _ _ (c .before .loop .i) (c .before .loop .inv) (c .loop-test .left)
+returns-3 : tie.Need-returns-3
+returns-3 c =
+    let v = c .before .before .before .before .before in
+    (c .powers .ensures .0, λ t. (so (v .before .before .args .steady) (v .before .if1 .left), v .valid-lines .ensures (so (v .valid-lines .result) (c .before .before .before .before .if2 .left)), c .powers .ensures .1 t))
 
 pub quick-lines-spec : {M : Type 1} → statement M
-quick-lines-spec =
-    tie.close
-    (tie.spec
-    Inv-loop
-    μ-loop
-    (λ c κs. search needs)
-    (λ c κs. search needs)
-    loop-holds
-    (λ c. search needs)
-    (λ c. search needs)
-    (λ c κs. search needs)
-    (λ c κs. search needs)
-    (λ c. search needs)
-    (λ c. search needs)
-    (λ c. search needs)
-    (λ c. search needs)
-    (λ c. search needs)
-    (λ c. search needs)
-    loop-again
-    returns)
+quick-lines-spec = tie.close (tie.spec returns (λ c κs. search needs) returns-2 (λ c κs. let s = c .before .before .before .before .before .before in (s .pre .0 (so (s .args .steady) (c .before .before .before .before .before .if1 .left)), s .pre .1, s .pre .2)) returns-3)

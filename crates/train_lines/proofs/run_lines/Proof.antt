@@ -11,25 +11,25 @@ use Rattle.train_lines.proofs.run_lines.Statement.{statement}
 use Rattle.train_lines.proofs.run_lines.Tie as tie
 
 abbrev Inv-loop : tie.InvT-loop
-Inv-loop src n course₀ begin₀ i₀ course begin i = Left src n (course₀ .nm) course begin i
+Inv-loop src n m nm₀ s₀ p₀ begin₀ i₀ nm s p begin i = Left src n m nm₀ nm s p begin i
 
 abbrev μ-loop : tie.MeasureT-loop
-μ-loop src n course₀ begin₀ i₀ course begin i = n - i
+μ-loop src n m nm₀ s₀ p₀ begin₀ i₀ nm s p begin i = n - i
 
 few : (src : List ℕ) (at n : ℕ) → n ≡ layer-run 16 src at → n ≤ 16
 few src at n e = let h = run-most 16 src at in omega arith
 
 loop-holds : tie.Need-loop-holds Inv-loop μ-loop
-loop-holds c = begun _ _ _ _ (c .before .beam-of .ensures) _ (c .begin-of .ensures)
+loop-holds c = let s = c .before .before .before .before .before in begun _ _ _ (s .args .nm .now) (s .pre .0) (s .pre .1) _ (c .before .before .before .beam-of .ensures) _ (c .begin-of .ensures)
 
 add-place-on : tie.Need-add-place-on Inv-loop μ-loop
-add-place-on c = record { fits = omega (arith, few _ _ _ (c .before .layer-run .ensures)) }
+add-place-on c = record { fits = omega (arith, few _ _ _ (c .before .before .before .before .before .before .layer-run .ensures)) }
 
 loop-again : tie.Need-loop-again Inv-loop μ-loop
-loop-again c = further _ _ _ _ _ _ (c .before .before .before .before .before .loop .inv) (c .before .before .before .before .loop-test .taken) _ (c .before .before .before .onto .ensures) _ (c .before .before .layer-run .ensures) _ (c .before .moved-lines .ensures) _ (c .place-on .ensures)
+loop-again c = further _ _ _ _ _ _ _ _ _ (c .before .before .before .before .before .before .before .before .before .before .loop .inv) (c .before .before .before .before .before .before .before .before .before .before .before .before .before .before .before .before .pre .0) (c .before .before .before .before .before .before .before .before .before .loop-test .taken) _ (c .before .before .before .before .before .before .before .before .onto .ensures) _ (c .before .before .before .before .before .before .before .layer-run .ensures) _ _ _ (c .before .before .before .before .before .met-lines .ensures) (c .before .moved-lines .ensures .0) (c .before .moved-lines .ensures .1) _ (c .place-on .ensures)
 
 returns : tie.Need-returns Inv-loop μ-loop
-returns c = done _ _ _ _ _ _ (c .before .before .before .loop .inv) (c .before .before .loop-test .left)
+returns c = done _ _ _ _ _ _ _ _ _ (c .before .loop .inv) (c .loop-test .left)
 
 pub run-lines-spec : {M : Type 1} → statement M
 run-lines-spec =
@@ -42,7 +42,8 @@ run-lines-spec =
     loop-holds
     (λ c κs. search needs)
     (λ c κs. search needs)
-    (λ c κs. search needs)
+    (λ c κs. c .before .before .before .before .before .before .before .before .before .before .pre .0)
+    (λ c κs. c .before .before .before .before .before .before .before .before .before .before .before .before .before .before .pre .0)
     add-place-on
     (λ c κs. search needs)
     (λ c. search needs)
