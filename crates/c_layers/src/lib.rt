@@ -11,7 +11,8 @@ ghost use Rattle.thin_film_layers.specs.Evaluation.{ordered, no-layer, outcome}
 ghost use Rattle.surface_real.specs.Internal.{no-films, stacked};
 ghost use Rattle.thin_film.specs.Evaluate.{evaluate-surface};
 ghost use Rattle.c_layers.specs.Evaluate.{layers, call-coating, evaluate, refusal-number};
-ghost use Rattle.c_layers.specs.Internal.{number-custom};
+ghost use Rattle.math_waves.specs.Waves.{written};
+ghost use Rattle.c_layers.specs.Internal.{layer-on, number-custom};
 use gate_limits::Interface;
 use surface_real::Stack;
 use thin_film::SurfaceCoating;
@@ -59,22 +60,46 @@ fn at_most_16(left: usize) -> usize
     if left < 16 { left } else { 16 }
 }
 
-// A few layers of the list, after so many others, in its order.
-fn layers_from(flat: &[f64], after: usize, few: usize) -> [ThinFilmLayer; 16]
+// The numbers of a few layers of the list, after so many others, in its order.
+fn layers_from(
+    flat: &[f64],
+    after: usize,
+    few: usize,
+    n: &mut [f64; 16],
+    k: &mut [f64; 16],
+    d: &mut [f64; 16],
+)
     requires { ⌜ (few ≤ 16) × (after + few ≤ length (now flat) / 3) ⌝ }
-    ensures { λ r. ⌜ take few r ≡ take few (drop after (layers (now (flat .entry)))) ⌝ }
+    ensures { λ r. ⌜ (now (n .exit) ≡ written (λ j. layer-on (now (flat .entry)) after j .n) few (now (n .entry))) × (now (k .exit) ≡ written (λ j. layer-on (now (flat .entry)) after j .k) few (now (k .entry))) × (now (d .exit) ≡ written (λ j. layer-on (now (flat .entry)) after j .«thickness_nm») few (now (d .entry))) ⌝ }
 {
-    let mut some = [ThinFilmLayer {
-        n: 0.0,
-        k: 0.0,
-        thickness_nm: 0.0,
-    }; 16];
     let mut i = 0;
     while i < few {
-        some[i] = layer_at(flat, after + i);
+        let layer = layer_at(flat, after + i);
+        n[i] = layer.n;
+        k[i] = layer.k;
+        d[i] = layer.thickness_nm;
         i += 1;
     }
-    some
+}
+
+// A few layers of the list, after so many others, joined to a product. The arrays have the list's own order, and are read
+// from their far end where light meets that first (document 02, slip 4).
+fn join_some(
+    flat: &[f64],
+    after: usize,
+    few: usize,
+    reversed: bool,
+    light: Incidence,
+    stack: Stack,
+) -> Stack
+    requires { ⌜ (few ≤ 16) × (after + few ≤ length (now flat) / 3) ⌝ }
+    ensures { λ r. ⌜ r ≡ stacked (light .snell) (light .«wavelength_nm») stack (ordered reversed (take few (drop after (layers (now (flat .entry)))))) ⌝ }
+{
+    let mut n = [1.0; 16];
+    let mut k = [1.0; 16];
+    let mut d = [1.0; 16];
+    layers_from(flat, after, few, &mut n, &mut k, &mut d);
+    surface_real::films::join_all(light, &n, &k, &d, few, reversed, stack)
 }
 
 // Where a few layers stand in a list of n that light meets after i others: from its front, or from its far end.
@@ -85,8 +110,7 @@ fn front_of(reversed: bool, n: usize, i: usize, few: usize) -> usize
     if reversed { n - i - few } else { i }
 }
 
-// The products of every layer's films over real numbers, in the order of the list or reversed: 16 at a time. Each array has
-// the list's own order, and is read from its far end where light meets that first (document 02, slip 4).
+// The products of every layer's films over real numbers, in the order of the list or reversed: 16 at a time.
 fn stack_of(flat: &[f64], reversed: bool, light: Incidence) -> Stack
     ensures { λ r. ⌜ r ≡ stacked (light .snell) (light .«wavelength_nm») no-films (ordered reversed (layers (now (flat .entry)))) ⌝ }
 {
@@ -95,8 +119,8 @@ fn stack_of(flat: &[f64], reversed: bool, light: Incidence) -> Stack
     let mut i = 0;
     while i < n {
         let few = at_most_16(n - i);
-        let some = layers_from(flat, front_of(reversed, n, i, few), few);
-        stack = surface_real::films::join_all(light, some, few, reversed, stack);
+        let after = front_of(reversed, n, i, few);
+        stack = join_some(flat, after, few, reversed, light, stack);
         i += few;
     }
     stack

@@ -127,13 +127,7 @@ fn layers_powers(
             let mut indices = [1.0; 16];
             let mut absorbing = [1.0; 16];
             let mut thicknesses = [1.0; 16];
-            spread(
-                layers,
-                n,
-                &mut indices,
-                &mut absorbing,
-                &mut thicknesses,
-            );
+            spread(layers, n, &mut indices, &mut absorbing, &mut thicknesses);
             let none = surface_real::no_films();
             let stack = surface_real::films::join_all(
                 light,

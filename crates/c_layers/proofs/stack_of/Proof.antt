@@ -27,23 +27,24 @@ loop-holds c = (omega arith, begun _ _ _ _ (c .no-films .ensures))
 front-of-requires : tie.Need-front-of-requires Inv-loop μ-loop
 front-of-requires c κs = omega (arith, c .at-most-16 .ensures .1, c .before .loop-test .taken)
 
-layers-from-requires : tie.Need-layers-from-requires Inv-loop μ-loop
-layers-from-requires c κs = (c .before .at-most-16 .ensures .0, inside (c .before .before .before .before .before .before .args .reversed) (length (c .before .before .before .before .before .before .args .flat .now) / 3) (c .before .before .before .loop .i) (c .before .at-most-16 .result) (c .front-of .result) (omega (arith, c .before .at-most-16 .ensures .1, c .before .before .loop-test .taken)) (c .front-of .ensures))
+join-some-requires : tie.Need-join-some-requires Inv-loop μ-loop
+join-some-requires c κs = (c .before .at-most-16 .ensures .0, inside (c .before .before .before .before .before .before .args .reversed) (length (c .before .before .before .before .before .before .args .flat .now) / 3) (c .before .before .before .loop .i) (c .before .at-most-16 .result) (c .front-of .result) (omega (arith, c .before .at-most-16 .ensures .1, c .before .before .loop-test .taken)) (c .front-of .ensures))
 
 add-i : tie.Need-add-i Inv-loop μ-loop
-add-i c = omega (arith, c .before .before .before .at-most-16 .ensures .1, c .before .before .before .before .loop-test .taken, c .before .before .before .before .before .before .before .before .good)
+add-i c = omega (arith, c .before .before .at-most-16 .ensures .1, c .before .before .before .loop-test .taken, c .before .before .before .before .before .before .before .good)
 
 loop-less : tie.Need-loop-less Inv-loop μ-loop
-loop-less c = omega (arith, c .before .before .before .at-most-16 .ensures .2 (omega (arith, c .before .before .before .before .loop-test .taken)), c .before .before .before .at-most-16 .ensures .1, c .before .before .before .before .loop-test .taken)
+loop-less c = omega (arith, c .before .before .at-most-16 .ensures .2 (omega (arith, c .before .before .before .loop-test .taken)), c .before .before .at-most-16 .ensures .1, c .before .before .before .loop-test .taken)
 
 loop-again : tie.Need-loop-again Inv-loop μ-loop
 loop-again c =
-    let flat : List Float = c .before .before .before .before .before .before .before .before .args .flat .now in
-    let reversed : Bool = c .before .before .before .before .before .before .before .before .args .reversed in (
-      omega (arith, c .before .before .before .at-most-16 .ensures .1, c .before .before .before .before .loop-test .taken),
-      turn _ _ (ordered reversed (layers flat)) (c .before .before .before .before .before .loop .i) (c .before .before .before .at-most-16 .result) _ _ _
-          (met reversed (layers flat) (c .before .before .before .before .before .loop .i) (c .before .before .before .at-most-16 .result) _ _ _ (sym (count flat)) (omega (arith, c .before .before .before .at-most-16 .ensures .1, c .before .before .before .before .loop-test .taken)) (c .before .before .front-of .ensures) (c .before .layers-from .ensures))
-          (c .join-all .ensures) (c .before .before .before .before .before .loop .inv .1),
+    let flat : List Float = c .before .before .before .before .before .before .before .args .flat .now in
+    let reversed : Bool = c .before .before .before .before .before .before .before .args .reversed in
+    let few = c .before .before .at-most-16 in (
+      omega (arith, few .ensures .1, c .before .before .before .loop-test .taken),
+      turn _ _ (ordered reversed (layers flat)) (c .before .before .before .before .loop .i) (few .result) _ _ _
+          (met reversed (layers flat) (c .before .before .before .before .loop .i) (few .result) _ _ (sym (count flat)) (omega (arith, few .ensures .1, c .before .before .before .loop-test .taken)) (c .before .front-of .ensures))
+          (c .join-some .ensures) (c .before .before .before .before .loop .inv .1),
     )
 
 returns : tie.Need-returns Inv-loop μ-loop
@@ -62,8 +63,7 @@ stack-of-spec =
     (λ c. search needs)
     (λ c κs. search needs)
     front-of-requires
-    layers-from-requires
-    (λ c κs. search needs)
+    join-some-requires
     add-i
     loop-less
     loop-again

@@ -34,7 +34,7 @@ returns-3 c =
     let long : length layers ≡ a .n = many (a .wavelength-nm) src (next-place src (a .at)) (a .n) in
     let few : a .n ≤ 16 = omega (arith, c .before .before .before .before .before .before .before .before .before .before .before .if1 .left) in
     let stand = stands (nth-film (a .wavelength-nm) src (a .at)) (a .n) (replicate 16 one) _ _ _ layers (omega (arith, few, length-replicate 16 one)) (w .0) (w .1) (w .2) long
-            (λ j h. nth (a .wavelength-nm) src (next-place src (a .at)) (a .n) j no-layer h) in
+    (λ j h. nth (a .wavelength-nm) src (next-place src (a .at)) (a .n) j no-layer h) in
     known _ _ layers _ _ _ (c .before .before .before .before .before .no-films .ensures) (c .before .join-all .ensures layers long few stand) (c .finish2 .ensures)
 
 pub quick-powers-spec : {M : Type 1} → statement M

@@ -35,10 +35,10 @@ returns c layers long low stand =
     let nm = a .light .«wavelength_nm» in
     let e = few (f .before) .1 low in
     let own : (j : ℕ) → j < length layers → _ = λ j b.
-        let t = f .film-count .ensures .1 snell nm j (omega (arith, b, long, e)) in
-        own-film snell nm (a .n .now) (a .k .now) (a .d .now) (f .film-count .result) (films f) (replicate 16 one) (length-replicate 16 one) _ _ _ _ _ _ _ _ _ (h .radicands .ensures) (r .roots .ensures)
-        (m .media .ensures .0) (m .media .ensures .1) (m .media .ensures .2) (w .sin-cos .ensures .0) (w .sin-cos .ensures .1) (q .quotients .ensures .0) (q .quotients .ensures .1) _ (t .0)
-        ∙ t .1 ∙ ap (film-of snell nm) (sym (stand j b)) in
+    let t = f .film-count .ensures .1 snell nm j (omega (arith, b, long, e)) in
+    own-film snell nm (a .n .now) (a .k .now) (a .d .now) (f .film-count .result) (films f) (replicate 16 one) (length-replicate 16 one) _ _ _ _ _ _ _ _ _ (h .radicands .ensures) (r .roots .ensures)
+    (m .media .ensures .0) (m .media .ensures .1) (m .media .ensures .2) (w .sin-cos .ensures .0) (w .sin-cos .ensures .1) (q .quotients .ensures .0) (q .quotients .ensures .1) _ (t .0)
+    ∙ t .1 ∙ ap (film-of snell nm) (sym (stand j b)) in
     c .join-films .ensures ∙ all-joined snell nm layers (a .reversed) _ own (a .stack) _ (long ∙ sym e)
 
 pub join-all-spec : {M : Type 1} → statement M
