@@ -1,17 +1,18 @@
 -- Scaffolding, not to be believed: what the code's enum stands for, and what stands at a place of some bytes. The contracts of helpers name
 -- these; the claims
 -- name `decode` alone.
-use mathlib.Core.Bool.{Bool, true, false, cond}
+use mathlib.Core.Bool.{Bool, true, false, _&&_, cond}
 use mathlib.Core.List.{List, [], _∷_}
-use Prim.Native.Nat.{ℕ, zero, suc, _+_, _*_}
-use lib.Dec.{eqb, ltb}
+use Prim.Native.Nat.{ℕ, zero, suc, _+_, _-_, _*_}
+use lib.Dec.{eqb, leb, ltb}
 use lib.Ieee.{binary64, ofBits}
 use Rattle.sheet.specs.declared.Floats.{Floats}
 use Rattle.sheet.specs.declared.LayerRun.{LayerRun}
+use Rattle.sheet.specs.declared.PlainFloats.{PlainFloats}
 use Rattle.sheet.specs.declared.Standing.{Standing}
 use Rattle.sheet.specs.declared.Standing.the-variants as S
 use Rattle.sheet.specs.Words.{word, count, kind, payload, float}
-use Rattle.sheet.specs.Sheet.{SheetLayer, layer, cauchy, Tuning, keeps, tunes, SheetSurface}
+use Rattle.sheet.specs.Sheet.{SheetLayer, layer, cauchy, Tuning, keeps, tunes, SheetSurface, kind-word}
 use Rattle.sheet.specs.Read as Read
 
 abbrev pub standing-of : Standing → Read.Standing
@@ -20,6 +21,21 @@ standing-of (S.AtBeam edition) = Read.at-beam edition
 standing-of (S.Among edition done most) = Read.among edition done most
 standing-of (S.AtSurface edition done) = Read.at-surface edition done
 standing-of S.Ended = Read.ended
+
+-- how many layers may come there; and where one stands after n of them
+abbrev pub most-of : Read.Standing → ℕ
+most-of Read.at-open = 0
+most-of (Read.at-beam edition) = 0
+most-of (Read.among edition done most) = most
+most-of (Read.at-surface edition done) = 0
+most-of Read.ended = 0
+
+abbrev pub fewer : ℕ → Read.Standing → Read.Standing
+fewer n Read.at-open = Read.at-open
+fewer n (Read.at-beam edition) = Read.at-beam edition
+fewer n (Read.among edition done most) = Read.among edition done (most - n)
+fewer n (Read.at-surface edition done) = Read.at-surface edition done
+fewer n Read.ended = Read.ended
 
 -- one more where the kind word is a SURFACE's
 abbrev pub counted : ℕ → ℕ → ℕ
@@ -33,6 +49,25 @@ floats-at src at =
       second = ofBits binary64 (float src (at + 3));
       third = ofBits binary64 (float src (at + 5));
     }
+
+-- whether the whole of a LAYER stands at a place; and its floats, zero throughout where it does not
+unfoldable pub plain-stands : List ℕ → ℕ → Bool
+plain-stands src at = leb (at + 7) (count src) && eqb (word src at) (kind-word 4 0)
+
+unfoldable pub plain-floats : List ℕ → ℕ → PlainFloats
+plain-floats src at =
+    let f = floats-at src at in
+    cond (plain-stands src at) (record { stands = true; first = f .first; second = f .second; third = f .third })
+    (record { stands = false; first = ofBits binary64 0; second = ofBits binary64 0; third = ofBits binary64 0 })
+
+abbrev pub or-none : Bool → ℕ → ℕ
+or-none true n = n
+or-none false n = 0
+
+-- how many do, one after the other: `most` at the most
+unfoldable pub plain-run : ℕ → List ℕ → ℕ → ℕ
+plain-run zero src at = 0
+plain-run (suc most) src at = or-none (plain-stands src at) (suc (plain-run most src (at + 7)))
 
 -- the place after a block of a kind at a place
 abbrev pub place-after : ℕ → ℕ → ℕ
@@ -50,10 +85,6 @@ place-on src at (suc n) = place-on src (next-place src at) n
 -- a layer's kind word stands after the block at a place
 abbrev pub layer-follows : List ℕ → ℕ → Bool
 layer-follows src at = Read.layer-kind 2 (kind (word src (next-place src at)))
-
-abbrev pub or-none : Bool → ℕ → ℕ
-or-none true n = n
-or-none false n = 0
 
 -- how many layers stand directly after the block at a place: `most` at the most
 unfoldable pub layer-run : ℕ → List ℕ → ℕ → ℕ

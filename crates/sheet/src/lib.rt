@@ -1,13 +1,13 @@
 // Sheets of document 01, section 1, and of document 02, slips 3 and 5: the reader of their words, and the grammar.
 ghost use mathlib.Core.Path.{_≡_};
 ghost use mathlib.Core.Bool.{true};
-ghost use Prim.Native.Nat.{suc, _+_, _/_, _<_};
+ghost use Prim.Native.Nat.{suc, _+_, _/_, _≤_, _<_};
 ghost use lib.ListN.{length};
 ghost use lib.Ieee.{binary64, ofBits};
 ghost use Rattle.sheet.specs.Words.{big-endian, word as wordOf, kind, float};
 ghost use Rattle.sheet.specs.Read as Read;
 ghost use Rattle.sheet.specs.Read.{outcome, grammar};
-ghost use Rattle.sheet.specs.Internal.{floats-at, standing-of, counted, place-after, next-place, place-on, layer-follows, layer-run, layers-on, onto, begin, place};
+ghost use Rattle.sheet.specs.Internal.{floats-at, plain-stands, plain-floats, standing-of, most-of, fewer, plain-run, counted, place-after, next-place, place-on, layer-follows, layer-run, layers-on, onto, begin, place};
 
 // ---- words
 
@@ -200,6 +200,46 @@ pub fn floats_at(src: &[u8], at: usize) -> Floats
     }
 }
 
+// Whether the whole of a LAYER stands at a place.
+fn plain_stands(src: &[u8], at: usize) -> bool
+    ensures { λ r. ⌜ r ≡ plain-stands (now (src .entry)) at ⌝ }
+{
+    let total = src.len() / 4;
+    if at < total {
+        if total - at >= 7 {
+            return word_from(src, at) == 0x4000_0000;
+        }
+    }
+    false
+}
+
+// Whether it does, and its floats; zero throughout where it does not.
+pub struct PlainFloats {
+    pub stands: bool,
+    pub first: f64,
+    pub third: f64,
+    pub second: f64,
+}
+
+pub fn plain_floats(src: &[u8], at: usize) -> PlainFloats
+    ensures { λ r. ⌜ r ≡ plain-floats (now (src .entry)) at ⌝ }
+{
+    if !plain_stands(src, at) {
+        return PlainFloats {
+            stands: false,
+            first: 0.0,
+            second: 0.0,
+            third: 0.0,
+        };
+    }
+    PlainFloats {
+        stands: true,
+        first: float_in(src, at + 1),
+        second: float_in(src, at + 3),
+        third: float_in(src, at + 5),
+    }
+}
+
 // ---- grammar
 
 // Where one stands between two blocks: before OPEN, before BEAM (the edition), among the blocks after it
@@ -340,6 +380,50 @@ fn has_ended(s: Standing) -> bool
     }
 }
 
+// How many layers may come there.
+fn most_of(s: Standing) -> u32
+    ensures { λ r. ⌜ r ≡ most-of (standing-of s) ⌝ }
+{
+    match s {
+        Standing::AtOpen => 0,
+        Standing::AtBeam(_) => 0,
+        Standing::Among(_, _, most) => most,
+        Standing::AtSurface(_, _) => 0,
+        Standing::Ended => 0,
+    }
+}
+
+// Where one stands after n of them.
+fn fewer(s: Standing, n: u32) -> Standing
+    requires { ⌜ n ≤ most-of (standing-of s) ⌝ }
+    ensures { λ r. ⌜ standing-of r ≡ fewer n (standing-of s) ⌝ }
+{
+    match s {
+        Standing::AtOpen => s,
+        Standing::AtBeam(_) => s,
+        Standing::Among(edition, done, most) => Standing::Among(edition, done, most - n),
+        Standing::AtSurface(_, _) => s,
+        Standing::Ended => s,
+    }
+}
+
+// How many whole LAYERs stand from a place on, so many at the most: most blocks are LAYERs.
+fn plain_run(src: &[u8], at: usize, most: u32) -> u32
+    requires { ⌜ at ≤ length (now src) / 4 ⌝ }
+    ensures { λ r. ⌜ r ≡ plain-run most (now (src .entry)) at ⌝ }
+{
+    let mut place = at;
+    let mut n = 0;
+    while n < most {
+        if !plain_stands(src, place) {
+            return n;
+        }
+        place = place + 7;
+        n += 1;
+    }
+    n
+}
+
 // One more where the kind word is a SURFACE's.
 fn counted(w: u32, n: u32) -> u32
     requires { ⌜ n < 0xFFFF_FFFF ⌝ }
@@ -372,8 +456,10 @@ pub fn grammar(src: &[u8]) -> Verdict
             return Verdict::Fault(at);
         }
         count = counted(w, count);
-        s = after(s, w);
-        at = next;
+        let t = after(s, w);
+        let n = plain_run(src, next, most_of(t));
+        s = fewer(t, n);
+        at = next + 7 * n as usize;
     }
     if has_ended(s) {
         Verdict::Whole(count)
