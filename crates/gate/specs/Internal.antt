@@ -2,22 +2,23 @@
 use mathlib.Core.Bool.{Bool, true, _&&_, _||_, cond}
 use mathlib.Core.List.{List, [], _∷_}
 use mathlib.Core.Path.{_≡_}
-use Prim.Native.Nat.{ℕ, zero, suc, _-_, _<_}
+use Prim.Native.Nat.{ℕ, zero, suc, _+_, _-_, _<_}
 use lib.ListN.{length, getD}
 use lib.Dec.{eqb}
 use lib.Ieee.{Float, nan, le}
 use lib.Ieee.Scale.{finite}
 use Rattle.ieee.specs.Operators.{_⊕_}
 use Rattle.math_trig.specs.Trig.{sin, cos}
+use Rattle.gate.specs.declared.Note.{Note}
 use Rattle.gate.specs.declared.Passage.{Passage}
 use Rattle.gate_limits.specs.Limits.{sixteen, wavelength-passes, beam-passes, layer-within, metal-within, absorption, judgement}
 use Rattle.sheet.specs.Words.{word, kind}
 use Rattle.sheet.specs.Read.{layer-kind}
 use Rattle.sheet.specs.Sheet.{SheetLayer, SheetSurface}
-use Rattle.sheet.specs.Internal.{next-place, place-on, layer-run, layer-at, surface-at, layers-at, begin}
+use Rattle.sheet.specs.Internal.{plain-stands, next-place, place-on, layer-run, layer-at, surface-at, layers-at, begin}
 use Rattle.sheet_values.specs.Values.{cauchy-film, film, surface-value}
 use Rattle.sheet_values.specs.declared.Cauchy.{Cauchy}
-use Rattle.sheet_values.specs.Internal.{beam-at}
+use Rattle.sheet_values.specs.Internal.{beam-at, plain-at}
 use Rattle.gate.specs.Gate.{coefficients-finite, layer-admitted, metal-admitted}
 use Rattle.gate.specs.Wavelength.{surface-admitted}
 
@@ -25,13 +26,34 @@ use Rattle.gate.specs.Wavelength.{surface-admitted}
 abbrev pub angle-at : List ℕ → ℕ → Float
 angle-at src at = surface-value (surface-at src at []) .«angle_rad»
 
--- what is kept of SURFACEs: their places, none of which is 0 but where nothing is kept, and the sines and cosines of their angles
+-- what is kept of SURFACEs: their places, none of which is 1 but where nothing is kept, and the sines and cosines of their angles
 pub record Kept (src places : List ℕ) (sines cosines : List Float) : Type 0 where
   pub of-places : length places ≡ 64
   pub of-sines : length sines ≡ 64
   pub of-cosines : length cosines ≡ 64
-  pub right : (j at : ℕ) → j < 64 → 0 < at → getD places j 0 ≡ at
+  pub right : (j at : ℕ) → j < 64 → 1 < at → getD places j 0 ≡ at
       → (getD sines j nan ≡ sin (angle-at src at)) × (getD cosines j nan ≡ cos (angle-at src at))
+
+-- one SURFACE, n of them, and these with their sines and cosines: right where the place is not 1
+abbrev pub NotedRight : List ℕ → Note → Type 0
+NotedRight src r = 1 < r .place → r .«angle_rad» ≡ angle-at src (r .place)
+
+pub record Gathered (src : List ℕ) (n : ℕ) (places : List ℕ) (angles : List Float) : Type 0 where
+  pub of-places : length places ≡ 16
+  pub of-angles : length angles ≡ 16
+  pub right : (j at : ℕ) → j < n → 1 < at → getD places j 0 ≡ at → getD angles j nan ≡ angle-at src at
+
+pub record WorkedOut (src : List ℕ) (n : ℕ) (places : List ℕ) (sines cosines : List Float) : Type 0 where
+  pub right : (j at : ℕ) → j < n → 1 < at → getD places j 0 ≡ at
+      → (getD sines j nan ≡ sin (angle-at src at)) × (getD cosines j nan ≡ cos (angle-at src at))
+
+-- whether a whole LAYER stands at a place and is within section 3's limits; the place after such ones from a place on, `most` at the most
+unfoldable pub plain-fits : List ℕ → ℕ → Float → Bool
+plain-fits src at b = plain-stands src at && layer-within b (plain-at src at)
+
+unfoldable pub after-plain : ℕ → List ℕ → ℕ → Float → ℕ
+after-plain zero src at b = at
+after-plain (suc most) src at b = cond (plain-fits src at b) (after-plain most src (at + 7) b) at
 
 -- a kind 6 by its values: its coefficients are finite; and it passes under section 3's limits
 abbrev pub glass-finite : Cauchy → Bool

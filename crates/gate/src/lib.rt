@@ -4,9 +4,10 @@ ghost use mathlib.Core.Path.{_≡_};
 ghost use mathlib.Core.Bool.{_&&_, _||_};
 ghost use lib.Dec.{T};
 ghost use mathlib.Core.List.{List, []};
-ghost use Prim.Native.Nat.{ℕ};
+ghost use Prim.Native.Nat.{ℕ, _≤_};
 ghost use Rattle.ieee.specs.Functions.{zero-f};
 ghost use Rattle.math_trig.specs.Trig.{sin-cos};
+ghost use Rattle.math_waves.specs.Waves.{at-most-16};
 ghost use Rattle.gate_limits.specs.Limits.{layer-within, judgement};
 ghost use Rattle.sheet.specs.Internal.{layer-at, layers-at, surface-at};
 ghost use Rattle.sheet.specs.Claim.{longest, length-fits};
@@ -16,12 +17,13 @@ ghost use Rattle.gate.specs.Gate.{coefficients-finite, layer-admitted, o
 ghost use Rattle.gate.specs.Wavelength.{layers-admitted};
 ghost use Rattle.sheet_values.specs.Values.{surface-value};
 ghost use Rattle.sheet_values.specs.Internal.{plain-at, cauchy-at};
-ghost use Rattle.gate.specs.Internal.{angle-at, Kept, glass-finite, cauchy-admitted, metal-at, metal-layer, metal-layers, passage-at, surface-holds-at, layers-hold-at, holds-from, holds-at};
+ghost use Rattle.gate.specs.Internal.{angle-at, Kept, NotedRight, Gathered, WorkedOut, plain-fits, after-plain, glass-finite, cauchy-admitted, metal-at, metal-layer, metal-layers, passage-at, surface-holds-at, layers-hold-at, holds-from, holds-at};
 use gate_limits::Judgement;
 use math_trig::SinCos;
 use refusal::Refusal;
 use sheet::Verdict;
 use sheet_values::Cauchy;
+use thin_film_solver::ThinFilmLayer;
 
 // A sheet that is admitted, with its count of surfaces; or a refusal.
 pub enum Gated {
@@ -124,20 +126,26 @@ fn metal_holds(src: &[u8], at: usize, wavelength_nm: f64) -> bool
 
 // ---- sines and cosines, kept for whoever comes after the gate
 
+fn wide(place: u16) -> usize
+    ensures { λ r. ⌜ r ≡ place ⌝ }
+{
+    place as usize
+}
+
 // The sine and the cosine of the SURFACE at a place, from the i-th that are kept, if these are its own.
 pub fn kept_at(
     at: usize,
     angle_rad: f64,
     i: usize,
-    places: &[usize; 64],
+    places: &[u16; 64],
     sines: &[f64; 64],
     cosines: &[f64; 64],
 ) -> SinCos
     ensures { λ r. ⌜ ((src : List ℕ) → Kept src (now (places .entry)) (now (sines .entry)) (now (cosines .entry)) → «angle_rad» ≡ angle-at src at → r ≡ sin-cos «angle_rad») ⌝ }
 {
     let j = i % 64;
-    if at > 0 {
-        if places[j] == at {
+    if at > 1 {
+        if wide(places[j]) == at {
             return SinCos {
                 sin: sines[j],
                 cos: cosines[j],
@@ -147,23 +155,170 @@ pub fn kept_at(
     math_trig::sin_cos(angle_rad)
 }
 
+// Whether an angle is of a size that many are worked out at once at.
+fn near(angle_rad: f64) -> bool {
+    angle_rad < 1048576.0 && -1048576.0 < angle_rad
+}
+
+// The place of a SURFACE and its angle; the place 1, where no SURFACE stands, for one that is left to be worked out alone.
+struct Note {
+    place: u16,
+    angle_rad: f64,
+}
+
+// The SURFACE at a place.
+fn noted(src: &[u8], at: usize) -> Note
+    ensures { λ r. ⌜ NotedRight (now (src .entry)) r ⌝ }
+{
+    if at < 0x1_0000 {
+        let angle_rad = sheet::float_from(src, at + 5);
+        if near(angle_rad) {
+            return Note {
+                place: at as u16,
+                angle_rad,
+            };
+        }
+    }
+    Note {
+        place: 1,
+        angle_rad: 0.0,
+    }
+}
+
+// n SURFACEs, the first of which begins at a place: each is noted. Where the next one begins.
+fn gather(
+    src: &[u8],
+    begin: usize,
+    n: usize,
+    places: &mut [u16; 16],
+    angles: &mut [f64; 16],
+) -> usize
+    requires { ⌜ n ≤ 16 ⌝ }
+    ensures { λ r. ⌜ (Gathered (now (src .entry)) 0 (now (places .entry)) (now (angles .entry)) → Gathered (now (src .entry)) n (now (places .exit)) (now (angles .exit))) ⌝ }
+{
+    let mut at = begin;
+    let mut i = 0;
+    while i < n {
+        let surface = sheet::onto(src, at);
+        let one = noted(src, surface);
+        places[i] = one.place;
+        angles[i] = one.angle_rad;
+        at = sheet::after_layers(src, surface);
+        i += 1;
+    }
+    at
+}
+
+// The sines and cosines of n SURFACEs are kept, from the i-th on.
+fn keep_each(
+    i: usize,
+    n: usize,
+    at: &[u16; 16],
+    sin: &[f64; 16],
+    cos: &[f64; 16],
+    places: &mut [u16; 64],
+    sines: &mut [f64; 64],
+    cosines: &mut [f64; 64],
+)
+    requires { ⌜ (i ≤ 0xFFFF_FFFF) × (n ≤ 16) ⌝ }
+    ensures { λ r. ⌜ ((src : List ℕ) → WorkedOut src n (now (at .entry)) (now (sin .entry)) (now (cos .entry)) → Kept src (now (places .entry)) (now (sines .entry)) (now (cosines .entry)) → Kept src (now (places .exit)) (now (sines .exit)) (now (cosines .exit))) ⌝ }
+{
+    let mut k = 0;
+    while k < n {
+        let j = (i + k) % 64;
+        places[j] = at[k];
+        sines[j] = sin[k];
+        cosines[j] = cos[k];
+        k += 1;
+    }
+}
+
+// Those of n SURFACEs, the first of which begins at a place, worked out together. Where the next one begins.
+fn keep_some(
+    src: &[u8],
+    begin: usize,
+    i: usize,
+    n: usize,
+    places: &mut [u16; 64],
+    sines: &mut [f64; 64],
+    cosines: &mut [f64; 64],
+) -> usize
+    requires { ⌜ (i ≤ 0xFFFF_FFFF) × (n ≤ 16) ⌝ }
+    ensures { λ r. ⌜ (Kept (now (src .entry)) (now (places .entry)) (now (sines .entry)) (now (cosines .entry)) → Kept (now (src .entry)) (now (places .exit)) (now (sines .exit)) (now (cosines .exit))) ⌝ }
+{
+    let mut at = [1u16; 16];
+    let mut angles = [1.0f64; 16];
+    let next = gather(src, begin, n, &mut at, &mut angles);
+    let mut sin = [1.0f64; 16];
+    let mut cos = [1.0f64; 16];
+    math_waves::sin_cos(&angles, n, &mut sin, &mut cos);
+    keep_each(i, n, &at, &sin, &cos, places, sines, cosines);
+    next
+}
+
+fn at_most_16(n: usize) -> usize
+    ensures { λ r. ⌜ r ≡ at-most-16 n ⌝ }
+{
+    if n < 16 { n } else { 16 }
+}
+
+// Those of all SURFACEs of a sheet in grammar with a count of them, 16 at a time. One or two are left to be worked out alone.
+fn keep(
+    src: &[u8],
+    count: usize,
+    places: &mut [u16; 64],
+    sines: &mut [f64; 64],
+    cosines: &mut [f64; 64],
+)
+    requires { ⌜ count ≤ 0xFFFF_FFFF ⌝ }
+    ensures { λ r. ⌜ (Kept (now (src .entry)) (now (places .entry)) (now (sines .entry)) (now (cosines .entry)) → Kept (now (src .entry)) (now (places .exit)) (now (sines .exit)) (now (cosines .exit))) ⌝ }
+{
+    if count < 3 {
+        return;
+    }
+    let mut begin = sheet::begin_of(src, 0);
+    let mut i = 0;
+    while i < count {
+        let n = at_most_16(count - i);
+        begin = keep_some(src, begin, i, n, places, sines, cosines);
+        i += n;
+    }
+}
+
+// The sine and the cosine of the SURFACE at a place are the i-th that are kept.
+fn keep_one(
+    at: usize,
+    theta: SinCos,
+    i: usize,
+    places: &mut [u16; 64],
+    sines: &mut [f64; 64],
+    cosines: &mut [f64; 64],
+)
+    ensures { λ r. ⌜ ((src : List ℕ) → theta ≡ sin-cos (angle-at src at) → Kept src (now (places .entry)) (now (sines .entry)) (now (cosines .entry)) → Kept src (now (places .exit)) (now (sines .exit)) (now (cosines .exit))) ⌝ }
+{
+    if at >= 0x1_0000 {
+        return;
+    }
+    let j = i % 64;
+    places[j] = at as u16;
+    sines[j] = theta.sin;
+    cosines[j] = theta.cos;
+}
+
 // The SURFACE at a place is judged, and its sine and cosine are the i-th that are kept.
 fn judge_keeping(
     src: &[u8],
     at: usize,
     i: usize,
-    places: &mut [usize; 64],
+    places: &mut [u16; 64],
     sines: &mut [f64; 64],
     cosines: &mut [f64; 64],
 ) -> Judgement
-    ensures { λ r. ⌜ (r ≡ judgement (surface-value (surface-at (now (src .entry)) at []))) × (Kept (now (src .entry)) (now (places .entry)) (now (sines .entry)) (now (cosines .entry)) → Kept (now (src .entry)) (now (places .exit)) (now (sines .exit)) (now (cosines .exit))) ⌝ }
+    ensures { λ r. ⌜ (Kept (now (src .entry)) (now (places .entry)) (now (sines .entry)) (now (cosines .entry)) → (r ≡ judgement (surface-value (surface-at (now (src .entry)) at []))) × Kept (now (src .entry)) (now (places .exit)) (now (sines .exit)) (now (cosines .exit))) ⌝ }
 {
     let surface = sheet_values::surface_at(src, at);
-    let theta = math_trig::sin_cos(surface.angle_rad);
-    let j = i % 64;
-    places[j] = at;
-    sines[j] = theta.sin;
-    cosines[j] = theta.cos;
+    let theta = kept_at(at, surface.angle_rad, i, places, sines, cosines);
+    keep_one(at, theta, i, places, sines, cosines);
     gate_limits::judge_with(surface, theta)
 }
 
@@ -201,11 +356,11 @@ fn judge(
     wavelength_nm: f64,
     snell: f64,
     i: usize,
-    places: &mut [usize; 64],
+    places: &mut [u16; 64],
     sines: &mut [f64; 64],
     cosines: &mut [f64; 64],
 ) -> Passage
-    ensures { λ r. ⌜ (r ≡ passage-at (now (src .entry)) at surface «wavelength_nm» snell) × (Kept (now (src .entry)) (now (places .entry)) (now (sines .entry)) (now (cosines .entry)) → Kept (now (src .entry)) (now (places .exit)) (now (sines .exit)) (now (cosines .exit))) ⌝ }
+    ensures { λ r. ⌜ (Kept (now (src .entry)) (now (places .entry)) (now (sines .entry)) (now (cosines .entry)) → (r ≡ passage-at (now (src .entry)) at surface «wavelength_nm» snell) × Kept (now (src .entry)) (now (places .exit)) (now (sines .exit)) (now (cosines .exit))) ⌝ }
 {
     let kind = sheet::kind_at(src, at);
     if kind == 2 {
@@ -252,6 +407,38 @@ fn judge(
     }
 }
 
+// A whole LAYER stands at a place, and is within section 3's limits.
+fn plain_fits(src: &[u8], at: usize, snell: f64) -> bool
+    ensures { λ r. ⌜ r ≡ plain-fits (now (src .entry)) at snell ⌝ }
+{
+    let floats = sheet::plain_floats(src, at);
+    if !floats.stands {
+        return false;
+    }
+    let layer = ThinFilmLayer {
+        n: floats.first,
+        k: floats.second,
+        thickness_nm: floats.third,
+    };
+    gate_limits::layer_within(snell, layer)
+}
+
+// The place after those from a place on, 16 at the most: most blocks are such LAYERs.
+fn after_plain(src: &[u8], at: usize, snell: f64) -> usize
+    ensures { λ r. ⌜ r ≡ after-plain 16 (now (src .entry)) at snell ⌝ }
+{
+    let mut place = at;
+    let mut i: usize = 0;
+    while i < 16 {
+        if !plain_fits(src, place, snell) {
+            return place;
+        }
+        place = place + 7;
+        i += 1;
+    }
+    place
+}
+
 // One more of 64 where a SURFACE has taken the place of another.
 fn next_slot(i: usize, before: usize, surface: usize) -> usize {
     if surface == before {
@@ -265,12 +452,12 @@ fn next_slot(i: usize, before: usize, surface: usize) -> usize {
 fn limits(
     src: &[u8],
     count: u32,
-    places: &mut [usize; 64],
+    places: &mut [u16; 64],
     sines: &mut [f64; 64],
     cosines: &mut [f64; 64],
 ) -> Gated
     requires { ⌜ T (length-fits (now src)) × (grammar (now src) ≡ answer count) ⌝ }
-    ensures { λ r. ⌜ (outcome r ≡ map surfaces-of (within-limits (graded (decode (now (src .entry)))))) × (Kept (now (src .entry)) (now (places .entry)) (now (sines .entry)) (now (cosines .entry)) → Kept (now (src .entry)) (now (places .exit)) (now (sines .exit)) (now (cosines .exit))) ⌝ }
+    ensures { λ r. ⌜ (Kept (now (src .entry)) (now (places .entry)) (now (sines .entry)) (now (cosines .entry)) → (outcome r ≡ map surfaces-of (within-limits (graded (decode (now (src .entry)))))) × Kept (now (src .entry)) (now (places .exit)) (now (sines .exit)) (now (cosines .exit))) ⌝ }
 {
     let total = src.len() / 4;
     let beam = sheet_values::beam_of(src);
@@ -298,7 +485,7 @@ fn limits(
         i = next_slot(i, surface, passage.surface);
         snell = passage.snell;
         surface = passage.surface;
-        at = sheet::next_place(src, at);
+        at = after_plain(src, sheet::next_place(src, at), snell);
     }
     Gated::Admitted(count)
 }
@@ -306,11 +493,11 @@ fn limits(
 // The gate: the length, then the grammar, then the limits. What is kept stays right.
 pub fn gate_keeping(
     src: &[u8],
-    places: &mut [usize; 64],
+    places: &mut [u16; 64],
     sines: &mut [f64; 64],
     cosines: &mut [f64; 64],
 ) -> Gated
-    ensures { λ r. ⌜ (outcome r ≡ gate (now (src .entry))) × (Kept (now (src .entry)) (now (places .entry)) (now (sines .entry)) (now (cosines .entry)) → Kept (now (src .entry)) (now (places .exit)) (now (sines .exit)) (now (cosines .exit))) ⌝ }
+    ensures { λ r. ⌜ (Kept (now (src .entry)) (now (places .entry)) (now (sines .entry)) (now (cosines .entry)) → (outcome r ≡ gate (now (src .entry))) × Kept (now (src .entry)) (now (places .exit)) (now (sines .exit)) (now (cosines .exit))) ⌝ }
 {
     if !length_fits(src) {
         return Gated::Refused(Refusal {
@@ -319,7 +506,10 @@ pub fn gate_keeping(
         });
     }
     match sheet::grammar(src) {
-        Verdict::Whole(count) => limits(src, count, places, sines, cosines),
+        Verdict::Whole(count) => {
+            keep(src, count as usize, places, sines, cosines);
+            limits(src, count, places, sines, cosines)
+        }
         Verdict::Fault(place) => Gated::Refused(Refusal { number: 5, place }),
     }
 }
@@ -328,9 +518,9 @@ pub fn gate_keeping(
 pub fn gate(src: &[u8]) -> Gated
     ensures { λ r. ⌜ outcome r ≡ gate (now (src .entry)) ⌝ }
 {
-    let mut places = [0usize; 64];
-    let mut sines = [0.0f64; 64];
-    let mut cosines = [0.0f64; 64];
+    let mut places = [1u16; 64];
+    let mut sines = [1.0f64; 64];
+    let mut cosines = [1.0f64; 64];
     gate_keeping(src, &mut places, &mut sines, &mut cosines)
 }
 

@@ -33,16 +33,18 @@ out-of-grammar src place e f = go (decode src) f ∙ right-length src e
     go (fault q) f = sym f
 
 returns : tie.Need-returns
-returns c = (wrong-length _ (sym (c .before .length-fits .ensures) ∙ not-true _ (c .if1 .taken)), λ h. h)
+returns c = λ h. (wrong-length _ (sym (c .before .length-fits .ensures) ∙ not-true _ (c .if1 .taken)), h)
 
 limits-requires : tie.Need-limits-requires
-limits-requires c κs = (of-true _ (sym (c .before .before .before .before .before .before .before .before .length-fits .ensures) ∙ not-false _ (c .before .before .before .before .before .before .before .if1 .left)), sym (c .before .before .before .before .before .before .grammar .ensures) ∙ ap outcome (c .before .before .before .before .count .given .1))
+limits-requires c κs = (of-true _ (sym (c .before .before .before .before .before .before .before .before .before .before .before .before .length-fits .ensures) ∙ not-false _ (c .before .before .before .before .before .before .before .before .before .before .before .if1 .left)), sym (c .before .before .before .before .before .before .before .before .before .before .grammar .ensures) ∙ ap outcome (c .before .before .before .before .before .before .before .before .count .given .1))
 
 returns-2 : tie.Need-returns-2
-returns-2 c = (c .limits .ensures .0 ∙ right-length _ (sym (c .before .before .before .before .before .before .before .before .before .length-fits .ensures) ∙ not-false _ (c .before .before .before .before .before .before .before .before .if1 .left)), c .limits .ensures .1)
+returns-2 c = λ h.
+    let q = (c .limits .ensures) ((c .before .before .before .before .keep .ensures) h) in
+    (q .0 ∙ right-length _ (sym (c .before .before .before .before .before .before .before .before .before .before .before .before .before .length-fits .ensures) ∙ not-false _ (c .before .before .before .before .before .before .before .before .before .before .before .before .if1 .left)), q .1)
 
 returns-3 : tie.Need-returns-3
-returns-3 c = (out-of-grammar _ _ (sym (c .before .before .before .before .before .length-fits .ensures) ∙ not-false _ (c .before .before .before .before .if1 .left)) (sym (c .before .before .before .grammar .ensures) ∙ ap outcome (c .before .place .given .1)), λ h. h)
+returns-3 c = λ h. (out-of-grammar _ _ (sym (c .before .before .before .before .before .length-fits .ensures) ∙ not-false _ (c .before .before .before .before .if1 .left)) (sym (c .before .before .before .grammar .ensures) ∙ ap outcome (c .before .place .given .1)), h)
 
 pub gate-keeping-spec : {M : Type 1} → statement M
-gate-keeping-spec = tie.close (tie.spec (λ c κs. search needs) returns (λ c κs. search needs) (λ c. search needs) limits-requires (λ c. search needs) returns-2 returns-3)
+gate-keeping-spec = tie.close (tie.spec (λ c κs. search needs) returns (λ c κs. search needs) (λ c. search needs) (λ c. search needs) (λ c κs. search needs) limits-requires (λ c. search needs) returns-2 returns-3)

@@ -43,22 +43,22 @@ module _ (src : List ℕ) (at surf k : ℕ) (v b : Float) (is : k ≡ kind (word
   other p q r s t = simp (sym is, ne-eqb _ _ p, ne-eqb _ _ q, ne-eqb _ _ r, ne-eqb _ _ s, ne-eqb _ _ t)
 
 returns : tie.Need-returns
-returns c = (beam _ _ _ _ _ _ (c .before .before .before .kind-at .ensures) (c .before .before .if1 .taken) _ (c .before .beam-at .ensures) _ (c .beam-passes .ensures), λ h. h)
+returns c = λ h. (beam _ _ _ _ _ _ (c .before .before .before .kind-at .ensures) (c .before .before .if1 .taken) _ (c .before .beam-at .ensures) _ (c .beam-passes .ensures), h)
 
 returns-2 : tie.Need-returns-2
-returns-2 c = (surface _ _ _ _ _ _ (c .before .before .before .before .before .before .kind-at .ensures) (c .before .before .before .before .if2 .taken) _ (c .judge-keeping .ensures .0), c .judge-keeping .ensures .1)
+returns-2 c = λ h. let q = (c .judge-keeping .ensures) h in (surface _ _ _ _ _ _ (c .before .before .before .before .before .before .kind-at .ensures) (c .before .before .before .before .if2 .taken) _ (q .0), q .1)
 
 returns-3 : tie.Need-returns-3
-returns-3 c = (layer _ _ _ _ _ _ (c .before .before .before .before .kind-at .ensures) (c .before .if3 .taken) _ (c .plain-stands .ensures), λ h. h)
+returns-3 c = λ h. (layer _ _ _ _ _ _ (c .before .before .before .before .kind-at .ensures) (c .before .if3 .taken) _ (c .plain-stands .ensures), h)
 
 returns-4 : tie.Need-returns-4
-returns-4 c = (cauchy _ _ _ _ _ _ (c .before .before .before .before .before .kind-at .ensures) (c .before .if4 .taken) _ (c .cauchy-stands .ensures), λ h. h)
+returns-4 c = λ h. (cauchy _ _ _ _ _ _ (c .before .before .before .before .before .kind-at .ensures) (c .before .if4 .taken) _ (c .cauchy-stands .ensures), h)
 
 returns-5 : tie.Need-returns-5
-returns-5 c = (tuning _ _ _ _ _ _ (c .before .before .before .before .before .before .kind-at .ensures) (c .before .if5 .taken) _ (c .wavelength-passes .ensures), λ h. h)
+returns-5 c = λ h. (tuning _ _ _ _ _ _ (c .before .before .before .before .before .before .kind-at .ensures) (c .before .if5 .taken) _ (c .wavelength-passes .ensures), h)
 
 returns-6 : tie.Need-returns-6
-returns-6 c = (other _ _ _ _ _ _ (c .before .before .before .before .before .kind-at .ensures) (c .before .before .before .before .if1 .left) (c .before .before .before .if2 .left) (c .before .before .if3 .left) (c .before .if4 .left) (c .if5 .left), λ h. h)
+returns-6 c = λ h. (other _ _ _ _ _ _ (c .before .before .before .before .before .kind-at .ensures) (c .before .before .before .before .if1 .left) (c .before .before .before .if2 .left) (c .before .before .if3 .left) (c .before .if4 .left) (c .if5 .left), h)
 
 pub judge-spec : {M : Type 1} → statement M
 judge-spec = tie.close (tie.spec (λ c κs. search needs) (λ c κs. search needs) (λ c κs. search needs) returns (λ c κs. search needs) returns-2 (λ c κs. search needs) returns-3 (λ c κs. search needs) returns-4 (λ c κs. search needs) returns-5 returns-6)
