@@ -70,7 +70,7 @@ fn chosen_kept(
     n: usize,
     wavelength_nm: f64,
     i: usize,
-    places: &[usize; 64],
+    places: &[u16; 64],
     sines: &[f64; 64],
     cosines: &[f64; 64],
 ) -> Chosen
@@ -149,7 +149,7 @@ fn moved_at(
     src: &[u8],
     begin: usize,
     state: State,
-    places: &[usize; 64],
+    places: &[u16; 64],
     sines: &[f64; 64],
     cosines: &[f64; 64],
 ) -> State
@@ -168,9 +168,9 @@ fn moved_at(
 pub fn step(src: &[u8], state: State) -> TrainReply
     ensures { λ r. ⌜ outcome r ≡ step (now (src .entry)) state ⌝ }
 {
-    let mut places = [0usize; 64];
-    let mut sines = [0.0f64; 64];
-    let mut cosines = [0.0f64; 64];
+    let mut places = [1u16; 64];
+    let mut sines = [1.0f64; 64];
+    let mut cosines = [1.0f64; 64];
     match gate::gate_keeping(src, &mut places, &mut sines, &mut cosines) {
         Gated::Admitted(count) => {
             if state.done >= count {
@@ -221,7 +221,7 @@ pub fn retune(src: &[u8], state: State, wavelength_nm: f64) -> TrainReply
 fn write_each(
     src: &[u8],
     count: usize,
-    places: &[usize; 64],
+    places: &[u16; 64],
     sines: &[f64; 64],
     cosines: &[f64; 64],
     list: &mut [f64],
@@ -278,9 +278,9 @@ pub fn run_at(src: &[u8], count: u32, wavelength_nm: f64) -> State
 pub fn run(src: &[u8], list: &mut [f64]) -> Gated
     ensures { λ r. ⌜ record { result = Gate.outcome r; list = now (list .exit) } ≡ run (now (src .entry)) (now (list .entry)) ⌝ }
 {
-    let mut places = [0usize; 64];
-    let mut sines = [0.0f64; 64];
-    let mut cosines = [0.0f64; 64];
+    let mut places = [1u16; 64];
+    let mut sines = [1.0f64; 64];
+    let mut cosines = [1.0f64; 64];
     match gate::gate_keeping(src, &mut places, &mut sines, &mut cosines) {
         Gated::Admitted(count) => {
             let n = count as usize;

@@ -43,16 +43,16 @@ module _ (src : List ℕ) (list : List Float) where
   not-run r e = sym (ap (ran list) (turned-back src (r .number) (r .place) e))
 
 returns : tie.Need-returns
-returns c = too-short _ _ _ (c .before .before .before .before .before .before .before .before .before .shared-slice-known .given) (sym (ap Gate.outcome (c .before .before .count .given .1)) ∙ c .before .before .before .before .gate-keeping .ensures .0) (c .if1 .taken)
+returns c = too-short _ _ _ (c .before .before .before .before .before .before .before .before .before .shared-slice-known .given) (sym (ap Gate.outcome (c .before .before .count .given .1)) ∙ (c .before .before .before .before .gate-keeping .ensures) (nothing _ _ _) .0) (c .if1 .taken)
 
 write-each-requires : tie.Need-write-each-requires
-write-each-requires c κs = ((search needs, c .before .before .before .before .if1 .left), c .before .before .before .before .before .before .before .before .gate-keeping .ensures .1 (nothing _ _ _))
+write-each-requires c κs = ((search needs, c .before .before .before .before .if1 .left), (c .before .before .before .before .before .before .before .before .gate-keeping .ensures) (nothing _ _ _) .1)
 
 returns-2 : tie.Need-returns-2
-returns-2 c = whole _ _ _ (c .before .before .before .before .before .before .before .before .before .before .before .before .before .before .before .before .shared-slice-known .given) (sym (ap Gate.outcome (c .before .before .before .before .before .before .before .before .before .count .given .1)) ∙ c .before .before .before .before .before .before .before .before .before .before .before .gate-keeping .ensures .0) (c .before .before .before .before .before .before .before .if1 .left) _ (c .before .before .write-each .ensures)
+returns-2 c = whole _ _ _ (c .before .before .before .before .before .before .before .before .before .before .before .before .before .before .before .before .shared-slice-known .given) (sym (ap Gate.outcome (c .before .before .before .before .before .before .before .before .before .count .given .1)) ∙ (c .before .before .before .before .before .before .before .before .before .before .before .gate-keeping .ensures) (nothing _ _ _) .0) (c .before .before .before .before .before .before .before .if1 .left) _ (c .before .before .write-each .ensures)
 
 returns-3 : tie.Need-returns-3
-returns-3 c = not-run _ _ _ (sym (ap Gate.outcome (c .before .r .given .1)) ∙ c .before .before .before .gate-keeping .ensures .0)
+returns-3 c = not-run _ _ _ (sym (ap Gate.outcome (c .before .r .given .1)) ∙ (c .before .before .before .gate-keeping .ensures) (nothing _ _ _) .0)
 
 pub run-spec : {M : Type 1} → statement M
 run-spec = tie.close (tie.spec (λ c κs. search needs) (λ c. search needs) (λ c. search needs) (λ c. search needs) returns write-each-requires (λ c. search needs) (λ c. search needs) returns-2 returns-3)

@@ -63,19 +63,19 @@ module _ (src : List ℕ) (st : State) where
   not-taken r e = sym (ap (λ (o : Outcome Sheet). bind o (stepped st)) (turned-back src (r .number) (r .place) e))
 
 returns : tie.Need-returns
-returns c = no-more _ _ _ (c .before .before .before .before .before .before .before .before .before .shared-slice-known .given) (sym (ap Gate.outcome (c .before .before .before .count .given .1)) ∙ c .before .before .before .before .before .gate-keeping .ensures .0) (c .if1 .taken)
+returns c = no-more _ _ _ (c .before .before .before .before .before .before .before .before .before .shared-slice-known .given) (sym (ap Gate.outcome (c .before .before .before .count .given .1)) ∙ (c .before .before .before .before .before .gate-keeping .ensures) (nothing _ _ _) .0) (c .if1 .taken)
 
 returns-2 : tie.Need-returns-2
-returns-2 c = bad-wavelength _ _ _ (c .before .before .before .before .before .before .before .before .before .before .before .before .before .shared-slice-known .given) (sym (ap Gate.outcome (c .before .before .before .before .before .before .before .count .given .1)) ∙ c .before .before .before .before .before .before .before .before .before .gate-keeping .ensures .0) (c .before .before .before .before .if1 .left) _ (from-there _ _ _ _ _ _ (c .before .before .before .begin-of .ensures) (c .before .holds-from .ensures)) (c .if2 .taken)
+returns-2 c = bad-wavelength _ _ _ (c .before .before .before .before .before .before .before .before .before .before .before .before .before .shared-slice-known .given) (sym (ap Gate.outcome (c .before .before .before .before .before .before .before .count .given .1)) ∙ (c .before .before .before .before .before .before .before .before .before .gate-keeping .ensures) (nothing _ _ _) .0) (c .before .before .before .before .if1 .left) _ (from-there _ _ _ _ _ _ (c .before .before .before .begin-of .ensures) (c .before .holds-from .ensures)) (c .if2 .taken)
 
 moved-at-requires : tie.Need-moved-at-requires
-moved-at-requires c κs = (omega (arith, c .before .before .before .before .before .before .before .if1 .left), c .before .before .before .before .before .before .before .before .before .before .before .before .gate-keeping .ensures .1 (nothing _ _ _))
+moved-at-requires c κs = (omega (arith, c .before .before .before .before .before .before .before .if1 .left), (c .before .before .before .before .before .before .before .before .before .before .before .before .gate-keeping .ensures) (nothing _ _ _) .1)
 
 returns-3 : tie.Need-returns-3
-returns-3 c = one-more _ _ _ (c .before .before .before .before .before .before .before .before .before .before .before .before .before .before .before .before .before .shared-slice-known .given) (sym (ap Gate.outcome (c .before .before .before .before .before .before .before .before .before .before .before .count .given .1)) ∙ c .before .before .before .before .before .before .before .before .before .before .before .before .before .gate-keeping .ensures .0) (c .before .before .before .before .before .before .before .before .if1 .left) _ (from-there _ _ _ _ _ _ (c .before .before .before .before .before .before .before .begin-of .ensures) (c .before .before .before .before .before .holds-from .ensures)) (c .before .before .before .before .if2 .left) _ (c .before .before .before .before .before .before .before .begin-of .ensures) _ (c .moved-at .ensures)
+returns-3 c = one-more _ _ _ (c .before .before .before .before .before .before .before .before .before .before .before .before .before .before .before .before .before .shared-slice-known .given) (sym (ap Gate.outcome (c .before .before .before .before .before .before .before .before .before .before .before .count .given .1)) ∙ (c .before .before .before .before .before .before .before .before .before .before .before .before .before .gate-keeping .ensures) (nothing _ _ _) .0) (c .before .before .before .before .before .before .before .before .if1 .left) _ (from-there _ _ _ _ _ _ (c .before .before .before .before .before .before .before .begin-of .ensures) (c .before .before .before .before .before .holds-from .ensures)) (c .before .before .before .before .if2 .left) _ (c .before .before .before .before .before .before .before .begin-of .ensures) _ (c .moved-at .ensures)
 
 returns-4 : tie.Need-returns-4
-returns-4 c = not-taken _ _ _ (sym (ap Gate.outcome (c .before .r .given .1)) ∙ c .before .before .before .gate-keeping .ensures .0)
+returns-4 c = not-taken _ _ _ (sym (ap Gate.outcome (c .before .r .given .1)) ∙ (c .before .before .before .gate-keeping .ensures) (nothing _ _ _) .0)
 
 pub step-spec : {M : Type 1} → statement M
 step-spec = tie.close (tie.spec (λ c κs. search needs) (λ c. search needs) returns (λ c κs. search needs) (λ c. omega arith) (λ c κs. search needs) returns-2 moved-at-requires (λ c. search needs) returns-3 returns-4)
