@@ -14,7 +14,7 @@ ghost use Rattle.thin_film.specs.Evaluate.{evaluate-surface};
 ghost use Rattle.surface.specs.Answers.{coated-powers};
 ghost use Rattle.math_waves.specs.Waves.{written};
 ghost use Rattle.surface_real.specs.Internal.{no-films, stacked};
-ghost use Rattle.sheet_answers.specs.Internal.{nth-film};
+ghost use Rattle.sheet_answers.specs.Internal.{nth-film, reached};
 ghost use Rattle.sheet_answers.specs.Outcome.{outcome-of};
 use crate::PowersReply;
 use crate::presets;
@@ -28,6 +28,36 @@ use thin_film_coating::Coating;
 use thin_film_layers::Evaluation;
 use thin_film_layers::Prepared;
 use thin_film_solver::Incidence;
+use thin_film_solver::ThinFilmLayer;
+
+// A layer, and the place after it.
+struct Reached {
+    layer: ThinFilmLayer,
+    next: usize,
+}
+
+// Those at a place, at a wavelength: most layers are LAYERs that stand whole.
+fn reach(src: &[u8], at: usize, wavelength_nm: f64) -> Reached
+    ensures { λ r. ⌜ r ≡ reached «wavelength_nm» (now (src .entry)) at ⌝ }
+{
+    let floats = sheet::plain_floats(src, at);
+    if floats.stands {
+        let layer = ThinFilmLayer {
+            n: floats.first,
+            k: floats.second,
+            thickness_nm: floats.third,
+        };
+        return Reached {
+            layer,
+            next: at + 7,
+        };
+    }
+    let layer = sheet_values::layer_at(src, at, wavelength_nm);
+    Reached {
+        layer,
+        next: sheet::next_place(src, at),
+    }
+}
 
 // The numbers of count layers after the block at a place, at a wavelength, in the sheet's order: read in one walk.
 fn read_layers(
@@ -45,11 +75,12 @@ fn read_layers(
     let mut place = sheet::next_place(src, at);
     let mut i = 0;
     while i < count {
-        let layer = sheet_values::layer_at(src, place, wavelength_nm);
+        let reached = reach(src, place, wavelength_nm);
+        let layer = reached.layer;
         n[i] = layer.n;
         k[i] = layer.k;
         d[i] = layer.thickness_nm;
-        place = sheet::next_place(src, place);
+        place = reached.next;
         i += 1;
     }
 }

@@ -1,7 +1,7 @@
 -- `sheet_answers::quick::read_layers` meets its contract. Assumes nothing.
 use mathlib.Core.Path.{_≡_, ap, _∙_}
 use mathlib.Core.List.{List}
-use Prim.Native.Nat.{ℕ, _-_, _≤_}
+use Prim.Native.Nat.{ℕ, _+_, _-_, _≤_}
 use native.Mathlib.Omega.{arith}
 use lib.Ieee.{Float}
 use Rattle.math_waves.specs.Waves.{written}
@@ -9,7 +9,8 @@ use Rattle.math_waves.proofs.Written.{written-none, written-more, written-all}
 use Rattle.thin_film_solver.specs.declared.ThinFilmLayer.{ThinFilmLayer}
 use Rattle.sheet.specs.Internal.{next-place, place-on, layer-at}
 use Rattle.sheet_values.specs.Values.{film}
-use Rattle.sheet_answers.specs.Internal.{nth-film}
+use Rattle.sheet_answers.specs.declared.quick.Reached.{Reached}
+use Rattle.sheet_answers.specs.Internal.{nth-film, reached}
 use Rattle.sheet_answers.proofs.Walk.{first, further}
 use borrow.Author.Needs.{needs}
 use Rattle.sheet_answers.proofs.quick.read_layers.Statement.{statement}
@@ -24,8 +25,14 @@ abbrev μ-loop : tie.MeasureT-loop
 μ-loop src at count w n₀ k₀ d₀ place₀ i₀ n k d place i = count - i
 
 -- the layer that is reached
-own : (w : Float) (src : List ℕ) (at i place : ℕ) (y : ThinFilmLayer) → place ≡ place-on src (next-place src at) i → y ≡ film w (layer-at src place) → y ≡ nth-film w src at i
-own w src at i place y e f = f ∙ ap (λ (p : ℕ). film w (layer-at src p)) e
+module _ (w : Float) (src : List ℕ) (at i place : ℕ) (e : place ≡ place-on src (next-place src at) i) (r : Reached) (f : r ≡ reached w src place) where
+  own : r .layer ≡ nth-film w src at i
+  unfolding reached
+  own = ap (λ (z : Reached). z .layer) f ∙ ap (λ (p : ℕ). film w (layer-at src p)) e
+
+  on : r .next ≡ place-on src (next-place src at) (i + 1)
+  unfolding reached
+  on = further src (next-place src at) i place (r .next) e (ap (λ (z : Reached). z .next) f)
 
 loop-holds : tie.Need-loop-holds Inv-loop μ-loop
 loop-holds c = (omega arith, first _ _ _ (c .next-place .ensures), written-none _ _, written-none _ _, written-none _ _)
@@ -33,9 +40,10 @@ loop-holds c = (omega arith, first _ _ _ (c .next-place .ensures), written-none 
 loop-again : tie.Need-loop-again Inv-loop μ-loop
 loop-again c =
     let inv = c .before .before .before .loop .inv in
-    let is = own _ (c .before .before .before .before .before .before .args .src .now) _ _ _ _ (inv .1) (c .before .layer-at .ensures) in (
+    let a = c .before .before .before .before .before .before .args in
+    let is = own (a .wavelength-nm) (a .src .now) (a .at) _ _ (inv .1) _ (c .before .reach .ensures) in (
       omega (arith, c .before .before .loop-test .taken),
-      further _ _ _ _ _ (inv .1) (c .next-place2 .ensures),
+      on (a .wavelength-nm) (a .src .now) (a .at) _ _ (inv .1) _ (c .before .reach .ensures),
       written-more _ _ _ _ _ (inv .2) (ap (λ (z : ThinFilmLayer). z .n) is),
       written-more _ _ _ _ _ (inv .3) (ap (λ (z : ThinFilmLayer). z .k) is),
       written-more _ _ _ _ _ (inv .4) (ap (λ (z : ThinFilmLayer). z .«thickness_nm») is),
@@ -62,7 +70,6 @@ read-layers-spec =
     (λ c. search needs)
     (λ c. search needs)
     (λ c. search needs)
-    (λ c κs. search needs)
     (λ c. search needs)
     (λ c. search needs)
     loop-again
