@@ -23,11 +23,14 @@ module _ (base : List Float) (long : length base ≡ 16) where
   wave : (f : Float → Float) (x : List Float) (films : ℕ) (l : List Float) (j : ℕ) → films ≤ 16 → j < films → l ≡ each f x films base → at l j ≡ f (at x j)
   wave f x films l j few h is = place (λ k. f (at x k)) (at-most-16 films) l j (omega (arith, few)) (omega (arith, few, h)) is
 
-module _ (snell wavelength : Float) (n k d : List Float) (films : ℕ) (few : films ≤ 16) (base : List Float) (long : length base ≡ 16) (h c es ep δ s t ys yp : List Float)
+module _ (snell wavelength : Float) (n k d : List Float) (films angles : ℕ) (enough : films ≤ angles) (most : angles ≤ 16) (base : List Float) (long : length base ≡ 16) (h c es ep δ s t ys yp : List Float)
     (h-is : h ≡ written (λ i. radicand snell (at n i)) films base) (c-is : c ≡ written (λ i. root-of (at h i) (at k i)) films base)
     (es-is : es ≡ written (λ i. at n i ⊗ at c i) films base) (ep-is : ep ≡ written (λ i. over (at n i) (at c i)) films base)
-    (δ-is : δ ≡ written (λ i. at n i ⊗ at c i ⊗ factor (at d i) wavelength) films base) (s-is : s ≡ each Trig.sin δ films base) (t-is : t ≡ each Trig.cos δ films base)
+    (δ-is : δ ≡ written (λ i. at n i ⊗ at c i ⊗ factor (at d i) wavelength) films base) (s-is : s ≡ each Trig.sin δ angles base) (t-is : t ≡ each Trig.cos δ angles base)
     (ys-is : ys ≡ written (λ i. over (at s i) (at es i)) films base) (yp-is : yp ≡ written (λ i. over (at s i) (at ep i)) films base) where
+  few : films ≤ 16
+  few = omega (arith, enough, most)
+
   module _ (j : ℕ) (low : j < films) where
     abbrev layer : ThinFilmLayer
     layer = layer-in n k d j
@@ -49,10 +52,10 @@ module _ (snell wavelength : Float) (n k d : List Float) (films : ℕ) (few : fi
     of-delta = place base long _ films δ j few low δ-is ∙ ap (λ (z : Float). at n j ⊗ z ⊗ factor (at d j) wavelength) cosine
 
     sine : at s j ≡ Trig.sin (medium-of snell wavelength layer .delta)
-    sine = wave base long Trig.sin δ films s j few low s-is ∙ ap Trig.sin of-delta
+    sine = wave base long Trig.sin δ angles s j most (omega (arith, low, enough)) s-is ∙ ap Trig.sin of-delta
 
     cosine-of-delta : at t j ≡ Trig.cos (medium-of snell wavelength layer .delta)
-    cosine-of-delta = wave base long Trig.cos δ films t j few low t-is ∙ ap Trig.cos of-delta
+    cosine-of-delta = wave base long Trig.cos δ angles t j most (omega (arith, low, enough)) t-is ∙ ap Trig.cos of-delta
 
     over-s : at ys j ≡ over (at s j) (at es j)
     over-s = place base long _ films ys j few low ys-is

@@ -74,6 +74,14 @@ fn media(
     }
 }
 
+// As many angles as so many films take: four go at once, so that fewer are no quicker.
+fn angle_count(films: usize) -> usize
+    requires { ⌜ films ≤ 16 ⌝ }
+    ensures { λ r. ⌜ (films ≤ r) × (r ≤ 16) ⌝ }
+{
+    if films < 4 { 4 } else { films }
+}
+
 // The sines of the first films over their admittances.
 fn quotients(
     sin: &[f64; 16],
@@ -208,7 +216,7 @@ pub fn join_all(
         &mut eta_p,
         &mut delta,
     );
-    math_waves::sin_cos(&delta, films, &mut sin, &mut cos);
+    math_waves::sin_cos(&delta, angle_count(films), &mut sin, &mut cos);
     quotients(&sin, &eta_s, &eta_p, films, &mut y_s, &mut y_p);
     join_films(
         few,

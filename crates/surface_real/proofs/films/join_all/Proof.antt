@@ -25,7 +25,8 @@ returns : tie.Need-returns
 returns c layers long low stand =
     let q = c .before .before .before .before .before .before .before in
     let w = q .before .before .before .before .before .before in
-    let m = w .before .before .before .before in
+    let g = w .before .before .before in
+    let m = g .before .before in
     let r = m .before .before .before .before .before in
     let h = r .before .before .before in
     let f = h .before .before in
@@ -36,7 +37,7 @@ returns c layers long low stand =
     let e = few (f .before) .1 low in
     let own : (j : ℕ) → j < length layers → _ = λ j b.
     let t = f .film-count .ensures .1 snell nm j (omega (arith, b, long, e)) in
-    own-film snell nm (a .n .now) (a .k .now) (a .d .now) (f .film-count .result) (films f) (replicate 16 one) (length-replicate 16 one) _ _ _ _ _ _ _ _ _ (h .radicands .ensures) (r .roots .ensures)
+    own-film snell nm (a .n .now) (a .k .now) (a .d .now) (f .film-count .result) (g .angle-count .result) (g .angle-count .ensures .0) (g .angle-count .ensures .1) (replicate 16 one) (length-replicate 16 one) _ _ _ _ _ _ _ _ _ (h .radicands .ensures) (r .roots .ensures)
     (m .media .ensures .0) (m .media .ensures .1) (m .media .ensures .2) (w .sin-cos .ensures .0) (w .sin-cos .ensures .1) (q .quotients .ensures .0) (q .quotients .ensures .1) _ (t .0)
     ∙ t .1 ∙ ap (film-of snell nm) (sym (stand j b)) in
     c .join-films .ensures ∙ all-joined snell nm layers (a .reversed) _ own (a .stack) _ (long ∙ sym e)
@@ -49,7 +50,8 @@ join-all-spec =
     (λ c κs. films (c .before))
     (λ c κs. films (c .before .before .before .before))
     (λ c κs. films (c .before .before .before .before .before .before .before .before .before))
+    (λ c κs. films (c .before .before .before .before .before .before .before .before .before .before .before))
     (λ c κs. search needs)
-    (λ c κs. films (c .before .before .before .before .before .before .before .before .before .before .before .before .before .before .before .before .before .before .before))
-    (λ c κs. few (c .before .before .before .before .before .before .before .before .before .before .before .before .before .before .before .before .before .before .before .before .before .before .before .before .before .before .before) .0)
+    (λ c κs. films (c .before .before .before .before .before .before .before .before .before .before .before .before .before .before .before .before .before .before .before .before))
+    (λ c κs. few (c .before .before .before .before .before .before .before .before .before .before .before .before .before .before .before .before .before .before .before .before .before .before .before .before .before .before .before .before) .0)
     returns)
