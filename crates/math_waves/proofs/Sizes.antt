@@ -1,6 +1,6 @@
--- The sines and cosines of angles below 2^20 in size are those of any angle. Assumes nothing.
-use mathlib.Core.Path.{_≡_, sym, ap, _∙_, subst}
-use mathlib.Core.Bool.{Bool, true, false, not, _||_}
+-- The sines and cosines of near angles are those of any angle. Assumes nothing.
+use mathlib.Core.Path.{_≡_, refl, sym, ap, _∙_, subst}
+use mathlib.Core.Bool.{Bool, true, false, not, _&&_, _||_, cond}
 use Prim.Native.Nat.{ℕ, zero, suc, _≤_, _<_}
 use native.Mathlib.Nat.{not-suc-le-zero}
 use native.Mathlib.Omega.{arith}
@@ -9,9 +9,10 @@ use lib.Dec.{T, ltb, ltb→lt, nltb→le}
 use lib.ListN.{getD}
 use lib.Ieee.{Float, nan, inf, fin, neg, lt, eq, le, ofBits}
 use lib.Ieee.Fits.{and-l, and-r}
+use Rattle.ieee.specs.Operators.{_⊕_, _⊖_}
 use Rattle.ieee.specs.Functions.{abs}
-use Rattle.math_trig.specs.Angles.{turns-limit}
-use Rattle.math_trig.specs.Trig.{wrap, first-line, fold, second-fold, sin-at, sin, cos-at, cos}
+use Rattle.math_trig.specs.Angles.{tau, pi, minus-pi, turns-limit}
+use Rattle.math_trig.specs.Trig.{wrap, fold, second-fold, sin-at, sin, cos-at, cos}
 use Rattle.math_trig.specs.Internal.{near-line}
 use Rattle.math_trig.proofs.Opposites.{neg-neg, lt-neg}
 use Rattle.math_trig.proofs.Shifted.{up-to-limit}
@@ -37,27 +38,53 @@ in-size (inf false) a b = unfold lt ofBits in absurd a
 in-size (fin true m e) a b = unfold abs neg in at-most (fin false m e) turns-limit (unfold neg in from-below (fin true m e) b)
 in-size (fin false m e) a b = unfold abs in at-most (fin false m e) turns-limit a
 
-limited : (x : Float) → T (near x) → T (le (abs x) turns-limit)
-unfolding near
-limited x t = in-size x (and-l (lt x turns-limit) (lt (neg turns-limit) x) t) (and-r (lt x turns-limit) (lt (neg turns-limit) x) t)
+module _ (x r : Float) (t : T (near x r)) where
+  sizes : T (lt x turns-limit && lt (neg turns-limit) x && (not (lt pi r) && not (lt r minus-pi)))
+  unfolding near
+  sizes = t
+
+  limited : T (le (abs x) turns-limit)
+  limited =
+      let h = and-l (lt x turns-limit && lt (neg turns-limit) x) (not (lt pi r) && not (lt r minus-pi)) sizes in
+      in-size x (and-l (lt x turns-limit) (lt (neg turns-limit) x) h) (and-r (lt x turns-limit) (lt (neg turns-limit) x) h)
+
+  -- nothing is to be added or taken off
+  unwrapped : wrap r ≡ r
+  unfolding wrap
+  unwrapped =
+      let h = and-r (lt x turns-limit && lt (neg turns-limit) x) (not (lt pi r) && not (lt r minus-pi)) sizes in
+      go (lt pi r) (lt r minus-pi) (and-l (not (lt pi r)) (not (lt r minus-pi)) h) (and-r (not (lt pi r)) (not (lt r minus-pi)) h)
+    where
+      go : (a b : Bool) → T (not a) → T (not b) → cond a (r ⊖ tau) (cond b (r ⊕ tau) r) ≡ r
+      go true b t u = absurd t
+      go false true t u = absurd u
+      go false false t u = refl
 
 -- ---- one angle
-pub sin-near : (x : Float) → T (near x) → near-sin x ≡ sin x
-unfolding near-sin sin fold
-sin-near x t = ap (λ (z : Float). sin-at (second-fold (wrap z))) (up-to-limit x (limited x t))
+module _ (x : Float) (t : T (near x (near-line x))) where
+  folded : near-line x ≡ fold x
+  unfolding fold
+  folded = sym (unwrapped x (near-line x) t) ∙ ap wrap (up-to-limit x (limited x (near-line x) t))
 
-pub cos-near : (x : Float) → T (near x) → near-cos x ≡ cos x
-unfolding near-cos cos fold
-cos-near x t = ap (λ (z : Float). turned (wrap z) (cos-at (second-fold (wrap z)))) (up-to-limit x (limited x t)) ∙ sym (cos-is (wrap (first-line x)))
+  pub sin-near : near-sin x ≡ sin x
+  unfolding near-sin sin
+  sin-near = ap (λ (z : Float). sin-at (second-fold z)) folded
+
+  pub cos-near : near-cos x ≡ cos x
+  unfolding near-cos cos
+  cos-near = ap (λ (z : Float). turned z (cos-at (second-fold z))) folded ∙ sym (cos-is (fold x))
 
 -- ---- the first n
-pub each-near : (x : List Float) (n k : ℕ) → T (all-near x n) → k < n → T (near (getD x k nan))
+abbrev Near : Float → Type 0
+Near x = T (near x (near-line x))
+
+pub each-near : (x : List Float) (n k : ℕ) → T (all-near x n) → k < n → Near (getD x k nan)
 unfolding all-near
 each-near x zero k t h = absurd (not-suc-le-zero h)
-each-near x (suc n) k t h = go (ltb k n) (ltb→lt k n) (nltb→le k n) (each-near x n k (and-l (all-near x n) (near (getD x n nan)) t))
+each-near x (suc n) k t h = go (ltb k n) (ltb→lt k n) (nltb→le k n) (each-near x n k (and-l (all-near x n) (near (getD x n nan) (near-line (getD x n nan))) t))
   where
-    go : (b : Bool) → (T b → k < n) → (T (not b) → n ≤ k) → (k < n → T (near (getD x k nan))) → T (near (getD x k nan))
+    go : (b : Bool) → (T b → k < n) → (T (not b) → n ≤ k) → (k < n → Near (getD x k nan)) → Near (getD x k nan)
     go true l g before = before (l tt)
     go false l g before =
         let e : n ≡ k = omega (arith, h, g tt) in
-        subst (λ (j : ℕ). T (near (getD x j nan))) e (and-r (all-near x n) (near (getD x n nan)) t)
+        subst (λ (j : ℕ). Near (getD x j nan)) e (and-r (all-near x n) (near (getD x n nan) (near-line (getD x n nan))) t)

@@ -19,15 +19,15 @@ fn turned(r: f64, c: f64) -> f64
     }
 }
 
-// Whether an angle is below 2^20 in size.
-fn near(x: f64) -> bool
-    ensures { λ r. ⌜ r ≡ near x ⌝ }
+// Whether an angle is below 2^20 in size, and r, what its first line leaves, within -π..π: seldom is it not.
+fn near(x: f64, r: f64) -> bool
+    ensures { λ t. ⌜ t ≡ near x r ⌝ }
 {
-    (x < 1048576.0) & (-1048576.0 < x)
+    ((x < 1048576.0) & (-1048576.0 < x)) & (!(r > math_trig::PI) & !(r < -math_trig::PI))
 }
 
-// The sines and cosines of the first n angles where all are below 2^20 in size, and whether they are. cos has the argument of sin
-// up to its sign, so one square serves both.
+// The sines and cosines of the first n angles where all are near, and whether they are. cos has the argument of sin up to its
+// sign, so one square serves both.
 fn at_once(x: &[f64; 16], n: usize, sin: &mut [f64; 16], cos: &mut [f64; 16]) -> bool
     requires { ⌜ n ≤ 16 ⌝ }
     ensures { λ r. ⌜ (r ≡ all-near (now (x .entry)) n) × (now (sin .exit) ≡ each-first near-sin (now (x .entry)) n (now (sin .entry))) × (now (cos .exit) ≡ each-first near-cos (now (x .entry)) n (now (cos .entry))) ⌝ }
@@ -36,8 +36,8 @@ fn at_once(x: &[f64; 16], n: usize, sin: &mut [f64; 16], cos: &mut [f64; 16]) ->
     let mut i = 0;
     while i < n {
         let angle = x[i];
-        all = all & near(angle);
-        let r = math_trig::wrap(math_trig::near_line(angle));
+        let r = math_trig::near_line(angle);
+        all = all & near(angle, r);
         let a = math_trig::second_fold(r);
         let p = math_trig::both_series(a * a);
         sin[i] = ieee::clamp(a * p.sin, -1.0, 1.0);

@@ -11,7 +11,7 @@ use borrow.Author.Needs.{needs}
 use Rattle.ieee.specs.Operators.{_⊗_}
 use Rattle.ieee.specs.Functions.{one, minus-one, clamp}
 use Rattle.math_trig.specs.declared.Series.{Series}
-use Rattle.math_trig.specs.Trig.{wrap, second-fold, series, sin-div, cos-div, sin-at, cos-at}
+use Rattle.math_trig.specs.Trig.{second-fold, series, sin-div, cos-div, sin-at, cos-at}
 use Rattle.math_trig.specs.Internal.{near-line}
 use Rattle.math_waves.specs.Waves.{each-first}
 use Rattle.math_waves.specs.Internal.{turned, near, all-near, near-sin, near-cos}
@@ -27,23 +27,20 @@ abbrev μ-loop : tie.MeasureT-loop
 μ-loop x n sin₀ cos₀ all₀ i₀ sin cos all i = n - i
 
 -- whether one angle more is near
-more : (x : List Float) (i : ℕ) (b t : Bool) → b ≡ all-near x i → t ≡ near (getD x i nan) → b && t ≡ all-near x (i + 1)
+more : (x : List Float) (i : ℕ) (b t : Bool) (y : Float) → b ≡ all-near x i → t ≡ near (getD x i nan) y → y ≡ near-line (getD x i nan) → b && t ≡ all-near x (i + 1)
 unfolding all-near
-more x i b t e f = ap₂ _&&_ e f ∙ ap (all-near x) (sym (add-one i))
+more x i b t y e f g = ap₂ _&&_ e (f ∙ ap (near (getD x i nan)) g) ∙ ap (all-near x) (sym (add-one i))
 
 -- one angle
-module _ (x y r a : Float) (p : Series) (ey : y ≡ near-line x) (er : r ≡ wrap y) (ea : a ≡ second-fold r)
+module _ (x r a : Float) (p : Series) (er : r ≡ near-line x) (ea : a ≡ second-fold r)
     (ep : p ≡ record { sin = series sin-div 10 (a ⊗ a) one; cos = series cos-div 11 (a ⊗ a) one }) where
-  folded : r ≡ wrap (near-line x)
-  folded = er ∙ ap wrap ey
-
   sin-here : (s : Float) → s ≡ clamp (a ⊗ p .sin) minus-one one → s ≡ near-sin x
   unfolding near-sin sin-at
-  sin-here s e = e ∙ ap (λ (q : Series). clamp (a ⊗ q .sin) minus-one one) ep ∙ ap sin-at (ea ∙ ap second-fold folded)
+  sin-here s e = e ∙ ap (λ (q : Series). clamp (a ⊗ q .sin) minus-one one) ep ∙ ap sin-at (ea ∙ ap second-fold er)
 
   cos-here : (c t : Float) → c ≡ clamp (p .cos) minus-one one → t ≡ turned r c → t ≡ near-cos x
   unfolding near-cos cos-at
-  cos-here c t e f = f ∙ ap (turned r) (e ∙ ap (λ (q : Series). clamp (q .cos) minus-one one) ep ∙ ap cos-at ea) ∙ ap (λ (z : Float). turned z (cos-at (second-fold z))) folded
+  cos-here c t e f = f ∙ ap (turned r) (e ∙ ap (λ (q : Series). clamp (q .cos) minus-one one) ep ∙ ap cos-at ea) ∙ ap (λ (z : Float). turned z (cos-at (second-fold z))) er
 
 loop-holds : tie.Need-loop-holds Inv-loop μ-loop
 unfolding all-near
@@ -52,18 +49,16 @@ loop-holds c = (omega arith, (refl, (written-none _ _, written-none _ _)))
 loop-again : tie.Need-loop-again Inv-loop μ-loop
 unfolding ofBits neg
 loop-again c =
-    let n = c .before .before .before .before .before .before .before .before in
-    let w = n .before .before .before .loop .inv .1 in
     let line = c .before .before .before .before .before .before .before .near-line .ensures in
-    let wraps = c .before .before .before .before .before .before .wrap .ensures in
     let folds = c .before .before .before .before .before .second-fold .ensures in
-    let both = c .before .before .before .before .both-series .ensures in (
-      omega arith,
+    let both = c .before .before .before .before .both-series .ensures in
+    let w = c .before .before .before .before .before .before .before .before .before .before .loop .inv .1 in (
+      omega (arith, c .before .before .before .before .before .before .before .before .before .loop-test .taken),
       (
-        more _ _ _ _ (w .0) (n .near .ensures),
+        more _ _ _ _ _ (w .0) (c .before .before .before .before .before .before .near .ensures) line,
         (
-          written-more _ _ _ _ _ (w .1 .0) (sin-here _ _ _ _ _ line wraps folds both _ (c .before .before .clamp .ensures)),
-          written-more _ _ _ _ _ (w .1 .1) (cos-here _ _ _ _ _ line wraps folds both _ _ (c .before .clamp2 .ensures) (c .turned .ensures)),
+          written-more _ _ _ _ _ (w .1 .0) (sin-here _ _ _ _ line folds both _ (c .before .before .clamp .ensures)),
+          written-more _ _ _ _ _ (w .1 .1) (cos-here _ _ _ _ line folds both _ _ (c .before .clamp2 .ensures) (c .turned .ensures)),
         ),
       ),
     )
@@ -89,7 +84,6 @@ at-once-spec =
     loop-holds
     (λ c. search needs)
     (λ c. search needs)
-    (λ c κs. search needs)
     (λ c κs. search needs)
     (λ c κs. search needs)
     (λ c κs. search needs)

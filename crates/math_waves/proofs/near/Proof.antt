@@ -6,7 +6,7 @@ use Rattle.math_waves.proofs.near.Statement.{statement}
 use Rattle.math_waves.proofs.near.Tie as tie
 
 returns : tie.Need-returns
-unfolding near
+unfolding near ofBits neg
 returns c = refl
 
 pub near-spec : {M : Type 1} → statement M
