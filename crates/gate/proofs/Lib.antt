@@ -1,9 +1,9 @@
--- The verdicts of a sheet's blocks, the gate's claim, the walk over the blocks and over LAYERs, and what a caller of the gate knows.
+-- The verdicts of a sheet's blocks, the gate's claim, the walk over the blocks and over layers, and what a caller of the gate knows.
 pub mod Wavelengths
 pub mod Verdicts
 pub mod Claim
 pub mod Kept
 pub mod Walk
-mod Plain
+mod Fitting
 pub mod Admitted
 pub mod HoldsHere

@@ -18,7 +18,7 @@ use Rattle.sheet.specs.Sheet.{SheetLayer, SheetSurface}
 use Rattle.sheet.specs.Internal.{plain-stands, next-place, place-on, layer-run, layer-at, surface-at, layers-at, begin}
 use Rattle.sheet_values.specs.Values.{cauchy-film, film, surface-value}
 use Rattle.sheet_values.specs.declared.Cauchy.{Cauchy}
-use Rattle.sheet_values.specs.Internal.{beam-at, plain-at}
+use Rattle.sheet_values.specs.Internal.{beam-at, plain-at, cauchy-at}
 use Rattle.gate.specs.Gate.{coefficients-finite, layer-admitted, metal-admitted}
 use Rattle.gate.specs.Wavelength.{surface-admitted}
 
@@ -47,6 +47,13 @@ pub record WorkedOut (src : List ℕ) (n : ℕ) (places : List ℕ) (sines cosin
   pub right : (j at : ℕ) → j < n → 1 < at → getD places j 0 ≡ at
       → (getD sines j nan ≡ sin (angle-at src at)) × (getD cosines j nan ≡ cos (angle-at src at))
 
+-- a kind 6 by its values: its coefficients are finite; and it passes under section 3's limits
+abbrev pub glass-finite : Cauchy → Bool
+glass-finite g = finite (g .a) && (finite (g .b) && finite (g .c))
+
+abbrev pub cauchy-admitted : Float → Float → Cauchy → Bool
+cauchy-admitted wavelength b g = glass-finite g && layer-within b (cauchy-film wavelength g)
+
 -- whether a whole LAYER stands at a place and is within section 3's limits; the place after such ones from a place on, `most` at the most
 unfoldable pub plain-fits : List ℕ → ℕ → Float → Bool
 plain-fits src at b = plain-stands src at && layer-within b (plain-at src at)
@@ -55,12 +62,20 @@ unfoldable pub after-plain : ℕ → List ℕ → ℕ → Float → ℕ
 after-plain zero src at b = at
 after-plain (suc most) src at b = cond (plain-fits src at b) (after-plain most src (at + 7) b) at
 
--- a kind 6 by its values: its coefficients are finite; and it passes under section 3's limits
-abbrev pub glass-finite : Cauchy → Bool
-glass-finite g = finite (g .a) && (finite (g .b) && finite (g .c))
+-- the same of kinds 6, at a wavelength
+unfoldable pub cauchy-fits : List ℕ → ℕ → Float → Float → Bool
+cauchy-fits src at wavelength b = eqb (kind (word src at)) 6 && cauchy-admitted wavelength b (cauchy-at src at)
 
-abbrev pub cauchy-admitted : Float → Float → Cauchy → Bool
-cauchy-admitted wavelength b g = glass-finite g && layer-within b (cauchy-film wavelength g)
+unfoldable pub after-cauchy : ℕ → List ℕ → ℕ → Float → Float → ℕ
+after-cauchy zero src at wavelength b = at
+after-cauchy (suc most) src at wavelength b =
+    cond (cauchy-fits src at wavelength b) (after-cauchy most src (next-place src at) wavelength b) at
+
+-- of the kind that stands at a place
+unfoldable pub after-fitting : List ℕ → ℕ → Float → Float → ℕ
+after-fitting src at wavelength b =
+    let k = kind (word src at) in
+    cond (eqb k 4) (after-plain 16 src at b) (cond (eqb k 6) (after-cauchy 16 src at wavelength b) at)
 
 -- the SURFACE at a place, with its layers
 abbrev pub whole-at : List ℕ → ℕ → SheetSurface

@@ -17,7 +17,7 @@ ghost use Rattle.gate.specs.Gate.{coefficients-finite, layer-admitted, o
 ghost use Rattle.gate.specs.Wavelength.{layers-admitted};
 ghost use Rattle.sheet_values.specs.Values.{surface-value};
 ghost use Rattle.sheet_values.specs.Internal.{plain-at, cauchy-at};
-ghost use Rattle.gate.specs.Internal.{angle-at, Kept, NotedRight, Gathered, WorkedOut, plain-fits, after-plain, glass-finite, cauchy-admitted, metal-at, metal-layer, metal-layers, passage-at, surface-holds-at, layers-hold-at, holds-from, holds-at};
+ghost use Rattle.gate.specs.Internal.{angle-at, Kept, NotedRight, Gathered, WorkedOut, plain-fits, after-plain, cauchy-fits, after-cauchy, after-fitting, glass-finite, cauchy-admitted, metal-at, metal-layer, metal-layers, passage-at, surface-holds-at, layers-hold-at, holds-from, holds-at};
 use gate_limits::Judgement;
 use math_trig::SinCos;
 use refusal::Refusal;
@@ -407,6 +407,8 @@ fn judge(
     }
 }
 
+// ---- layers of one kind after a block, passed over together: most blocks are such layers
+
 // A whole LAYER stands at a place, and is within section 3's limits.
 fn plain_fits(src: &[u8], at: usize, snell: f64) -> bool
     ensures { λ r. ⌜ r ≡ plain-fits (now (src .entry)) at snell ⌝ }
@@ -423,7 +425,7 @@ fn plain_fits(src: &[u8], at: usize, snell: f64) -> bool
     gate_limits::layer_within(snell, layer)
 }
 
-// The place after those from a place on, 16 at the most: most blocks are such LAYERs.
+// The place after such ones from a place on, 16 at the most.
 fn after_plain(src: &[u8], at: usize, snell: f64) -> usize
     ensures { λ r. ⌜ r ≡ after-plain 16 (now (src .entry)) at snell ⌝ }
 {
@@ -438,6 +440,47 @@ fn after_plain(src: &[u8], at: usize, snell: f64) -> usize
     }
     place
 }
+
+// The same of kinds 6, at a wavelength.
+fn cauchy_fits(src: &[u8], at: usize, wavelength_nm: f64, snell: f64) -> bool
+    ensures { λ r. ⌜ r ≡ cauchy-fits (now (src .entry)) at «wavelength_nm» snell ⌝ }
+{
+    if sheet::kind_at(src, at) != 6 {
+        return false;
+    }
+    cauchy_passes(wavelength_nm, snell, sheet_values::cauchy_at(src, at))
+}
+
+fn after_cauchy(src: &[u8], at: usize, wavelength_nm: f64, snell: f64) -> usize
+    ensures { λ r. ⌜ r ≡ after-cauchy 16 (now (src .entry)) at «wavelength_nm» snell ⌝ }
+{
+    let mut place = at;
+    let mut i: usize = 0;
+    while i < 16 {
+        if !cauchy_fits(src, place, wavelength_nm, snell) {
+            return place;
+        }
+        place = sheet::next_place(src, place);
+        i += 1;
+    }
+    place
+}
+
+// The place after those of the kind that stands at a place.
+fn after_fitting(src: &[u8], at: usize, wavelength_nm: f64, snell: f64) -> usize
+    ensures { λ r. ⌜ r ≡ after-fitting (now (src .entry)) at «wavelength_nm» snell ⌝ }
+{
+    let kind = sheet::kind_at(src, at);
+    if kind == 4 {
+        return after_plain(src, at, snell);
+    }
+    if kind == 6 {
+        return after_cauchy(src, at, wavelength_nm, snell);
+    }
+    at
+}
+
+// ---- the limits and the gate
 
 // One more of 64 where a SURFACE has taken the place of another.
 fn next_slot(i: usize, before: usize, surface: usize) -> usize {
@@ -485,7 +528,7 @@ fn limits(
         i = next_slot(i, surface, passage.surface);
         snell = passage.snell;
         surface = passage.surface;
-        at = after_plain(src, sheet::next_place(src, at), snell);
+        at = after_fitting(src, sheet::next_place(src, at), wavelength_nm, snell);
     }
     Gated::Admitted(count)
 }

@@ -9,7 +9,7 @@ use borrow.Author.Needs.{needs}
 use borrow.Author.Tests.{not-true, not-false}
 use Rattle.sheet.specs.Words.{count}
 use Rattle.gate.specs.Internal.{plain-fits, after-plain}
-use Rattle.gate.proofs.Plain.{room}
+use Rattle.gate.proofs.Fitting.{room}
 use Rattle.gate.proofs.after_plain.Statement.{statement}
 use Rattle.gate.proofs.after_plain.Tie as tie
 

@@ -9,7 +9,7 @@ use Rattle.sheet.specs.Read.{decode, graded, surfaces-of}
 use Rattle.gate.specs.Gate.{within-limits}
 use Rattle.gate.specs.Internal.{Kept}
 use Rattle.gate.proofs.Walk.{Left, begin, block-fails, block-holds, all-within}
-use Rattle.gate.proofs.Plain.{passes-on, nearer}
+use Rattle.gate.proofs.Fitting.{passes-on, nearer}
 use Rattle.gate.proofs.limits.Statement.{statement}
 use Rattle.gate.proofs.limits.Tie as tie
 
@@ -32,14 +32,14 @@ returns c = λ h.
 loop-less : tie.Need-loop-less Inv-loop μ-loop
 loop-less c =
     let lt = c .before .before .before .before .before .before .before .before .before .before .loop-test .taken in
-    omega (arith, lt, nearer _ _ _ _ _ lt (c .before .next-place .ensures) (c .after-plain .ensures))
+    omega (arith, lt, nearer _ _ _ _ _ _ lt (c .before .next-place .ensures) (c .after-fitting .ensures))
 
 loop-again : tie.Need-loop-again Inv-loop μ-loop
 loop-again c = λ h.
     let p = (c .before .before .before .before .before .before .before .before .before .before .before .loop .inv) h in
     let q = (c .before .before .before .before .before .judge .ensures) (p .1) in
     let next = block-holds _ _ _ _ _ _ _ _ (c .before .before .before .before .before .before .before .before .before .met-with .ensures) _ (q .0) (p .0) (c .before .before .before .before .before .before .before .before .before .before .loop-test .taken) (c .before .before .before .if1 .left) _ (c .before .next-place .ensures) .1 in
-    (rw (c .after-plain .ensures) (passes-on 16 _ _ _ _ _ _ _ next), q .1)
+    (rw (c .after-fitting .ensures) (passes-on _ _ _ _ _ _ _ next), q .1)
 
 returns-2 : tie.Need-returns-2 Inv-loop μ-loop
 returns-2 c = λ h. let p = (c .before .loop .inv) h in (all-within _ _ _ _ _ _ _ (p .0) (c .loop-test .left), p .1)
