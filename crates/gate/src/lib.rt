@@ -126,6 +126,7 @@ fn metal_holds(src: &[u8], at: usize, wavelength_nm: f64) -> bool
 
 // ---- sines and cosines, kept for whoever comes after the gate
 
+// A place that is kept, as a place.
 fn wide(place: u16) -> usize
     ensures { λ r. ⌜ r ≡ place ⌝ }
 {
@@ -155,7 +156,7 @@ pub fn kept_at(
     math_trig::sin_cos(angle_rad)
 }
 
-// Whether an angle is of a size that many are worked out at once at.
+// Whether an angle is small enough to be worked out together with others.
 fn near(angle_rad: f64) -> bool {
     angle_rad < 1048576.0 && -1048576.0 < angle_rad
 }
@@ -533,7 +534,7 @@ fn limits(
     Gated::Admitted(count)
 }
 
-// The gate: the length, then the grammar, then the limits. What is kept stays right.
+// The gate: the length, then the grammar, then the limits. What is kept has to be right, and stays so.
 pub fn gate_keeping(
     src: &[u8],
     places: &mut [u16; 64],

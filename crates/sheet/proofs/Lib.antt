@@ -11,5 +11,5 @@ pub mod Claim
 pub mod Stands
 pub mod Standings
 pub mod Scan
-pub mod Plain
+pub mod Whole
 mod Calls

@@ -22,13 +22,20 @@ standing-of (S.Among edition done most) = Read.among edition done most
 standing-of (S.AtSurface edition done) = Read.at-surface edition done
 standing-of S.Ended = Read.ended
 
--- how many layers may come there; and where one stands after n of them
+-- how many layers may come there, and how many kinds 6; and where one stands after n of them
 abbrev pub most-of : Read.Standing → ℕ
 most-of Read.at-open = 0
 most-of (Read.at-beam edition) = 0
 most-of (Read.among edition done most) = most
 most-of (Read.at-surface edition done) = 0
 most-of Read.ended = 0
+
+abbrev pub most-cauchy : Read.Standing → ℕ
+most-cauchy Read.at-open = 0
+most-cauchy (Read.at-beam edition) = 0
+most-cauchy (Read.among edition done most) = cond (eqb edition 2) most 0
+most-cauchy (Read.at-surface edition done) = 0
+most-cauchy Read.ended = 0
 
 abbrev pub fewer : ℕ → Read.Standing → Read.Standing
 fewer n Read.at-open = Read.at-open
@@ -50,24 +57,28 @@ floats-at src at =
       third = ofBits binary64 (float src (at + 5));
     }
 
--- whether the whole of a LAYER stands at a place; and its floats, zero throughout where it does not
-unfoldable pub plain-stands : List ℕ → ℕ → Bool
-plain-stands src at = leb (at + 7) (count src) && eqb (word src at) (kind-word 4 0)
-
-unfoldable pub plain-floats : List ℕ → ℕ → PlainFloats
-plain-floats src at =
-    let f = floats-at src at in
-    cond (plain-stands src at) (record { stands = true; first = f .first; second = f .second; third = f .third })
-    (record { stands = false; first = ofBits binary64 0; second = ofBits binary64 0; third = ofBits binary64 0 })
+-- whether the whole of a block of a kind word stands at a place, so many words in all
+unfoldable pub stands-whole : ℕ → ℕ → List ℕ → ℕ → Bool
+stands-whole w size src at = leb (at + size) (count src) && eqb (word src at) w
 
 abbrev pub or-none : Bool → ℕ → ℕ
 or-none true n = n
 or-none false n = 0
 
 -- how many do, one after the other: `most` at the most
-unfoldable pub plain-run : ℕ → List ℕ → ℕ → ℕ
-plain-run zero src at = 0
-plain-run (suc most) src at = or-none (plain-stands src at) (suc (plain-run most src (at + 7)))
+unfoldable pub run-of : ℕ → ℕ → ℕ → List ℕ → ℕ → ℕ
+run-of w size zero src at = 0
+run-of w size (suc most) src at = or-none (stands-whole w size src at) (suc (run-of w size most src (at + size)))
+
+-- a LAYER; and its floats, zero throughout where none stands
+abbrev pub plain-stands : List ℕ → ℕ → Bool
+plain-stands src at = stands-whole (kind-word 4 0) 7 src at
+
+unfoldable pub plain-floats : List ℕ → ℕ → PlainFloats
+plain-floats src at =
+    let f = floats-at src at in
+    cond (plain-stands src at) (record { stands = true; first = f .first; second = f .second; third = f .third })
+    (record { stands = false; first = ofBits binary64 0; second = ofBits binary64 0; third = ofBits binary64 0 })
 
 -- the place after a block of a kind at a place
 abbrev pub place-after : ℕ → ℕ → ℕ

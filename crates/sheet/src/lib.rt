@@ -7,7 +7,7 @@ ghost use lib.Ieee.{binary64, ofBits};
 ghost use Rattle.sheet.specs.Words.{big-endian, word as wordOf, kind, float};
 ghost use Rattle.sheet.specs.Read as Read;
 ghost use Rattle.sheet.specs.Read.{outcome, grammar};
-ghost use Rattle.sheet.specs.Internal.{floats-at, plain-stands, plain-floats, standing-of, most-of, fewer, plain-run, counted, place-after, next-place, place-on, layer-follows, layer-run, layers-on, onto, begin, place};
+ghost use Rattle.sheet.specs.Internal.{floats-at, stands-whole, plain-floats, standing-of, most-of, most-cauchy, fewer, run-of, counted, place-after, next-place, place-on, layer-follows, layer-run, layers-on, onto, begin, place};
 
 // ---- words
 
@@ -200,20 +200,21 @@ pub fn floats_at(src: &[u8], at: usize) -> Floats
     }
 }
 
-// Whether the whole of a LAYER stands at a place.
-fn plain_stands(src: &[u8], at: usize) -> bool
-    ensures { λ r. ⌜ r ≡ plain-stands (now (src .entry)) at ⌝ }
+// Whether the whole of a block of a kind word stands at a place, so many words in all.
+fn stands_whole(src: &[u8], at: usize, w: u32, size: usize) -> bool
+    requires { ⌜ 1 ≤ size ⌝ }
+    ensures { λ r. ⌜ r ≡ stands-whole w size (now (src .entry)) at ⌝ }
 {
     let total = src.len() / 4;
     if at < total {
-        if total - at >= 7 {
-            return word_from(src, at) == 0x4000_0000;
+        if total - at >= size {
+            return word_from(src, at) == w;
         }
     }
     false
 }
 
-// Whether it does, and its floats; zero throughout where it does not.
+// Whether that of a LAYER does, and its floats; zero throughout where it does not.
 pub struct PlainFloats {
     pub stands: bool,
     pub first: f64,
@@ -224,7 +225,7 @@ pub struct PlainFloats {
 pub fn plain_floats(src: &[u8], at: usize) -> PlainFloats
     ensures { λ r. ⌜ r ≡ plain-floats (now (src .entry)) at ⌝ }
 {
-    if !plain_stands(src, at) {
+    if !stands_whole(src, at, 0x4000_0000, 7) {
         return PlainFloats {
             stands: false,
             first: 0.0,
@@ -393,6 +394,24 @@ fn most_of(s: Standing) -> u32
     }
 }
 
+// How many kinds 6: in edition 2.
+fn most_cauchy(s: Standing) -> u32
+    ensures { λ r. ⌜ r ≡ most-cauchy (standing-of s) ⌝ }
+{
+    match s {
+        Standing::AtOpen => 0,
+        Standing::AtBeam(_) => 0,
+        Standing::Among(edition, _, most) => {
+            if edition == 2 {
+                return most;
+            }
+            0
+        }
+        Standing::AtSurface(_, _) => 0,
+        Standing::Ended => 0,
+    }
+}
+
 // Where one stands after n of them.
 fn fewer(s: Standing, n: u32) -> Standing
     requires { ⌜ n ≤ most-of (standing-of s) ⌝ }
@@ -407,18 +426,18 @@ fn fewer(s: Standing, n: u32) -> Standing
     }
 }
 
-// How many whole LAYERs stand from a place on, so many at the most: most blocks are LAYERs.
-fn plain_run(src: &[u8], at: usize, most: u32) -> u32
-    requires { ⌜ at ≤ length (now src) / 4 ⌝ }
-    ensures { λ r. ⌜ r ≡ plain-run most (now (src .entry)) at ⌝ }
+// How many whole blocks of a kind word and of so many words stand one after the other from a place on, so many at the most.
+fn run_of(src: &[u8], at: usize, w: u32, size: usize, most: u32) -> u32
+    requires { ⌜ (1 ≤ size) × (at ≤ length (now src) / 4) ⌝ }
+    ensures { λ r. ⌜ r ≡ run-of w size most (now (src .entry)) at ⌝ }
 {
     let mut place = at;
     let mut n = 0;
     while n < most {
-        if !plain_stands(src, place) {
+        if !stands_whole(src, place, w, size) {
             return n;
         }
-        place = place + 7;
+        place = place + size;
         n += 1;
     }
     n
@@ -457,9 +476,13 @@ pub fn grammar(src: &[u8]) -> Verdict
         }
         count = counted(w, count);
         let t = after(s, w);
-        let n = plain_run(src, next, most_of(t));
-        s = fewer(t, n);
-        at = next + 7 * n as usize;
+        // Most blocks are layers: LAYERs are passed over together, then kinds 6.
+        let n = run_of(src, next, 0x4000_0000, 7, most_of(t));
+        let u = fewer(t, n);
+        let place = next + 7 * n as usize;
+        let m = run_of(src, place, 0x6000_0000, 9, most_cauchy(u));
+        s = fewer(u, m);
+        at = place + 9 * m as usize;
     }
     if has_ended(s) {
         Verdict::Whole(count)

@@ -12,7 +12,7 @@ use Rattle.sheet.specs.Read.{Standing, may, after, graded, grammar}
 use Rattle.sheet.specs.Internal.{standing-of, counted, place-after, next-place}
 use Rattle.sheet.proofs.Standings.{after-kind}
 use Rattle.sheet.proofs.Scan.{left, tally, whole, stop-kind, stop-raw, nearer, go-on, end-whole, end-missing, Counts, counts-few, counts-on}
-use Rattle.sheet.proofs.Plain.{enough, inside, counts-still, tallies-still}
+use Rattle.sheet.proofs.Whole.{enough, inside, counts-still, tallies-still, layers, cauchies}
 use Rattle.sheet.proofs.grammar.Statement.{statement}
 use Rattle.sheet.proofs.grammar.Tie as tie
 
@@ -46,29 +46,45 @@ counted-requires c κs = few (standing-of (c .before .before .before .before .be
 after-requires : tie.Need-after-requires Inv-loop μ-loop
 after-requires c κs = sym (c .before .before .before .before .may .ensures) ∙ not-false _ (c .before .before .before .if1 .left)
 
-plain-run-requires : tie.Need-plain-run-requires Inv-loop μ-loop
-plain-run-requires c κs = c .before .before .before .if2 .left
+run-of-requires : tie.Need-run-of-requires Inv-loop μ-loop
+run-of-requires c κs = (omega arith, c .before .before .before .if2 .left)
 
 fewer-requires : tie.Need-fewer-requires Inv-loop μ-loop
-fewer-requires c κs = enough _ _ (c .before .before .before .before .if2 .left) (standing-of (c .before .before .after .result)) _ (c .before .most-of .ensures) _ (c .plain-run .ensures)
+fewer-requires c κs = enough _ _ _ layers _ _ (c .before .before .before .before .if2 .left) (standing-of (c .before .before .after .result)) _ (c .before .most-of .ensures) _ (c .run-of .ensures)
+
+mul-place : tie.Need-mul-place Inv-loop μ-loop
+mul-place c = record { fits = omega (arith, inside _ _ _ layers _ _ (c .before .before .before .before .before .if2 .left) (standing-of (c .before .before .before .after .result)) _ (c .before .before .most-of .ensures) _ (c .before .run-of .ensures)) }
+
+add-place : tie.Need-add-place Inv-loop μ-loop
+add-place c = record { fits = omega (arith, inside _ _ _ layers _ _ (c .before .before .before .before .before .if2 .left) (standing-of (c .before .before .before .after .result)) _ (c .before .before .most-of .ensures) _ (c .before .run-of .ensures)) }
+
+run-of-requires-2 : tie.Need-run-of-requires-2 Inv-loop μ-loop
+run-of-requires-2 c κs = (omega arith, inside _ _ _ layers _ _ (c .before .before .before .before .before .before .if2 .left) (standing-of (c .before .before .before .before .after .result)) _ (c .before .before .before .most-of .ensures) _ (c .before .before .run-of .ensures))
+
+fewer-requires-2 : tie.Need-fewer-requires-2 Inv-loop μ-loop
+fewer-requires-2 c κs = enough _ _ _ cauchies _ _ (inside _ _ _ layers _ _ (c .before .before .before .before .before .before .before .if2 .left) (standing-of (c .before .before .before .before .before .after .result)) _ (c .before .before .before .before .most-of .ensures) _ (c .before .before .before .run-of .ensures)) (standing-of (c .before .before .fewer .result)) _ (c .before .most-cauchy .ensures) _ (c .run-of2 .ensures)
 
 mul-at : tie.Need-mul-at Inv-loop μ-loop
-mul-at c = record { fits = omega (arith, inside _ _ (c .before .before .before .before .before .if2 .left) (standing-of (c .before .before .before .after .result)) _ (c .before .before .most-of .ensures) _ (c .before .plain-run .ensures)) }
+mul-at c = record { fits = omega (arith, inside _ _ _ cauchies _ _ (inside _ _ _ layers _ _ (c .before .before .before .before .before .before .before .before .if2 .left) (standing-of (c .before .before .before .before .before .before .after .result)) _ (c .before .before .before .before .before .most-of .ensures) _ (c .before .before .before .before .run-of .ensures)) (standing-of (c .before .before .before .fewer .result)) _ (c .before .before .most-cauchy .ensures) _ (c .before .run-of2 .ensures)) }
 
 add-at : tie.Need-add-at Inv-loop μ-loop
-add-at c = record { fits = omega (arith, inside _ _ (c .before .before .before .before .before .if2 .left) (standing-of (c .before .before .before .after .result)) _ (c .before .before .most-of .ensures) _ (c .before .plain-run .ensures)) }
+add-at c = record { fits = omega (arith, inside _ _ _ cauchies _ _ (inside _ _ _ layers _ _ (c .before .before .before .before .before .before .before .before .if2 .left) (standing-of (c .before .before .before .before .before .before .after .result)) _ (c .before .before .before .before .before .most-of .ensures) _ (c .before .before .before .before .run-of .ensures)) (standing-of (c .before .before .before .fewer .result)) _ (c .before .before .most-cauchy .ensures) _ (c .before .run-of2 .ensures)) }
 
 loop-less : tie.Need-loop-less Inv-loop μ-loop
 loop-less c =
-    let h = nearer _ _ _ _ _ (c .before .before .before .before .before .before .before .before .before .before .before .loop .inv .1 .1) _ (c .before .before .before .before .before .before .before .before .before .before .loop-test .taken) (c .before .before .before .before .before .before .before .before .before .word-from .ensures) _ (c .before .before .before .before .before .before .before .before .may .ensures) (c .before .before .before .before .before .before .before .if1 .left) _ (there _ _ _ (c .before .before .before .before .before .before .before .before .before .before .loop-test .taken) (c .before .before .before .before .before .before .before .before .before .word-from .ensures) _ (c .before .before .before .before .before .before .place-after .ensures)) (c .before .before .before .before .before .if2 .left) in
-    omega (arith, h, c .before .before .before .before .before .if2 .left, c .before .before .before .before .before .before .before .before .before .before .loop-test .taken, inside _ _ (c .before .before .before .before .before .if2 .left) (standing-of (c .before .before .before .after .result)) _ (c .before .before .most-of .ensures) _ (c .before .plain-run .ensures))
+    let h = nearer _ _ _ _ _ (c .before .before .before .before .before .before .before .before .before .before .before .before .before .before .loop .inv .1 .1) _ (c .before .before .before .before .before .before .before .before .before .before .before .before .before .loop-test .taken) (c .before .before .before .before .before .before .before .before .before .before .before .before .word-from .ensures) _ (c .before .before .before .before .before .before .before .before .before .before .before .may .ensures) (c .before .before .before .before .before .before .before .before .before .before .if1 .left) _ (there _ _ _ (c .before .before .before .before .before .before .before .before .before .before .before .before .before .loop-test .taken) (c .before .before .before .before .before .before .before .before .before .before .before .before .word-from .ensures) _ (c .before .before .before .before .before .before .before .before .before .place-after .ensures)) (c .before .before .before .before .before .before .before .before .if2 .left) in
+    omega (arith, h, c .before .before .before .before .before .before .before .before .if2 .left, c .before .before .before .before .before .before .before .before .before .before .before .before .before .loop-test .taken, inside _ _ _ layers _ _ (c .before .before .before .before .before .before .before .before .if2 .left) (standing-of (c .before .before .before .before .before .before .after .result)) _ (c .before .before .before .before .before .most-of .ensures) _ (c .before .before .before .before .run-of .ensures), inside _ _ _ cauchies _ _ (inside _ _ _ layers _ _ (c .before .before .before .before .before .before .before .before .if2 .left) (standing-of (c .before .before .before .before .before .before .after .result)) _ (c .before .before .before .before .before .most-of .ensures) _ (c .before .before .before .before .run-of .ensures)) (standing-of (c .before .before .before .fewer .result)) _ (c .before .before .most-cauchy .ensures) _ (c .before .run-of2 .ensures))
 
 loop-again : tie.Need-loop-again Inv-loop μ-loop
 loop-again c = (
-  inside _ _ (c .before .before .before .before .before .if2 .left) (standing-of (c .before .before .before .after .result)) _ (c .before .before .most-of .ensures) _ (c .before .plain-run .ensures),
+  inside _ _ _ cauchies _ _ (inside _ _ _ layers _ _ (c .before .before .before .before .before .before .before .before .if2 .left) (standing-of (c .before .before .before .before .before .before .after .result)) _ (c .before .before .before .before .before .most-of .ensures) _ (c .before .before .before .before .run-of .ensures)) (standing-of (c .before .before .before .fewer .result)) _ (c .before .before .most-cauchy .ensures) _ (c .before .run-of2 .ensures),
   (
-    counts-still _ _ (c .before .before .before .before .before .if2 .left) (standing-of (c .before .before .before .after .result)) _ (c .before .before .most-of .ensures) _ (c .before .plain-run .ensures) _ (c .fewer .ensures) _ (counts-again (standing-of (c .before .before .before .before .before .before .before .before .before .before .before .loop .s)) _ _ _ _ _ (c .before .before .before .before .before .before .before .before .before .before .before .loop .inv .1 .0) (c .before .before .before .before .before .before .before .before .may .ensures) (c .before .before .before .before .before .before .before .if1 .left) (c .before .before .before .after .ensures) (c .before .before .before .before .counted .ensures)),
-    tallies-still _ _ (c .before .before .before .before .before .if2 .left) (standing-of (c .before .before .before .after .result)) _ (c .before .before .most-of .ensures) _ (c .before .plain-run .ensures) _ (c .fewer .ensures) _ _ (go-on _ _ _ _ _ (c .before .before .before .before .before .before .before .before .before .before .before .loop .inv .1 .1) _ (c .before .before .before .before .before .before .before .before .before .before .loop-test .taken) (c .before .before .before .before .before .before .before .before .before .word-from .ensures) _ (c .before .before .before .before .before .before .before .before .may .ensures) (c .before .before .before .before .before .before .before .if1 .left) _ (there _ _ _ (c .before .before .before .before .before .before .before .before .before .before .loop-test .taken) (c .before .before .before .before .before .before .before .before .before .word-from .ensures) _ (c .before .before .before .before .before .before .place-after .ensures)) (c .before .before .before .before .before .if2 .left) _ (c .before .before .before .after .ensures) _ (c .before .before .before .before .counted .ensures)),
+    counts-still _ _ _ cauchies _ _ (inside _ _ _ layers _ _ (c .before .before .before .before .before .before .before .before .if2 .left) (standing-of (c .before .before .before .before .before .before .after .result)) _ (c .before .before .before .before .before .most-of .ensures) _ (c .before .before .before .before .run-of .ensures)) (standing-of (c .before .before .before .fewer .result)) _ (c .before .before .most-cauchy .ensures) _ (c .before .run-of2 .ensures) _ (c .fewer2 .ensures) _
+        (counts-still _ _ _ layers _ _ (c .before .before .before .before .before .before .before .before .if2 .left) (standing-of (c .before .before .before .before .before .before .after .result)) _ (c .before .before .before .before .before .most-of .ensures) _ (c .before .before .before .before .run-of .ensures) _ (c .before .before .before .fewer .ensures) _
+        (counts-again (standing-of (c .before .before .before .before .before .before .before .before .before .before .before .before .before .before .loop .s)) _ _ _ _ _ (c .before .before .before .before .before .before .before .before .before .before .before .before .before .before .loop .inv .1 .0) (c .before .before .before .before .before .before .before .before .before .before .before .may .ensures) (c .before .before .before .before .before .before .before .before .before .before .if1 .left) (c .before .before .before .before .before .before .after .ensures) (c .before .before .before .before .before .before .before .counted .ensures))),
+    tallies-still _ _ _ cauchies _ _ (inside _ _ _ layers _ _ (c .before .before .before .before .before .before .before .before .if2 .left) (standing-of (c .before .before .before .before .before .before .after .result)) _ (c .before .before .before .before .before .most-of .ensures) _ (c .before .before .before .before .run-of .ensures)) (standing-of (c .before .before .before .fewer .result)) _ (c .before .before .most-cauchy .ensures) _ (c .before .run-of2 .ensures) _ (c .fewer2 .ensures) _ _
+        (tallies-still _ _ _ layers _ _ (c .before .before .before .before .before .before .before .before .if2 .left) (standing-of (c .before .before .before .before .before .before .after .result)) _ (c .before .before .before .before .before .most-of .ensures) _ (c .before .before .before .before .run-of .ensures) _ (c .before .before .before .fewer .ensures) _ _
+        (go-on _ _ _ _ _ (c .before .before .before .before .before .before .before .before .before .before .before .before .before .before .loop .inv .1 .1) _ (c .before .before .before .before .before .before .before .before .before .before .before .before .before .loop-test .taken) (c .before .before .before .before .before .before .before .before .before .before .before .before .word-from .ensures) _ (c .before .before .before .before .before .before .before .before .before .before .before .may .ensures) (c .before .before .before .before .before .before .before .before .before .before .if1 .left) _ (there _ _ _ (c .before .before .before .before .before .before .before .before .before .before .before .before .before .loop-test .taken) (c .before .before .before .before .before .before .before .before .before .before .before .before .word-from .ensures) _ (c .before .before .before .before .before .before .before .before .before .place-after .ensures)) (c .before .before .before .before .before .before .before .before .if2 .left) _ (c .before .before .before .before .before .before .after .ensures) _ (c .before .before .before .before .before .before .before .counted .ensures))),
   ),
 )
 
@@ -79,4 +95,4 @@ returns-4 : tie.Need-returns-4 Inv-loop μ-loop
 returns-4 c = end-missing _ _ _ _ _ (c .before .before .before .loop .inv .1 .1) (c .before .before .loop-test .left) _ (c .before .has-ended .ensures) (c .if3 .left)
 
 pub grammar-spec : {M : Type 1} → statement M
-grammar-spec = tie.close (tie.spec Inv-loop μ-loop (λ c. (omega arith, (refl, whole _))) (λ c κs. search needs) (λ c κs. search needs) returns place-after-requires returns-2 counted-requires after-requires (λ c κs. search needs) plain-run-requires fewer-requires (λ c. search needs) mul-at add-at loop-less loop-again (λ c κs. search needs) returns-3 returns-4)
+grammar-spec = tie.close (tie.spec Inv-loop μ-loop (λ c. (omega arith, (refl, whole _))) (λ c κs. search needs) (λ c κs. search needs) returns place-after-requires returns-2 counted-requires after-requires (λ c κs. search needs) run-of-requires fewer-requires (λ c. search needs) mul-place add-place (λ c κs. search needs) run-of-requires-2 fewer-requires-2 (λ c. search needs) mul-at add-at loop-less loop-again (λ c κs. search needs) returns-3 returns-4)
