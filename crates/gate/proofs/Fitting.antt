@@ -14,7 +14,7 @@ use Rattle.sheet.specs.Sheet.{kind-word}
 use Rattle.sheet.specs.Read.{raws, floats-after}
 use Rattle.sheet.specs.Internal.{plain-stands, next-place, tuning-at}
 use Rattle.sheet.proofs.KindWords.{both}
-use Rattle.sheet.proofs.Whole.{whole}
+use Rattle.sheet.proofs.Plain.{whole}
 use Rattle.sheet_values.specs.Values.{met-with}
 use Rattle.sheet_values.specs.Internal.{plain-at, cauchy-at}
 use Rattle.gate.specs.Internal.{cauchy-admitted, plain-fits, after-plain, cauchy-fits, after-cauchy, after-fitting, passage-at}
@@ -37,10 +37,10 @@ module _ (src : List ℕ) (at : ℕ) (b : Float) (e : plain-fits src at b ≡ tr
   within = both (plain-stands src at) (layer-within b (plain-at src at)) e .1
 
   is-layer : word src at ≡ kind-word 4 0
-  is-layer = whole (kind-word 4 0) 7 src at stands .1
+  is-layer = whole src at stands .1
 
   pub room : at + 7 ≤ count src
-  room = whole (kind-word 4 0) 7 src at stands .0
+  room = whole src at stands .0
 
   next-seven : at + 7 ≡ next-place src at
   unfolding next-place raws floats-after

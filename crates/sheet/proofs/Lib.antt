@@ -11,5 +11,6 @@ pub mod Claim
 pub mod Stands
 pub mod Standings
 pub mod Scan
-pub mod Whole
+mod Whole
+pub mod Plain
 mod Calls

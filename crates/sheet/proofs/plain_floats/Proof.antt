@@ -8,9 +8,8 @@ use lib.Ieee.{Float, binary64, ofBits}
 use borrow.Author.Needs.{needs}
 use borrow.Author.Tests.{not-true, not-false}
 use Rattle.sheet.specs.Words.{count, float}
-use Rattle.sheet.specs.Sheet.{kind-word}
 use Rattle.sheet.specs.Internal.{plain-stands, plain-floats}
-use Rattle.sheet.proofs.Whole.{whole}
+use Rattle.sheet.proofs.Plain.{whole}
 use Rattle.sheet.proofs.plain_floats.Statement.{statement}
 use Rattle.sheet.proofs.plain_floats.Tie as tie
 
@@ -21,7 +20,7 @@ module _ (src : List ℕ) (at : ℕ) (t : Bool) (is : t ≡ plain-stands src at)
 
   module _ (e : not t ≡ false) where
     long : at + 7 ≤ count src
-    long = whole (kind-word 4 0) 7 src at (sym is ∙ not-false t e) .0
+    long = whole src at (sym is ∙ not-false t e) .0
 
     all : (x y z : Float) → x ≡ ofBits binary64 (float src (at + 1)) → y ≡ ofBits binary64 (float src (at + 3)) → z ≡ ofBits binary64 (float src (at + 5))
         → record { stands = true; first = x; second = y; third = z } ≡ plain-floats src at
