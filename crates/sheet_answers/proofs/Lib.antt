@@ -2,3 +2,4 @@
 pub mod After
 mod Walk
 mod Real
+mod Places

@@ -34,15 +34,15 @@ module _ (a b angle w : Float) (layers : List ThinFilmLayer) where
 
 returns : tie.Need-returns
 unfolding layers-of
-returns c e layers = own _ _ _ _ layers _ _ _ _ (c .before .before .before .coating .given .1) refl (c .before .mgf2 .ensures) (c .layers-powers .ensures e)
+returns c e layers = own _ _ _ _ layers _ _ _ _ (c .before .before .coating .given .1) refl refl (c .mgf2 .ensures e)
 
 returns-2 : tie.Need-returns-2
 unfolding layers-of
-returns-2 c e layers = own _ _ _ _ layers _ S.BroadbandAr _ _ (c .before .before .enum-told .given .1) refl (c .before .broadband .ensures) (c .layers-powers2 .ensures e)
+returns-2 c e layers = own _ _ _ _ layers _ S.BroadbandAr _ _ (c .before .enum-told .given .1) refl refl (c .broadband .ensures e)
 
 returns-3 : tie.Need-returns-3
 unfolding layers-of
-returns-3 c e layers = own _ _ _ _ layers _ S.HighReflectanceMirror _ _ (c .before .before .enum-told2 .given .1) refl (c .before .mirror .ensures) (c .layers-powers3 .ensures e)
+returns-3 c e layers = own _ _ _ _ layers _ S.HighReflectanceMirror _ _ (c .before .enum-told2 .given .1) refl refl (c .mirror .ensures e)
 
 returns-4 : tie.Need-returns-4
 returns-4 c e = absurd (false≢true (sym (c .unknown .ensures) ∙ e))
@@ -56,12 +56,9 @@ preset-powers-spec =
     (tie.spec
     (λ c. search needs)
     (λ c κs. search needs)
-    (λ c κs. search needs)
     (λ c. search needs)
     (λ c κs. search needs)
-    (λ c κs. search needs)
     (λ c. search needs)
-    (λ c κs. search needs)
     (λ c κs. search needs)
     (λ c. search needs)
     (λ c κs. search needs)
