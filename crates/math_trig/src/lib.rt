@@ -1,7 +1,7 @@
 // sin and cos as document 01's section 2 gives them, with the first line of document 02, slip 7; each for every f64.
 ghost use mathlib.Core.Path.{_≡_};
 ghost use Rattle.ieee.specs.Functions.{one};
-ghost use Rattle.math_trig.specs.Trig.{wrap, first-line, fold, second-fold, series, sin-div, cos-div, sin-at, sin, cos-at, cos-of, cos, sin-cos};
+ghost use Rattle.math_trig.specs.Trig.{first-line, fold, second-fold, series, sin-div, cos-div, sin-at, sin, cos-at, cos-of, cos, sin-cos};
 ghost use Rattle.math_trig.specs.Internal.{near-line};
 
 const TAU: f64 = 6.283185307179586;
@@ -44,10 +44,11 @@ fn first_line(x: f64) -> f64
     }
 }
 
-// Above π subtract T, below -π add T.
-pub fn wrap(r: f64) -> f64
-    ensures { λ s. ⌜ s ≡ wrap r ⌝ }
+// The first fold, of sin and of cos: to -π..π.
+fn fold(x: f64) -> f64
+    ensures { λ r. ⌜ r ≡ fold x ⌝ }
 {
+    let r = first_line(x);
     if r > PI {
         r - TAU
     } else if r < -PI {
@@ -55,13 +56,6 @@ pub fn wrap(r: f64) -> f64
     } else {
         r
     }
-}
-
-// The first fold, of sin and of cos: to -π..π.
-fn fold(x: f64) -> f64
-    ensures { λ r. ⌜ r ≡ fold x ⌝ }
-{
-    wrap(first_line(x))
 }
 
 // sin's second fold: to -π/2..π/2.
