@@ -260,8 +260,8 @@ fn finish_lines(
     s: &mut [f64; 16],
     p: &mut [f64; 16],
 ) -> bool
-    requires { ⌜ (n ≤ 16) × ((length (now s) ≡ 16) × (length (now p) ≡ 16)) ⌝ }
-    ensures { λ r. ⌜ ((length (now (s .exit)) ≡ 16) × (length (now (p .exit)) ≡ 16)) × (T r → (j : ℕ) → j < n → Told sides reflected (stack-in (stacks (now («a_s» .entry)) (now («b_s» .entry)) (now («c_s» .entry)) (now («d_s» .entry)) (now («a_p» .entry)) (now («b_p» .entry)) (now («c_p» .entry)) (now («d_p» .entry))) j) (line (now (s .exit)) j) (line (now (p .exit)) j)) ⌝ }
+    requires { ⌜ n ≤ 16 ⌝ }
+    ensures { λ r. ⌜ (length (now (s .entry)) ≡ 16 → length (now (p .entry)) ≡ 16 → ((length (now (s .exit)) ≡ 16) × (length (now (p .exit)) ≡ 16)) × (T r → (j : ℕ) → j < n → Told sides reflected (stack-in (stacks (now («a_s» .entry)) (now («b_s» .entry)) (now («c_s» .entry)) (now («d_s» .entry)) (now («a_p» .entry)) (now («b_p» .entry)) (now («c_p» .entry)) (now («d_p» .entry))) j) (line (now (s .exit)) j) (line (now (p .exit)) j))) ⌝ }
 {
     let mut r_s = [1.0; 16];
     let mut t_s = [1.0; 16];
@@ -314,9 +314,14 @@ pub fn powers(
     s: &mut [f64; 16],
     p: &mut [f64; 16],
 ) -> bool
-    requires { ⌜ (many ≤ 16) × (n ≤ 16) × ((length (now s) ≡ 16) × (length (now p) ≡ 16)) ⌝ }
-    ensures { λ r. ⌜ ((length (now (s .exit)) ≡ 16) × (length (now (p .exit)) ≡ 16)) × (T r → (snell : Float) (layers : List ThinFilmLayer) → many ≡ length layers → Media snell layers (now («eta_s» .entry)) (now («eta_p» .entry)) (now («thickness_nm» .entry)) → (j : ℕ) → j < n → Told sides reflected (stacked snell (line (now (nm .entry)) j) no-films (ordered reversed layers)) (line (now (s .exit)) j) (line (now (p .exit)) j)) ⌝ }
+    ensures { λ r. ⌜ (length (now (s .entry)) ≡ 16 → length (now (p .entry)) ≡ 16 → ((length (now (s .exit)) ≡ 16) × (length (now (p .exit)) ≡ 16)) × (T r → (snell : Float) (layers : List ThinFilmLayer) → many ≡ length layers → Media snell layers (now («eta_s» .entry)) (now («eta_p» .entry)) (now («thickness_nm» .entry)) → (j : ℕ) → j < n → Told sides reflected (stacked snell (line (now (nm .entry)) j) no-films (ordered reversed layers)) (line (now (s .exit)) j) (line (now (p .exit)) j))) ⌝ }
 {
+    if many > 16 {
+        return false;
+    }
+    if n > 16 {
+        return false;
+    }
     let mut a_s = [1.0; 16];
     let mut b_s = [0.0; 16];
     let mut c_s = [0.0; 16];

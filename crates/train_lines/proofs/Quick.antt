@@ -6,12 +6,11 @@ use Prim.Native.Nat.{ℕ, _≤_}
 use native.Mathlib.Omega.{arith}
 use lib.ListN.{length}
 use lib.Ieee.{Float, lt}
-use Rattle.refusal.specs.Outcome.{Outcome, answer, map}
+use Rattle.refusal.specs.Outcome.{answer, map}
 use Rattle.sheet.specs.Internal.{next-place}
 use Rattle.gate_limits.specs.declared.Surface.{Surface}
 use Rattle.gate_limits.specs.Coating.{coded, interface}
 use Rattle.thin_film_solver.specs.declared.ThinFilmLayer.{ThinFilmLayer}
-use Rattle.thin_film_solver.specs.declared.CoatingResponse.{CoatingResponse}
 use Rattle.thin_film_solver.specs.declared.Incidence.{Incidence}
 use Rattle.thin_film_solver.specs.Solve as Solve
 use Rattle.thin_film_solver.specs.Internal.{incidence, solved}
@@ -25,7 +24,6 @@ use Rattle.thin_film_coating.proofs.Answers as Answers
 use Rattle.thin_film.specs.declared.SurfaceCoating.the-variants as S
 use Rattle.thin_film.specs.Coating.{layers-of}
 use Rattle.thin_film.specs.Evaluate.{rust-evaluate-surface, evaluate-surface}
-use Rattle.surface.specs.declared.Powers.{Powers}
 use Rattle.surface.specs.Answers.{coated-powers, powers-of, powers}
 use Rattle.surface_real.specs.declared.Known.{Known}
 use Rattle.surface_real.specs.declared.Stack.{Stack}

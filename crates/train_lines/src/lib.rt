@@ -114,7 +114,7 @@ fn quick_lines(
     s: &mut [f64; 16],
     p: &mut [f64; 16],
 ) -> bool
-    requires { ⌜ (T steady → many ≤ 16) × (n ≤ 16) × ((length (now s) ≡ 16) × (length (now p) ≡ 16)) ⌝ }
+    requires { ⌜ (n ≤ 16) × ((length (now s) ≡ 16) × (length (now p) ≡ 16)) ⌝ }
     ensures { λ r. ⌜ ((length (now (s .exit)) ≡ 16) × (length (now (p .exit)) ≡ 16)) × (T r → T steady × ((j : ℕ) → j < n → valid (surface .«n_incident») (surface .«n_substrate») (surface .«angle_rad») (line (now (nm .entry)) j) ≡ true) × ((snell : Float) (layers : List ThinFilmLayer) → many ≡ length layers → Media snell layers (now («eta_s» .entry)) (now («eta_p» .entry)) (now («thickness_nm» .entry)) → (j : ℕ) → j < n → Told sides (surface .reflected) (stacked snell (line (now (nm .entry)) j) no-films (ordered (lt (surface .«n_substrate») (surface .«n_incident»)) layers)) (line (now (s .exit)) j) (line (now (p .exit)) j))) ⌝ }
 {
     if !steady {
@@ -391,9 +391,11 @@ pub fn run_lines(
     s: &mut [f64; 64],
     p: &mut [f64; 64],
 )
-    requires { ⌜ (n ≤ 64) × (length (now nm) ≡ 64) ⌝ }
-    ensures { λ r. ⌜ ((j : ℕ) → j < n → (line (now (s .exit)) j ≡ run-at (now (src .entry)) count (line (now (nm .entry)) j) .s) × (line (now (p .exit)) j ≡ run-at (now (src .entry)) count (line (now (nm .entry)) j) .p)) ⌝ }
+    ensures { λ r. ⌜ (n ≤ 64 → length (now (nm .entry)) ≡ 64 → (j : ℕ) → j < n → (line (now (s .exit)) j ≡ run-at (now (src .entry)) count (line (now (nm .entry)) j) .s) × (line (now (p .exit)) j ≡ run-at (now (src .entry)) count (line (now (nm .entry)) j) .p)) ⌝ }
 {
+    if n > 64 {
+        return;
+    }
     let beam = sheet_values::beam_of(src);
     *s = [beam.s; 64];
     *p = [beam.p; 64];

@@ -1,6 +1,6 @@
 -- `band::all_nm` meets its contract. Assumes nothing.
 use mathlib.Core.Path.{_≡_}
-use Prim.Native.Nat.{ℕ, _-_, _≤_}
+use Prim.Native.Nat.{_-_, _≤_}
 use native.Mathlib.Omega.{arith}
 use Rattle.math_waves.proofs.Written.{written-none, written-more}
 use Rattle.surface_lines.proofs.Places.{all-written}

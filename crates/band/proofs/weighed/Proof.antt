@@ -1,5 +1,5 @@
 -- `band::weighed` meets its contract. Assumes nothing.
-use mathlib.Core.Path.{_≡_, refl, sym, ap, _∙_, subst}
+use mathlib.Core.Path.{_≡_, refl, sym, ap, _∙_}
 use mathlib.Core.List.{List}
 use Prim.Native.Nat.{ℕ, _+_, _-_, _≤_, _<_}
 use native.Mathlib.Omega.{arith}
@@ -79,9 +79,6 @@ module _ (src : List ℕ) (n : ℕ) (ws : List Float) (ns : List ℕ) (s p : Flo
         p = (sym (no-line (λ st. st .p) x ws ns i le p) ∙ a .1) k ⊘ whole (w k);
       })
 
-run-lines-requires : tie.Need-run-lines-requires Inv-loop μ-loop
-run-lines-requires c κs = let s = c .before .before .before .before .before .before .before .before in (few (s .args .wavelengths .now) (s .args .weights .now) (s .pre .0), ap length (c .before .before .before .all-nm .ensures) ∙ length-written _ 64 _ ∙ length-replicate 64 one)
-
 loop-holds : tie.Need-loop-holds Inv-loop μ-loop
 loop-holds c = begun _ _ _ _
 
@@ -104,7 +101,7 @@ loop-again : tie.Need-loop-again Inv-loop μ-loop
 loop-again c =
     let l = c .before .before .before .before in
     let s = l .before .before .before .before .before .before .before .before .before .before in
-    further _ _ _ _ _ _ _ _ (l .loop .inv) (s .pre .0) (l .before .before .before .before .before .before .before .before .before .shared-slice-known .given) _ (c .before .before .before .loop-test .taken) (l .before .before .before .before .before .before .before .before .shared-slice-known2 .given (l .loop .i)) _ (l .before .run-lines .last .1 .1 .1 .1 .0) (l .before .run-lines .last .1 .1 .1 .1 .1 .0) (l .before .before .before .before .before .all-nm .ensures) (l .before .run-lines .ensures) 0
+    further _ _ _ _ _ _ _ _ (l .loop .inv) (s .pre .0) (l .before .before .before .before .before .before .before .before .before .shared-slice-known .given) _ (c .before .before .before .loop-test .taken) (l .before .before .before .before .before .before .before .before .shared-slice-known2 .given (l .loop .i)) _ (l .before .run-lines .last .1 .1 .1 .1 .0) (l .before .run-lines .last .1 .1 .1 .1 .1 .0) (l .before .before .before .before .before .all-nm .ensures) (l .before .run-lines .ensures (few (s .args .wavelengths .now) (s .args .weights .now) (s .pre .0)) (ap length (l .before .before .before .before .before .all-nm .ensures) ∙ length-written _ 64 _ ∙ length-replicate 64 one)) 0
 
 cast-t30 : tie.Need-cast-t30 Inv-loop μ-loop
 cast-t30 c = record { fits = omega (arith, few (c .before .before .before .before .before .before .before .before .before .before .before .args .wavelengths .now) (c .before .before .before .before .before .before .before .before .before .before .before .args .weights .now) (c .before .before .before .before .before .before .before .before .before .before .before .pre .0)) }
@@ -119,7 +116,7 @@ weighed-spec =
     Inv-loop
     μ-loop
     (λ c κs. search needs)
-    run-lines-requires
+    (λ c κs. search needs)
     loop-holds
     mul-weight
     shared-slice-read-weight

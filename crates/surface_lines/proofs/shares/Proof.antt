@@ -1,11 +1,10 @@
 -- `surface_lines::shares` meets its contract. Assumes nothing.
 use mathlib.Core.Path.{_≡_, refl, sym, ap, _∙_}
 use mathlib.Core.Bool.{Bool, true, false, cond}
-use lib.Ieee.{Float, nan, inf, fin, neg, lt, add, sub, mul, div, ofBits}
+use lib.Ieee.{Float, nan, inf, fin, neg, lt, add, mul, div, ofBits}
 use borrow.Author.Needs.{needs}
 use Rattle.ieee.specs.Operators.{_⊕_, _⊖_, _⊗_, _⊘_}
 use Rattle.ieee.specs.Functions.{two, tiny}
-use Rattle.surface_real.specs.declared.Product.{Product}
 use Rattle.surface_real.specs.declared.Shares.{Shares}
 use Rattle.surface_real.specs.Internal.{no-number, power-of, power}
 use Rattle.surface_lines.specs.Internal.{divisor}

@@ -20,7 +20,7 @@ at-place : (f : ℕ → Float) (l l₀ : List Float) (n j : ℕ) → l ≡ writt
 at-place f l l₀ n j e long few h = ap (λ (z : List Float). line z j) e ∙ nth-written f n l₀ j nan h (omega (arith, long, few))
 
 quick-lines-requires : tie.Need-quick-lines-requires
-quick-lines-requires c κs = let s = c .before .before .before in (λ t. s .pre .2 t .few, s .pre .0, s .pre .1)
+quick-lines-requires c κs = let s = c .before .before .before in (s .pre .0, s .pre .1)
 
 returns : tie.Need-returns
 returns c = λ j l.

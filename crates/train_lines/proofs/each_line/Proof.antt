@@ -1,6 +1,6 @@
 -- `train_lines::each_line` meets its contract. Assumes nothing.
 use mathlib.Core.Path.{_≡_, ap}
-use Prim.Native.Nat.{ℕ, _-_, _≤_}
+use Prim.Native.Nat.{_-_, _≤_}
 use native.Mathlib.Omega.{arith}
 use Rattle.math_waves.specs.Waves.{written}
 use Rattle.math_waves.proofs.Written.{written-none, written-more}
