@@ -414,7 +414,7 @@ fn judge(
 fn plain_fits(src: &[u8], at: usize, snell: f64) -> bool
     ensures { λ r. ⌜ r ≡ plain-fits (now (src .entry)) at snell ⌝ }
 {
-    let floats = sheet::plain_floats(src, at);
+    let floats = sheet::plain_floats_again(src, at);
     if !floats.stands {
         return false;
     }

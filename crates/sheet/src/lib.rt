@@ -241,6 +241,27 @@ pub fn plain_floats(src: &[u8], at: usize) -> PlainFloats
     }
 }
 
+// The same for a second caller: a compiler puts a function of this size in line where it has one caller alone, and LAYERs are
+// read more often than anything else.
+pub fn plain_floats_again(src: &[u8], at: usize) -> PlainFloats
+    ensures { λ r. ⌜ r ≡ plain-floats (now (src .entry)) at ⌝ }
+{
+    if !stands_whole(src, at, 0x4000_0000, 7) {
+        return PlainFloats {
+            stands: false,
+            first: 0.0,
+            second: 0.0,
+            third: 0.0,
+        };
+    }
+    PlainFloats {
+        stands: true,
+        first: float_in(src, at + 1),
+        second: float_in(src, at + 3),
+        third: float_in(src, at + 5),
+    }
+}
+
 // ---- grammar
 
 // Where one stands between two blocks: before OPEN, before BEAM (the edition), among the blocks after it

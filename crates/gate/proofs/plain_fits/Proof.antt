@@ -37,10 +37,10 @@ module _ (src : List ℕ) (at : ℕ) (b : Float) (f : PlainFloats) (is : f ≡ p
   judged e t q = q ∙ ap (layer-within b) (one e) ∙ rw (sym stands ∙ not-false (f .stands) e) refl
 
 returns : tie.Need-returns
-returns c = none _ _ _ _ (c .before .before .plain-floats .ensures) (c .if1 .taken)
+returns c = none _ _ _ _ (c .before .before .plain-floats-again .ensures) (c .if1 .taken)
 
 returns-2 : tie.Need-returns-2
-returns-2 c = judged _ _ _ _ (c .before .before .before .plain-floats .ensures) (c .before .if1 .left) _ (c .layer-within .ensures)
+returns-2 c = judged _ _ _ _ (c .before .before .before .plain-floats-again .ensures) (c .before .if1 .left) _ (c .layer-within .ensures)
 
 pub plain-fits-spec : {M : Type 1} → statement M
 plain-fits-spec = tie.close (tie.spec (λ c κs. search needs) returns (λ c κs. search needs) returns-2)

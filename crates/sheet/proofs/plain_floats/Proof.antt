@@ -1,31 +1,9 @@
 -- `sheet::plain_floats` meets its contract. Assumes nothing.
-use mathlib.Core.Path.{_≡_, refl, sym, _∙_}
-use mathlib.Core.Bool.{Bool, true, false, not}
-use mathlib.Core.List.{List}
-use Prim.Native.Nat.{ℕ, _+_, _≤_}
 use native.Mathlib.Omega.{arith}
-use lib.Ieee.{Float, binary64, ofBits}
 use borrow.Author.Needs.{needs}
-use borrow.Author.Tests.{not-true, not-false}
-use Rattle.sheet.specs.Words.{count, float}
-use Rattle.sheet.specs.Internal.{plain-stands, plain-floats}
-use Rattle.sheet.proofs.Plain.{whole}
+use Rattle.sheet.proofs.Plain.{none, long, all}
 use Rattle.sheet.proofs.plain_floats.Statement.{statement}
 use Rattle.sheet.proofs.plain_floats.Tie as tie
-
-module _ (src : List ℕ) (at : ℕ) (t : Bool) (is : t ≡ plain-stands src at) where
-  none : not t ≡ true → record { stands = false; first = ofBits binary64 0; second = ofBits binary64 0; third = ofBits binary64 0 } ≡ plain-floats src at
-  unfolding plain-floats
-  none e = rw (sym is ∙ not-true t e) refl
-
-  module _ (e : not t ≡ false) where
-    long : at + 7 ≤ count src
-    long = whole src at (sym is ∙ not-false t e) .0
-
-    all : (x y z : Float) → x ≡ ofBits binary64 (float src (at + 1)) → y ≡ ofBits binary64 (float src (at + 3)) → z ≡ ofBits binary64 (float src (at + 5))
-        → record { stands = true; first = x; second = y; third = z } ≡ plain-floats src at
-    unfolding plain-floats
-    all x y z p q r = rw (sym is ∙ not-false t e, p, q, r) refl
 
 returns : tie.Need-returns
 returns c = none _ _ _ (c .before .stands-whole .ensures) (c .if1 .taken)
