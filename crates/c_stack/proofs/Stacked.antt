@@ -1,26 +1,30 @@
--- What is handed over for a stack, taken apart; and what its numbers leave in a list. Assumes nothing.
-use mathlib.Core.Path.{_≡_, refl, sym, ap, _∙_}
-use mathlib.Core.List.{List, [], _∷_, _++_, map}
-use Prim.Native.Nat.{ℕ, _+_, _*_, _-_, _^_, _≤_, _<_}
+-- The films of a stack as layers, and what the layers' numbers leave in a list. Assumes nothing.
+use mathlib.Core.Path.{_≡_, sym, ap, _∙_, subst}
+use mathlib.Core.List.{List, _++_, map, map-append}
+use Prim.Native.Nat.{ℕ, _+_, _*_, _-_, _≤_, _<_}
 use native.Mathlib.Omega.{arith}
-use lib.Dec.{lit<}
-use lib.ListN.{length, take, drop, replicate, length-append, length-map}
+use lib.ListN.{length, getD, set, take, drop, replicate, length-map}
 use lib.Seq.{take-at, length-take-le}
 use lib.Ieee.{Float}
 use borrow.Author.Tests.{le-leb, lt-leb}
-use Rattle.refusal.specs.Outcome.{Outcome, answer, refusal, refused}
+use Rattle.refusal.specs.Outcome as Outcome
+use Rattle.refusal.specs.Outcome.{Outcome, answer, refusal}
 use Rattle.thin_film_grammar.specs.declared.Film.{Film}
-use Rattle.thin_film_grammar.specs.Claim.{Gives, too-long, wrong, early, many, read}
+use Rattle.thin_film_grammar.specs.Claim.{too-long, wrong, early, many, read}
+use Rattle.thin_film_reader.specs.declared.Reading.{Reading}
+use Rattle.thin_film_reader.specs.Read.{handed}
+use Rattle.thin_film_reader.specs.InternalFilms.{no-film}
 use Rattle.thin_film_solver.specs.declared.ThinFilmLayer.{ThinFilmLayer}
 use Rattle.thin_film_layers.specs.Evaluation.{no-layer}
-use Rattle.thin_film_shorthand.specs.declared.Stacked.{Stacked}
-use Rattle.thin_film_shorthand.specs.Stack.{stack, handed}
+use Rattle.thin_film_shorthand.specs.Stack.{stack}
 use Rattle.thin_film_shorthand.specs.Claim.{Right, bad-number, given}
+use Rattle.thin_film_shorthand.proofs.Made.{getD-map}
+use Rattle.thin_film_shorthand.proofs.Given.{Fine}
 use Rattle.thin_film_shorthand.proofs.Claim.{shorthand}
 use Rattle.c_call.specs.Call.{done, packed, written}
 use Rattle.c_call.proofs.Returned.{Sound}
 use Rattle.c_stack.specs.Stack.{flat, stacked}
-use Rattle.c_stack.proofs.Flat.{flat-length}
+use Rattle.c_stack.proofs.Flat.{Half, further, flat-length}
 
 -- ---- what a text gives: at most 64 layers, or a refusal whose number is not 0 and whose place is at most 255
 abbrev pub Few : Outcome (List ThinFilmLayer) → Type 0
@@ -43,19 +47,23 @@ pub few-sound : (o : Outcome (List ThinFilmLayer)) → Few o → Sound o
 few-sound (answer layers) h = tt
 few-sound (refusal number place) h = (h .0, omega (arith, h .1))
 
--- ---- what is handed over
-pub turned-back : (o : Outcome (List ThinFilmLayer)) (r : Stacked) → r ≡ handed o → (r .refusal .number ≡ 0 → ⊥) → refused (r .refusal) ≡ o
-turned-back (answer layers) r e h = absurd (h (ap (λ (z : Stacked). z .refusal .number) e))
-turned-back (refusal number place) r e h = ap (λ (z : Stacked). refused (z .refusal)) e
+-- ---- the films that are handed over
+module _ (f : Film → ThinFilmLayer) where
+  pub taken : (o : Outcome (List Film)) (r : Reading) → Fine o → r ≡ handed o → r .refusal .number ≡ 0 → answer (take (r .count) (map f (r .films))) ≡ Outcome.map (map f) o
+  taken (answer l) r fine e z =
+      ap (λ (x : Reading). answer (take (x .count) (map f (x .films)))) e
+      ∙ ap (λ (t : List ThinFilmLayer). answer (take (length l) t)) (map-append f l (replicate (64 - length l) no-film))
+      ∙ ap answer (take-at (map f l) (map f (replicate (64 - length l) no-film)) (length l) (length-map l f))
+  taken (refusal number place) r fine e z = absurd (fine (sym (ap (λ (x : Reading). x .refusal .number) e) ∙ z))
 
-pub taken : (o : Outcome (List ThinFilmLayer)) (r : Stacked) → Few o → r ≡ handed o → r .refusal .number ≡ 0 → answer (take (r .layers .count) (r .layers .items)) ≡ o
-taken (answer layers) r few e z =
-    ap (λ (x : Stacked). answer (take (x .layers .count) (x .layers .items))) e ∙ ap answer (take-at layers (replicate (64 - length layers) no-layer) (length layers) refl)
-taken (refusal number place) r few e z = absurd (omega (arith, few .0, sym (ap (λ (x : Stacked). x .refusal .number) e) ∙ z))
-
-pub held : (o : Outcome (List ThinFilmLayer)) (r : Stacked) → Few o → r ≡ handed o → (r .layers .count ≤ 64) × (r .layers .count ≤ length (r .layers .items))
-held (answer layers) r few e = rw e (few, (let k = length-append layers (replicate (64 - length layers) no-layer) in omega (arith, k)))
-held (refusal number place) r few e = rw e (omega arith, omega arith)
+  -- a turn of the loop
+  pub turn : (films : List Film) (count : ℕ) (before list : List Float) (i : ℕ) (a : Film) (y : ThinFilmLayer) → count ≤ length films → 3 * count ≤ length before → i < count → Half (map f films) count before list i
+      → y ≡ f (getD films i a)
+      → Half (map f films) count before (set (set (set list (3 * i) (y .n)) (3 * i + 1) (y .k)) (3 * i + 2) (y .«thickness_nm»)) (i + 1)
+  turn films count before list i a y few room l h e =
+      subst (λ (z : ThinFilmLayer). Half (map f films) count before (set (set (set list (3 * i) (z .n)) (3 * i + 1) (z .k)) (3 * i + 2) (z .«thickness_nm»)) (i + 1))
+      (getD-map f films i a no-layer (omega arith) ∙ sym e)
+      (further (map f films) count before list i no-layer (rw length-map few) room l h)
 
 -- ---- the numbers
 module _ (items : List ThinFilmLayer) (count : ℕ) (there : count ≤ length items) (list : List Float) where

@@ -45,9 +45,9 @@ module _ (f : Film → ThinFilmLayer) where
   abbrev as-layers : Outcome (List Film) → Outcome (List ThinFilmLayer)
   as-layers = Outcome.map (map f)
 
-  pub turned-back : (o : Outcome (List Film)) (r : Reading) → r ≡ Reader.handed o → (r .refusal .number ≡ 0 → ⊥) → handed (refused (r .refusal)) ≡ handed (as-layers o)
+  pub turned-back : (o : Outcome (List Film)) (r : Reading) → r ≡ Reader.handed o → (r .refusal .number ≡ 0 → ⊥) → refused (r .refusal) ≡ as-layers o
   turned-back (answer l) r e h = absurd (h (ap (λ (x : Reading). x .refusal .number) e))
-  turned-back (refusal number place) r e h = ap (λ (x : Reading). handed (refused (x .refusal))) e
+  turned-back (refusal number place) r e h = ap (λ (x : Reading). refused (x .refusal)) e
 
   pub taken-over : (o : Outcome (List Film)) (r : Reading) → Fine o → r ≡ Reader.handed o → r .refusal .number ≡ 0
       → _≡_ {A = Stacked} (record { refusal = r .refusal; layers = layers-in (map f (take (r .count) (r .films))) }) (handed (as-layers o))

@@ -19,7 +19,7 @@ pub struct Stacked {
 }
 
 // The indices and the design wavelength are positive and finite.
-fn valid(n_h: f64, n_l: f64, n_m: f64, design_wavelength_nm: f64) -> bool
+pub fn valid(n_h: f64, n_l: f64, n_m: f64, design_wavelength_nm: f64) -> bool
     ensures { λ r. ⌜ r ≡ valid «n_h» «n_l» «n_m» «design_wavelength_nm» ⌝ }
 {
     if !ieee::finite_positive(n_h) {
@@ -48,7 +48,7 @@ fn index(letter: u8, n_h: f64, n_l: f64, n_m: f64) -> f64
 }
 
 // A quarter wave of a film's index, times its multiplier where one is written.
-fn layer(film: Film, n_h: f64, n_l: f64, n_m: f64, design_wavelength_nm: f64) -> ThinFilmLayer
+pub fn layer(film: Film, n_h: f64, n_l: f64, n_m: f64, design_wavelength_nm: f64) -> ThinFilmLayer
     ensures { λ r. ⌜ r ≡ layer «n_h» «n_l» «n_m» «design_wavelength_nm» film ⌝ }
 {
     let n = index(film.letter, n_h, n_l, n_m);

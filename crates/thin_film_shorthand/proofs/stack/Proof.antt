@@ -26,7 +26,7 @@ refused-requires-2 : tie.Need-refused-requires-2
 refused-requires-2 c κs = search needs
 
 returns-2 : tie.Need-returns-2
-returns-2 c = c .refused2 .ensures ∙ Given.turned-back (layer (c .before .before .before .before .before .before .before .before .args .n-h) (c .before .before .before .before .before .before .before .before .args .n-l) (c .before .before .before .before .before .before .before .before .args .n-m) (c .before .before .before .before .before .before .before .before .args .design-wavelength-nm)) (reading (c .before .before .before .before .before .before .before .before .args .text .now)) (c .before .before .before .before .read .result) (c .before .before .before .before .read .ensures) (c .before .if2 .taken) ∙ ap handed (Given.good _ _ _ _ _ (sym (c .before .before .before .before .before .before .valid .ensures) ∙ not-false _ (c .before .before .before .before .before .if1 .left)))
+returns-2 c = c .refused2 .ensures ∙ ap handed (Given.turned-back (layer (c .before .before .before .before .before .before .before .before .args .n-h) (c .before .before .before .before .before .before .before .before .args .n-l) (c .before .before .before .before .before .before .before .before .args .n-m) (c .before .before .before .before .before .before .before .before .args .design-wavelength-nm)) (reading (c .before .before .before .before .before .before .before .before .args .text .now)) (c .before .before .before .before .read .result) (c .before .before .before .before .read .ensures) (c .before .if2 .taken) ∙ Given.good _ _ _ _ _ (sym (c .before .before .before .before .before .before .valid .ensures) ∙ not-false _ (c .before .before .before .before .before .if1 .left)))
 
 layers-requires : tie.Need-layers-requires
 layers-requires c κs = Given.few (reading (c .before .before .before .before .before .before .before .before .args .text .now)) _ (Given.all-fine (c .before .before .before .before .before .before .before .before .args .text .now)) (c .before .before .before .before .read .ensures)
