@@ -65,20 +65,23 @@ fn coating_of(code: u32) -> Interface
     gate_limits::coded(code, 550.0)
 }
 
-// A name at the front of an output that has room for it.
+// A name of at most 16 bytes at the front of an output that has room for it.
 fn copy(name: &[u8], output: &mut [u8])
-    requires { ⌜ length (now name) ≤ length (now output) ⌝ }
+    requires { ⌜ (length (now name) ≤ 16) × (length (now name) ≤ length (now output)) ⌝ }
     ensures { λ r. ⌜ now (output .exit) ≡ now (name .entry) ++ drop (length (now (name .entry))) (now (output .entry)) ⌝ }
 {
     let mut i = 0;
-    while i < name.len() {
-        output[i] = name[i];
+    while i < 16 {
+        if i < name.len() {
+            output[i] = name[i];
+        }
         i += 1;
     }
 }
 
 // The same, and its length; 8 for an output that is too short.
 fn put(name: &[u8], output: &mut [u8]) -> u64
+    requires { ⌜ length (now name) ≤ 16 ⌝ }
     ensures { λ r. ⌜ left r (now (output .exit)) ≡ laid (now (name .entry)) (now (output .entry)) ⌝ }
 {
     if output.len() < name.len() {

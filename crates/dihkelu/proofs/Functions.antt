@@ -61,7 +61,7 @@ coating-name-tells (refusal number place) h output = tells-fine (refusal number 
 coating-name-tells (answer name) h output = go (leb (length name) (length output))
   where
     go : (b : Bool) → Tells (cond b (answer (length name)) (refusal 8 0)) (cond b (left (length name) (name ++ drop (length name) output)) (left (packed 8 0) output) .returned)
-    go true = tells-fine (answer (length name)) h
+    go true = tells-fine (answer (length name)) (omega (arith, h))
     go false = tells-fine (refusal 8 0) (lit< tt, lit< tt)
 
 coating-name-fine : (i : Interface) → Fine Short (name-of i)

@@ -10,6 +10,7 @@ use Rattle.thin_film.specs.declared.Text.{Text}
 use Rattle.thin_film.specs.Coating.{text}
 use Rattle.name_coating.specs.Name.{format-name}
 use Rattle.c_names.specs.Names.{laid}
+use Rattle.c_names.proofs.Short.{Short, short}
 use Rattle.c_names.proofs.put_name.Statement.{statement}
 use Rattle.c_names.proofs.put_name.Tie as tie
 
@@ -21,6 +22,9 @@ module _ (name : List ℕ) (t : Text) (is : t ≡ text name) where
   fits : t .len ≤ length (t .bytes)
   fits = simp is (simp length-append (omega arith))
 
+  few : Short name → length (take (t .len) (t .bytes)) ≤ 16
+  few h = rw name-is h
+
   size : t .len ≡ length (take (t .len) (t .bytes))
   size = sym (length-take-le (t .len) (t .bytes) fits)
 
@@ -30,6 +34,9 @@ array-share-prefix-bytes c = fits (format-name (c .before .before .before .args 
 slice-aggregate-put : tie.Need-slice-aggregate-put
 slice-aggregate-put c = size (format-name (c .before .before .before .before .args .coating)) _ (c .before .before .to-format-name .ensures)
 
+put-requires : tie.Need-put-requires
+put-requires c κs = few (format-name (c .before .before .before .before .before .args .coating)) _ (c .before .before .before .to-format-name .ensures) (short (c .before .before .before .before .before .args .coating))
+
 returns : tie.Need-returns
 returns c =
     c .before .before .put .ensures
@@ -37,4 +44,4 @@ returns c =
     (name-is (format-name (c .before .before .before .before .before .before .before .before .args .coating)) _ (c .before .before .before .before .before .before .to-format-name .ensures))
 
 pub put-name-spec : {M : Type 1} → statement M
-put-name-spec = tie.close (tie.spec (λ c κs. search needs) array-share-prefix-bytes slice-aggregate-put (λ c κs. search needs) (λ c. search needs) returns)
+put-name-spec = tie.close (tie.spec (λ c κs. search needs) array-share-prefix-bytes slice-aggregate-put put-requires (λ c. search needs) returns)
