@@ -1,5 +1,4 @@
--- Lists that a loop fills or writes place by place; cos beside sin's second fold; and angles below 2^20 in size.
-pub mod Filled
+-- Lists that a loop writes place by place; cos beside sin's second fold; and angles below 2^20 in size.
 pub mod Written
 mod Cosines
 mod Sizes

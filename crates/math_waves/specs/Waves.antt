@@ -1,18 +1,8 @@
 -- The sines and cosines of up to 16 angles in places. Definitions only.
 use Prim.Native.Nat.{ℕ, zero, suc, _-_}
-use mathlib.Core.List.{List, [], _∷_, _++_}
-use lib.ListN.{getD, set, replicate}
+use mathlib.Core.List.{List}
+use lib.ListN.{getD, set}
 use lib.Ieee.{Float, nan}
-use Rattle.ieee.specs.Functions.{zero-f}
-
--- f 0, f 1, .. up to f (n - 1)
-unfoldable pub firsts : (ℕ → Float) → ℕ → List Float
-firsts f zero = []
-firsts f (suc n) = firsts f n ++ (f n ∷ [])
-
--- the same in the first of 16 places, and +0 in the others
-abbrev pub filled : (ℕ → Float) → ℕ → List Float
-filled f n = firsts f n ++ replicate (16 - n) zero-f
 
 -- f 0, f 1, .. stored in the first n places of a list; the others stay
 unfoldable pub written : (ℕ → Float) → ℕ → List Float → List Float
