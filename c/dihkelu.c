@@ -133,6 +133,12 @@ typedef struct {
     uint64_t count;
 } thin_film_reader_Reading;
 
+// Both series of one square.
+typedef struct {
+    double sin;
+    double cos;
+} math_trig_Series;
+
 // The sine and the cosine of one angle.
 typedef struct {
     double sin;
@@ -142,12 +148,6 @@ typedef struct {
 typedef struct {
     double at[16];
 } f64_x16;
-
-// The sines and the cosines of angles, place by place.
-typedef struct {
-    f64_x16 sin;
-    f64_x16 cos;
-} math_waves_Waves;
 
 // The sheet's bytes together with the word that is reached (01: a reader).
 typedef struct {
@@ -162,6 +162,14 @@ typedef struct {
     double third;
     double second;
 } sheet_Floats;
+
+// Whether that of a LAYER does, and its floats; zero throughout where it does not.
+typedef struct {
+    bool stands;
+    double first;
+    double third;
+    double second;
+} sheet_PlainFloats;
 
 // Where one stands between two blocks: before OPEN, before BEAM (the edition), among the blocks after it
 // (the edition, SURFACEs so far, layers that may come), after a kind 7 (the edition, SURFACEs so far), after END.
@@ -430,13 +438,6 @@ typedef struct {
     } as;
 } thin_film_SurfaceCoating;
 
-// The layers of a text, from the incident medium to the substrate. Where the refusal's number is not 0
-// there are none.
-typedef struct {
-    refusal_Refusal refusal;
-    thin_film_coating_Layers layers;
-} thin_film_shorthand_Stacked;
-
 typedef struct {
     uint8_t at[32];
 } u8_x32;
@@ -567,33 +568,6 @@ typedef struct {
     surface_Answers answers;
 } surface_AnswersReply;
 
-// The admittances of a film that does not absorb, and its phase thickness.
-typedef struct {
-    double eta_s;
-    double eta_p;
-    double delta;
-} surface_real_Medium;
-
-typedef struct {
-    thin_film_solver_ThinFilmLayer at[16];
-} thin_film_solver_ThinFilmLayer_x16;
-
-// The admittances and phase thicknesses of films, place by place.
-typedef struct {
-    f64_x16 eta_s;
-    f64_x16 eta_p;
-    f64_x16 delta;
-} surface_real_films_Media;
-
-// A film's matrices for s and for p.
-typedef struct {
-    double cos;
-    double y_s;
-    double z_s;
-    double y_p;
-    double z_p;
-} surface_real_Film;
-
 // [[a, i b], [i c, d]]
 typedef struct {
     double a;
@@ -608,11 +582,21 @@ typedef struct {
     surface_real_Product p;
 } surface_real_Stack;
 
-// A layer and its film.
+// A film's matrices for s and for p.
 typedef struct {
-    thin_film_solver_ThinFilmLayer layer;
-    surface_real_Film film;
-} surface_real_Met;
+    double cos;
+    double y_s;
+    double z_s;
+    double y_p;
+    double z_p;
+} surface_real_Film;
+
+// The admittances of a film that does not absorb, and its phase thickness.
+typedef struct {
+    double eta_s;
+    double eta_p;
+    double delta;
+} surface_real_Medium;
 
 // What is reflected and what is transmitted, before they are clamped.
 typedef struct {
@@ -626,19 +610,13 @@ typedef struct {
     surface_Powers powers;
 } surface_real_Known;
 
-// [[a, i b], [i c, d]] at each place.
+// The admittances of the media on both sides of the films, for s and for p.
 typedef struct {
-    f64_x16 a;
-    f64_x16 b;
-    f64_x16 c;
-    f64_x16 d;
-} surface_lines_Products;
-
-// The products for s and for p.
-typedef struct {
-    surface_lines_Products s;
-    surface_lines_Products p;
-} surface_lines_Stacks;
+    double eta0_s;
+    double eta_s;
+    double eta0_p;
+    double eta_p;
+} surface_lines_Sides;
 
 // What is reflected and what is transmitted: the amplitudes, and their shares before they are clamped.
 typedef struct {
@@ -707,6 +685,12 @@ typedef struct {
     double at[4];
 } f64_x4;
 
+// A layer, and the place after it.
+typedef struct {
+    thin_film_solver_ThinFilmLayer layer;
+    uint64_t next;
+} sheet_answers_quick_Reached;
+
 // A surface's powers alone, or a refusal.
 typedef struct {
     enum {
@@ -732,12 +716,22 @@ typedef struct {
 } gate_Gated;
 
 typedef struct {
-    uint64_t at[64];
-} u64_x64;
+    uint16_t at[64];
+} u16_x64;
 
 typedef struct {
     double at[64];
 } f64_x64;
+
+// The place of a SURFACE and its angle; the place 1, where no SURFACE stands, for one that is left to be worked out alone.
+typedef struct {
+    uint16_t place;
+    double angle_rad;
+} gate_Note;
+
+typedef struct {
+    uint16_t at[16];
+} u16_x16;
 
 // Whether a block is within the limits, and what the layers after it are judged with: n_incident * abs(sin) of their
 // SURFACE, and its place.
@@ -790,19 +784,6 @@ typedef struct {
         refusal_Refusal Refused;
     } as;
 } train_steps_TrainReply;
-
-// s and p at each line.
-typedef struct {
-    f64_x16 s;
-    f64_x16 p;
-} train_lines_Lines;
-
-// The wavelength that is held, s and p at each line.
-typedef struct {
-    f64_x16 nm;
-    f64_x16 s;
-    f64_x16 p;
-} train_lines_Course;
 
 typedef struct {
     const uint32_t *at;
@@ -1628,6 +1609,12 @@ static double math_exp_exp(double x) {
 //
 // sin and cos as document 01's section 2 gives them, with the first line of document 02, slip 7; each for every f64.
 
+// The first line where x is at most 2^20 in size: there it has no branch, as k is +0 up to π.
+static double math_trig_near_line(double x) {
+    double k = x / 6.283185307179586 + 6755399441055744.0 - 6755399441055744.0;
+    return x - k * 6.283185243606567 - k * 6.357301884918343e-08 - k * 2.4492935982947064e-16;
+}
+
 // The first line of sin and of cos: x less whole turns. Up to π there is none, and zeros are taken off.
 static double math_trig_first_line(double x) {
     double size = ieee_abs(x);
@@ -1635,8 +1622,7 @@ static double math_trig_first_line(double x) {
         return x - 0.0;
     }
     if (size <= 1048576.0) {
-        double k = x / 6.283185307179586 + 6755399441055744.0 - 6755399441055744.0;
-        return x - k * 6.283185243606567 - k * 6.357301884918343e-08 - k * 2.4492935982947064e-16;
+        return math_trig_near_line(x);
     }
     return ieee_rem_rem(x, 6.283185307179586);
 }
@@ -1693,6 +1679,34 @@ static double math_trig_cos_series(double z) {
     return 1.0 - p_11 * z / 2.0;
 }
 
+// Their steps stand beside each other, so that a processor has both under way.
+static math_trig_Series math_trig_both_series(double z) {
+    double c = 1.0;
+    double c_2 = 1.0 - c * z / 462.0;
+    double s = 1.0;
+    double s_2 = 1.0 - s * z / 420.0;
+    double c_3 = 1.0 - c_2 * z / 380.0;
+    double s_3 = 1.0 - s_2 * z / 342.0;
+    double c_4 = 1.0 - c_3 * z / 306.0;
+    double s_4 = 1.0 - s_3 * z / 272.0;
+    double c_5 = 1.0 - c_4 * z / 240.0;
+    double s_5 = 1.0 - s_4 * z / 210.0;
+    double c_6 = 1.0 - c_5 * z / 182.0;
+    double s_6 = 1.0 - s_5 * z / 156.0;
+    double c_7 = 1.0 - c_6 * z / 132.0;
+    double s_7 = 1.0 - s_6 * z / 110.0;
+    double c_8 = 1.0 - c_7 * z / 90.0;
+    double s_8 = 1.0 - s_7 * z / 72.0;
+    double c_9 = 1.0 - c_8 * z / 56.0;
+    double s_9 = 1.0 - s_8 * z / 42.0;
+    double c_10 = 1.0 - c_9 * z / 30.0;
+    double s_10 = 1.0 - s_9 * z / 20.0;
+    double c_11 = 1.0 - c_10 * z / 12.0;
+    double s_11 = 1.0 - s_10 * z / 6.0;
+    double c_12 = 1.0 - c_11 * z / 2.0;
+    return (math_trig_Series){.sin = s_11, .cos = c_12};
+}
+
 // sin of an angle that both folds have brought to -π/2..π/2.
 static double math_trig_sin_at(double r) {
     return ieee_clamp(r * math_trig_sin_series(r * r), -1.0, 1.0);
@@ -1728,19 +1742,8 @@ static math_trig_SinCos math_trig_sin_cos(double x) {
 
 // ==== math_waves
 //
-// Sines and cosines of up to 16 angles at once, each with the bits of math_trig's. One loop folds the angles; the other
-// has neither a call that stays nor a branch, so that a compiler can take two angles at a time through both series.
-
-// The first n angles, folded to -π..π.
-static f64_x16 math_waves_folds(f64_x16 x, uint64_t n) {
-    f64_x16 i = {{0}};
-    uint64_t value = 0;
-    while (value < n) {
-        i.at[value] = math_trig_fold(x.at[value]);
-        value = value + 1;
-    }
-    return i;
-}
+// Sines and cosines of up to 16 angles at once, each with the bits of math_trig's. The loop has neither a call that stays
+// nor a branch, so that a compiler can take two angles at a time through both series.
 
 // cos of the folded angle r from c, that of sin's second fold of it: beyond π/2 it changes its sign.
 static double math_waves_turned(double r, double c) {
@@ -1753,29 +1756,52 @@ static double math_waves_turned(double r, double c) {
     return c;
 }
 
-// The sines and cosines of the first n folded angles. cos has the argument of sin up to its sign, so one square serves both.
-static math_waves_Waves math_waves_series(f64_x16 r, uint64_t n) {
-    f64_x16 cos = {{0}};
-    f64_x16 i = {{0}};
-    uint64_t a = 0;
-    while (a < n) {
-        double value = math_trig_second_fold(r.at[a]);
-        cos.at[a] = math_trig_sin_at(value);
-        i.at[a] = math_waves_turned(r.at[a], math_trig_cos_at(value));
-        a = a + 1;
-    }
-    return (math_waves_Waves){.sin = cos, .cos = i};
+// Whether an angle is below 2^20 in size, and r, what its first line leaves, within -π..π: seldom is it not.
+static bool math_waves_near(double x, double r) {
+    return x < 1048576.0 & -1048576.0 < x & (!(3.141592653589793 < r) & !(r < -3.141592653589793));
 }
 
-// The sines and cosines of the first n of 16 angles, of all where n is more; the other places hold zeros.
-static math_waves_Waves math_waves_sin_cos(f64_x16 x, uint64_t n) {
+// The sines and cosines of the first n angles where all are near, and whether they are. cos has the argument of sin up to its
+// sign, so one square serves both.
+static bool math_waves_at_once(const f64_x16 *x, uint64_t n, f64_x16 *sin, f64_x16 *cos) {
+    bool all = true;
+    uint64_t i = 0;
+    while (i < n) {
+        double angle = x->at[i];
+        double r = math_trig_near_line(angle);
+        all = all & math_waves_near(angle, r);
+        double a = math_trig_second_fold(r);
+        math_trig_Series p = math_trig_both_series(a * a);
+        sin->at[i] = ieee_clamp(a * p.sin, -1.0, 1.0);
+        cos->at[i] = math_waves_turned(r, ieee_clamp(p.cos, -1.0, 1.0));
+        i = i + 1;
+    }
+    return all;
+}
+
+// The first n angles one by one, of any size.
+static void math_waves_one_by_one(const f64_x16 *x, uint64_t n, f64_x16 *sin, f64_x16 *cos) {
+    uint64_t i = 0;
+    while (i < n) {
+        math_trig_SinCos waves = math_trig_sin_cos(x->at[i]);
+        sin->at[i] = waves.sin;
+        cos->at[i] = waves.cos;
+        i = i + 1;
+    }
+}
+
+// The sines and cosines of the first n of 16 angles, of all where n is more; the other places stay as they are.
+static void math_waves_sin_cos(const f64_x16 *x, uint64_t n, f64_x16 *sin, f64_x16 *cos) {
     uint64_t few;
     if (n < 16) {
         few = n;
     } else {
         few = 16;
     }
-    return math_waves_series(math_waves_folds(x, few), few);
+    bool value = math_waves_at_once(x, few, sin, cos);
+    if (!value) {
+        math_waves_one_by_one(x, few, sin, cos);
+    }
 }
 
 // ==== sheet
@@ -1903,6 +1929,35 @@ static sheet_Floats sheet_floats_at(slice_u8 src, uint64_t at) {
                 .second = sheet_float_in(src, at + 3)};
     }
     return (sheet_Floats){.first = 0.0, .third = 0.0, .second = 0.0};
+}
+
+// Whether the whole of a block of a kind word stands at a place, so many words in all.
+static bool sheet_stands_whole(slice_u8 src, uint64_t at, uint32_t w, uint64_t size) {
+    uint64_t total = src.count / 4;
+    if (at < total) {
+        if (size <= total - at) {
+            return sheet_word_from(src, at) == w;
+        }
+    }
+    return false;
+}
+
+static sheet_PlainFloats sheet_plain_floats(slice_u8 src, uint64_t at) {
+    if (!sheet_stands_whole(src, at, 0x40000000, 7)) {
+        return (sheet_PlainFloats){.stands = false, .first = 0.0, .third = 0.0, .second = 0.0};
+    }
+    return (sheet_PlainFloats){.stands = true, .first = sheet_float_in(src, at + 1),
+            .third = sheet_float_in(src, at + 5), .second = sheet_float_in(src, at + 3)};
+}
+
+// The same for a second caller: a compiler puts a function of this size in line where it has one caller alone, and LAYERs are
+// read more often than anything else.
+static sheet_PlainFloats sheet_plain_floats_again(slice_u8 src, uint64_t at) {
+    if (!sheet_stands_whole(src, at, 0x40000000, 7)) {
+        return (sheet_PlainFloats){.stands = false, .first = 0.0, .third = 0.0, .second = 0.0};
+    }
+    return (sheet_PlainFloats){.stands = true, .first = sheet_float_in(src, at + 1),
+            .third = sheet_float_in(src, at + 5), .second = sheet_float_in(src, at + 3)};
 }
 
 static bool sheet_is_surface(uint32_t done, uint32_t w) {
@@ -2046,6 +2101,81 @@ static bool sheet_has_ended(sheet_Standing s) {
     }
 }
 
+// How many layers may come there.
+static uint32_t sheet_most_of(sheet_Standing s) {
+    switch (s.tag) {
+    case sheet_Standing_AtOpen:
+    case sheet_Standing_AtBeam:
+        return 0;
+    case sheet_Standing_Among:
+    {
+        uint32_t most = s.as.Among.part2;
+        return most;
+    }
+    case sheet_Standing_AtSurface:
+        return 0;
+    default: // sheet_Standing_Ended
+        return 0;
+    }
+}
+
+// How many kinds 6: in edition 2.
+static uint32_t sheet_most_cauchy(sheet_Standing s) {
+    switch (s.tag) {
+    case sheet_Standing_AtOpen:
+    case sheet_Standing_AtBeam:
+        return 0;
+    case sheet_Standing_Among:
+    {
+        uint32_t edition = s.as.Among.part0;
+        uint32_t most = s.as.Among.part2;
+        if (edition == 2) {
+            return most;
+        }
+        return 0;
+    }
+    case sheet_Standing_AtSurface:
+        return 0;
+    default: // sheet_Standing_Ended
+        return 0;
+    }
+}
+
+// Where one stands after n of them.
+static sheet_Standing sheet_fewer(sheet_Standing s, uint32_t n) {
+    switch (s.tag) {
+    case sheet_Standing_AtOpen:
+    case sheet_Standing_AtBeam:
+        return s;
+    case sheet_Standing_Among:
+    {
+        uint32_t edition = s.as.Among.part0;
+        uint32_t done = s.as.Among.part1;
+        uint32_t most = s.as.Among.part2;
+        return (sheet_Standing){.tag = sheet_Standing_Among, .as.Among.part0 = edition, .as.Among.part1 = done,
+                .as.Among.part2 = most - n};
+    }
+    case sheet_Standing_AtSurface:
+        return s;
+    default: // sheet_Standing_Ended
+        return s;
+    }
+}
+
+// How many whole blocks of a kind word and of so many words stand one after the other from a place on, so many at the most.
+static uint32_t sheet_run_of(slice_u8 src, uint64_t at, uint32_t w, uint64_t size, uint32_t most) {
+    uint64_t place = at;
+    uint32_t n = 0;
+    while (n < most) {
+        if (!sheet_stands_whole(src, place, w, size)) {
+            return n;
+        }
+        place = place + size;
+        n = n + 1;
+    }
+    return n;
+}
+
 // One more where the kind word is a SURFACE's.
 static uint32_t sheet_counted(uint32_t w, uint32_t n) {
     if (w / 0x10000000 == 3) {
@@ -2070,8 +2200,13 @@ static sheet_Verdict sheet_grammar(slice_u8 src) {
             return (sheet_Verdict){.tag = sheet_Verdict_Fault, .as.Fault = at};
         }
         count = sheet_counted(w, count);
-        s = sheet_after(s, w);
-        at = next;
+        sheet_Standing t = sheet_after(s, w);
+        uint32_t n = sheet_run_of(src, next, 0x40000000, 7, sheet_most_of(t));
+        sheet_Standing u = sheet_fewer(t, n);
+        uint64_t place = next + 7 * (uint64_t)n;
+        uint32_t m = sheet_run_of(src, place, 0x60000000, 9, sheet_most_cauchy(u));
+        s = sheet_fewer(u, m);
+        at = place + 9 * (uint64_t)m;
     }
     if (sheet_has_ended(s)) {
         return (sheet_Verdict){.tag = sheet_Verdict_Whole, .as.Whole = count};
@@ -3797,43 +3932,6 @@ static thin_film_solver_ThinFilmLayer thin_film_shorthand_layer(thin_film_gramma
     return thin_film_solver_ThinFilmLayer_dielectric(n, (double)film.multiplier * quarter.thickness_nm);
 }
 
-// The layers of the first count films.
-static thin_film_coating_Layers thin_film_shorthand_layers(thin_film_grammar_Film_x64 films, uint64_t count,
-        double n_h, double n_l, double n_m, double design_wavelength_nm) {
-    thin_film_solver_ThinFilmLayer_x64 items = thin_film_presets_no_layers();
-    uint64_t i = 0;
-    while (i < count) {
-        items.at[i] = thin_film_shorthand_layer(films.at[i], n_h, n_l, n_m, design_wavelength_nm);
-        i = i + 1;
-    }
-    return (thin_film_coating_Layers){.items = items, .count = count};
-}
-
-static thin_film_shorthand_Stacked thin_film_shorthand_refused(refusal_Refusal refusal) {
-    thin_film_solver_ThinFilmLayer_x64 items = thin_film_presets_no_layers();
-    return (thin_film_shorthand_Stacked){.refusal = refusal, .layers = {.items = items, .count = 0}};
-}
-
-// The layers that a text stands for: H, L and M are quarter waves of three indices at the design
-// wavelength. 1 for an index or a wavelength that is not positive and finite; 9 with the first byte
-// that no text of the grammar could have there, with the length where the text stops early, and with
-// 255 for a text over 255 bytes; 10 for more than 64 layers.
-static thin_film_shorthand_Stacked thin_film_shorthand_stack(slice_u8 text, double n_h, double n_l, double n_m,
-        double design_wavelength_nm) {
-    if (!thin_film_shorthand_valid(n_h, n_l, n_m, design_wavelength_nm)) {
-        return thin_film_shorthand_refused((refusal_Refusal){.number = 1, .place = 0});
-    }
-    thin_film_reader_Reading reading = thin_film_reader_read(text);
-    refusal_Refusal refusal = reading.refusal;
-    if (refusal.number != 0) {
-        return thin_film_shorthand_refused(refusal);
-    }
-    thin_film_grammar_Film_x64 films = reading.films;
-    uint64_t count = reading.count;
-    return (thin_film_shorthand_Stacked){.refusal = refusal,
-            .layers = thin_film_shorthand_layers(films, count, n_h, n_l, n_m, design_wavelength_nm)};
-}
-
 // ==== name_coating
 //
 // The names of coatings, on bytes: the coating that a name stands for, and the name of a coating.
@@ -4215,6 +4313,16 @@ static double surface_real_over(double x, double y) {
     return x * y / denom;
 }
 
+// What the cosines of the first films are the roots of.
+static void surface_real_films_radicands(double snell, const f64_x16 *n, uint64_t count, f64_x16 *h) {
+    uint64_t i = 0;
+    while (i < count) {
+        double sin = surface_real_over(snell, n->at[i]);
+        h->at[i] = 1.0 - sin * sin;
+        i = i + 1;
+    }
+}
+
 // The root of a number from 2^-10 to 2^10, as Complex::sqrt takes it.
 static double surface_real_root(double x) {
     if (0.0009765625 <= x) {
@@ -4222,6 +4330,197 @@ static double surface_real_root(double x) {
             return math_sqrt_sqrt(ieee_max((x + x) / 2.0, 0.0));
         }
         return 0.0 / 0.0;
+    }
+    return 0.0 / 0.0;
+}
+
+// The cosine in a film that does not absorb.
+static double surface_real_films_root_of(double h, double k) {
+    if (k == 0.0) {
+        return surface_real_root(h);
+    }
+    return 0.0 / 0.0;
+}
+
+// Those of the first films.
+static void surface_real_films_roots(const f64_x16 *h, const f64_x16 *k, uint64_t count, f64_x16 *c) {
+    uint64_t i = 0;
+    while (i < count) {
+        c->at[i] = surface_real_films_root_of(h->at[i], k->at[i]);
+        i = i + 1;
+    }
+}
+
+// The admittances and phase thicknesses of the first films, from the cosines c.
+static void surface_real_films_media(double wavelength_nm, const f64_x16 *n, const f64_x16 *d, const f64_x16 *c,
+        uint64_t count, f64_x16 *eta_s, f64_x16 *eta_p, f64_x16 *delta) {
+    uint64_t i = 0;
+    while (i < count) {
+        double eta = n->at[i] * c->at[i];
+        eta_s->at[i] = eta;
+        eta_p->at[i] = surface_real_over(n->at[i], c->at[i]);
+        delta->at[i] = eta * (2.0 * 3.141592653589793 * d->at[i] / wavelength_nm);
+        i = i + 1;
+    }
+}
+
+// As many angles as so many films take: four go at once, so that fewer are no quicker.
+static uint64_t surface_real_films_angle_count(uint64_t films) {
+    if (films < 4) {
+        return 4;
+    }
+    return films;
+}
+
+// The sines of the first films over their admittances.
+static void surface_real_films_quotients(const f64_x16 *sin, const f64_x16 *eta_s, const f64_x16 *eta_p,
+        uint64_t count, f64_x16 *y_s, f64_x16 *y_p) {
+    uint64_t i = 0;
+    while (i < count) {
+        y_s->at[i] = surface_real_over(sin->at[i], eta_s->at[i]);
+        y_p->at[i] = surface_real_over(sin->at[i], eta_p->at[i]);
+        i = i + 1;
+    }
+}
+
+// Where the film of the layer at a place stands, of so many that are worked out.
+static uint64_t surface_real_films_film_place(uint64_t j, uint64_t films) {
+    if (j < films) {
+        return j;
+    }
+    return j % 2;
+}
+
+// A product, times a film.
+static surface_real_Product surface_real_times(surface_real_Product m, double cos, double y, double z) {
+    return (surface_real_Product){.a = m.a * cos - m.b * z, .b = m.a * y + m.b * cos, .c = m.c * cos + m.d * z,
+            .d = m.d * cos - m.c * y};
+}
+
+// One film more.
+static surface_real_Stack surface_real_join(surface_real_Stack stack, surface_real_Film film) {
+    surface_real_Product s = stack.s;
+    surface_real_Product p = stack.p;
+    surface_real_Product next_s = surface_real_times(s, film.cos, film.y_s, film.z_s);
+    surface_real_Product next_p = surface_real_times(p, film.cos, film.y_p, film.z_p);
+    return (surface_real_Stack){.s = next_s, .p = next_p};
+}
+
+// The films of count layers, from the first or from the last, each joined to the product of those before it.
+static surface_real_Stack surface_real_films_join_films(uint64_t count, uint64_t films, bool reversed,
+        const f64_x16 *sin, const f64_x16 *cos, const f64_x16 *eta_s, const f64_x16 *eta_p, const f64_x16 *y_s,
+        const f64_x16 *y_p, surface_real_Stack stack) {
+    surface_real_Stack product = stack;
+    uint64_t i = 0;
+    while (i < count) {
+        uint64_t j = surface_real_films_film_place(thin_film_layers_nth_index(reversed, count, i), films);
+        surface_real_Film film = {.cos = cos->at[j], .y_s = y_s->at[j], .z_s = sin->at[j] * eta_s->at[j],
+                .y_p = y_p->at[j], .z_p = sin->at[j] * eta_p->at[j]};
+        product = surface_real_join(product, film);
+        i = i + 1;
+    }
+    return product;
+}
+
+// Whether two numbers have the same bits; a NaN is the same as no number.
+static bool surface_real_same_number(double x, double y) {
+    return x == y && to_bits(x) == to_bits(y);
+}
+
+// Whether both numbers are zeros.
+static bool surface_real_both_zero(double x, double y) {
+    return x == 0.0 && y == 0.0;
+}
+
+// Whether two layers that do not absorb have one index and one thickness: their films are one then.
+static bool surface_real_alike(thin_film_solver_ThinFilmLayer a, thin_film_solver_ThinFilmLayer b) {
+    return surface_real_same_number(a.n, b.n) && surface_real_same_number(a.thickness_nm, b.thickness_nm)
+            && surface_real_both_zero(a.k, b.k);
+}
+
+// Whether each of count layers is the last but one again.
+static bool surface_real_films_take_turns(const f64_x16 *n, const f64_x16 *k, const f64_x16 *d, uint64_t count) {
+    uint64_t i = 2;
+    while (i < count) {
+        thin_film_solver_ThinFilmLayer layer = {.n = n->at[i], .k = k->at[i], .thickness_nm = d->at[i]};
+        thin_film_solver_ThinFilmLayer earlier = {.n = n->at[i - 2], .k = k->at[i - 2], .thickness_nm = d->at[i - 2]};
+        if (!surface_real_alike(layer, earlier)) {
+            return false;
+        }
+        i = i + 1;
+    }
+    return true;
+}
+
+// How many films of count layers are to be worked out.
+static uint64_t surface_real_films_film_count(const f64_x16 *n, const f64_x16 *k, const f64_x16 *d, uint64_t count) {
+    if (2 < count) {
+        if (surface_real_films_take_turns(n, k, d, count)) {
+            return 2;
+        }
+    }
+    return count;
+}
+
+// The layers whose numbers stand in the first of 16 places, joined to a product: from the first on, or from the last where
+// light meets them from the far side.
+static surface_real_Stack surface_real_films_join_all(thin_film_solver_Incidence light, const f64_x16 *n,
+        const f64_x16 *k, const f64_x16 *d, uint64_t count, bool reversed, surface_real_Stack stack) {
+    uint64_t few;
+    if (count < 16) {
+        few = count;
+    } else {
+        few = 16;
+    }
+    uint64_t films = surface_real_films_film_count(n, k, d, few);
+    f64_x16 h;
+    for (size_t each = 0; each < 16; each++) {
+        h.at[each] = 1.0;
+    }
+    f64_x16 c;
+    for (size_t each = 0; each < 16; each++) {
+        c.at[each] = 1.0;
+    }
+    f64_x16 eta_s;
+    for (size_t each = 0; each < 16; each++) {
+        eta_s.at[each] = 1.0;
+    }
+    f64_x16 eta_p;
+    for (size_t each = 0; each < 16; each++) {
+        eta_p.at[each] = 1.0;
+    }
+    f64_x16 delta;
+    for (size_t each = 0; each < 16; each++) {
+        delta.at[each] = 1.0;
+    }
+    f64_x16 sin;
+    for (size_t each = 0; each < 16; each++) {
+        sin.at[each] = 1.0;
+    }
+    f64_x16 cos;
+    for (size_t each = 0; each < 16; each++) {
+        cos.at[each] = 1.0;
+    }
+    f64_x16 y_s;
+    for (size_t each = 0; each < 16; each++) {
+        y_s.at[each] = 1.0;
+    }
+    f64_x16 y_p;
+    for (size_t each = 0; each < 16; each++) {
+        y_p.at[each] = 1.0;
+    }
+    surface_real_films_radicands(light.snell, n, films, &h);
+    surface_real_films_roots(&h, k, films, &c);
+    surface_real_films_media(light.wavelength_nm, n, d, &c, films, &eta_s, &eta_p, &delta);
+    math_waves_sin_cos(&delta, surface_real_films_angle_count(films), &sin, &cos);
+    surface_real_films_quotients(&sin, &eta_s, &eta_p, films, &y_s, &y_p);
+    return surface_real_films_join_films(few, films, reversed, &sin, &cos, &eta_s, &eta_p, &y_s, &y_p, stack);
+}
+
+// A number whose imaginary part is a zero.
+static double surface_real_real_part(thin_film_complex_Complex z) {
+    if (z.im == 0.0) {
+        return z.re;
     }
     return 0.0 / 0.0;
 }
@@ -4244,67 +4543,10 @@ static surface_real_Medium surface_real_medium_of(thin_film_solver_Incidence lig
     return (surface_real_Medium){.eta_s = eta_s, .eta_p = eta_p, .delta = eta_s * factor};
 }
 
-// Those of the first n layers.
-static surface_real_films_Media surface_real_films_media_of(thin_film_solver_Incidence light,
-        thin_film_solver_ThinFilmLayer_x16 layers, uint64_t n) {
-    f64_x16 eta_p = {{0}};
-    f64_x16 delta = {{0}};
-    f64_x16 i = {{0}};
-    uint64_t medium = 0;
-    while (medium < n) {
-        surface_real_Medium value = surface_real_medium_of(light, layers.at[medium]);
-        eta_p.at[medium] = value.eta_s;
-        delta.at[medium] = value.eta_p;
-        i.at[medium] = value.delta;
-        medium = medium + 1;
-    }
-    return (surface_real_films_Media){.eta_s = eta_p, .eta_p = delta, .delta = i};
-}
-
 // A film's matrices, from its admittances and the sine and cosine of its phase thickness.
 static surface_real_Film surface_real_film_in(double eta_s, double eta_p, double sin, double cos) {
     return (surface_real_Film){.cos = cos, .y_s = surface_real_over(sin, eta_s), .z_s = sin * eta_s,
             .y_p = surface_real_over(sin, eta_p), .z_p = sin * eta_p};
-}
-
-// A product, times a film.
-static surface_real_Product surface_real_times(surface_real_Product m, double cos, double y, double z) {
-    return (surface_real_Product){.a = m.a * cos - m.b * z, .b = m.a * y + m.b * cos, .c = m.c * cos + m.d * z,
-            .d = m.d * cos - m.c * y};
-}
-
-// One film more.
-static surface_real_Stack surface_real_join(surface_real_Stack stack, surface_real_Film film) {
-    surface_real_Product s = stack.s;
-    surface_real_Product p = stack.p;
-    surface_real_Product next_s = surface_real_times(s, film.cos, film.y_s, film.z_s);
-    surface_real_Product next_p = surface_real_times(p, film.cos, film.y_p, film.z_p);
-    return (surface_real_Stack){.s = next_s, .p = next_p};
-}
-
-// The first n films, from the first or from the last, each joined to the product of those before it.
-static surface_real_Stack surface_real_films_join_media(surface_real_films_Media media, math_waves_Waves waves,
-        uint64_t n, bool reversed, surface_real_Stack stack) {
-    f64_x16 eta_s = media.eta_s;
-    f64_x16 eta_p = media.eta_p;
-    f64_x16 sin = waves.sin;
-    f64_x16 cos = waves.cos;
-    surface_real_Stack product = stack;
-    uint64_t i = 0;
-    while (i < n) {
-        uint64_t j = thin_film_layers_nth_index(reversed, n, i);
-        product = surface_real_join(product, surface_real_film_in(eta_s.at[j], eta_p.at[j], sin.at[j], cos.at[j]));
-        i = i + 1;
-    }
-    return product;
-}
-
-// The first n layers in arrays.
-static surface_real_Stack surface_real_films_join_arrays(thin_film_solver_Incidence light,
-        thin_film_solver_ThinFilmLayer_x16 layers, uint64_t n, bool reversed, surface_real_Stack stack) {
-    surface_real_films_Media media = surface_real_films_media_of(light, layers, n);
-    f64_x16 delta = media.delta;
-    return surface_real_films_join_media(media, math_waves_sin_cos(delta, n), n, reversed, stack);
 }
 
 static surface_real_Film surface_real_film_of(thin_film_solver_Incidence light,
@@ -4312,101 +4554,6 @@ static surface_real_Film surface_real_film_of(thin_film_solver_Incidence light,
     surface_real_Medium medium = surface_real_medium_of(light, layer);
     math_trig_SinCos wave = math_trig_sin_cos(medium.delta);
     return surface_real_film_in(medium.eta_s, medium.eta_p, wave.sin, wave.cos);
-}
-
-// Whether two numbers are one, above zero.
-static bool surface_real_same_number(double x, double y) {
-    return 0.0 < x && x == y;
-}
-
-// Whether both numbers are zeros.
-static bool surface_real_both_zero(double x, double y) {
-    return x == 0.0 && y == 0.0;
-}
-
-// Whether two layers that do not absorb have one index and one thickness.
-static bool surface_real_same_film(thin_film_solver_ThinFilmLayer a, thin_film_solver_ThinFilmLayer b) {
-    return surface_real_same_number(a.n, b.n) && surface_real_same_number(a.thickness_nm, b.thickness_nm)
-            && surface_real_both_zero(a.k, b.k);
-}
-
-// A layer with its film, which is that of an earlier one where they are the same.
-static surface_real_Met surface_real_meet(thin_film_solver_Incidence light, thin_film_solver_ThinFilmLayer layer,
-        surface_real_Met earlier) {
-    thin_film_solver_ThinFilmLayer before = earlier.layer;
-    if (surface_real_same_film(layer, before)) {
-        surface_real_Film film = earlier.film;
-        return (surface_real_Met){.layer = layer, .film = film};
-    }
-    surface_real_Film film_2 = surface_real_film_of(light, layer);
-    return (surface_real_Met){.layer = layer, .film = film_2};
-}
-
-// A layer with its film, as meet gives it; its numbers are those of an f64.
-static surface_real_Met surface_real_films_meet_held(thin_film_solver_Incidence light,
-        thin_film_solver_ThinFilmLayer layer, surface_real_Met earlier) {
-    return surface_real_meet(light, layer, earlier);
-}
-
-// Before the first layer: a NaN is the same as no number.
-static surface_real_Met surface_real_none_met(void) {
-    thin_film_solver_ThinFilmLayer layer = {.n = 0.0 / 0.0, .k = 0.0, .thickness_nm = 0.0};
-    surface_real_Film film = {.cos = 0.0, .y_s = 0.0, .z_s = 0.0, .y_p = 0.0, .z_p = 0.0};
-    return (surface_real_Met){.layer = layer, .film = film};
-}
-
-// The first n layers one by one, each looked for at the last but one.
-static surface_real_Stack surface_real_films_join_turns(thin_film_solver_Incidence light,
-        thin_film_solver_ThinFilmLayer_x16 layers, uint64_t n, bool reversed, surface_real_Stack stack) {
-    surface_real_Stack older = stack;
-    surface_real_Met newer = surface_real_none_met();
-    surface_real_Met i = surface_real_none_met();
-    uint64_t j = 0;
-    while (j < n) {
-        uint64_t met = thin_film_layers_nth_index(reversed, n, j);
-        surface_real_Met film = surface_real_films_meet_held(light, layers.at[met], newer);
-        older = surface_real_join(older, film.film);
-        newer = i;
-        i = film;
-        j = j + 1;
-    }
-    return older;
-}
-
-// Whether each of the first n layers is the last but one again.
-static bool surface_real_films_take_turns(thin_film_solver_ThinFilmLayer_x16 layers, uint64_t n) {
-    uint64_t i = 2;
-    while (i < n) {
-        if (!surface_real_same_film(layers.at[i], layers.at[i - 2])) {
-            return false;
-        }
-        i = i + 1;
-    }
-    return true;
-}
-
-// The first n of 16 layers, or all where n is more, joined to a product: from the first on, or from the last where
-// light meets them from the far side.
-static surface_real_Stack surface_real_films_join_all(thin_film_solver_Incidence light,
-        thin_film_solver_ThinFilmLayer_x16 layers, uint64_t n, bool reversed, surface_real_Stack stack) {
-    uint64_t few;
-    if (n < 16) {
-        few = n;
-    } else {
-        few = 16;
-    }
-    if (surface_real_films_take_turns(layers, few)) {
-        return surface_real_films_join_turns(light, layers, few, reversed, stack);
-    }
-    return surface_real_films_join_arrays(light, layers, few, reversed, stack);
-}
-
-// A number whose imaginary part is a zero.
-static double surface_real_real_part(thin_film_complex_Complex z) {
-    if (z.im == 0.0) {
-        return z.re;
-    }
-    return 0.0 / 0.0;
 }
 
 // Before the first film.
@@ -4464,100 +4611,206 @@ static surface_real_Known surface_real_finish(thin_film_solver_Incidence light, 
 
 // ==== surface_lines
 //
-// The products of a coated surface's films at 16 wavelengths at once, place by place: those of surface_real, with what
-// does not hang on the wavelength worked out once. The loops have neither a call that stays nor a branch.
+// The powers of a coated surface at up to 16 wavelengths at once, place by place: those of surface_real, with what does
+// not hang on the wavelength worked out once. Arrays are lent; the loops have neither a call that stays nor a branch.
 
-// Before the first film.
-static surface_lines_Stacks surface_lines_no_lines(void) {
-    f64_x16 one;
-    for (size_t each = 0; each < 16; each++) {
-        one.at[each] = 1.0;
-    }
-    f64_x16 zero = {{0}};
-    surface_lines_Products m = {.a = one, .b = zero, .c = zero, .d = one};
-    return (surface_lines_Stacks){.s = m, .p = m};
-}
-
-// What Complex::div divides by: a NaN where the square is too small.
-static double surface_lines_divisor(double eta) {
-    double square = eta * eta;
+// What Complex::div divides by: a NaN where it is too small.
+static double surface_lines_divisor(double square) {
     if (square < 1e-28) {
         return 0.0 / 0.0;
     }
     return square;
 }
 
-// The phase thickness of a film at each wavelength.
-static f64_x16 surface_lines_phases(double eta_s, double thickness_nm, f64_x16 nm) {
-    f64_x16 i = {{0}};
-    uint64_t value = 0;
-    while (value < 16) {
-        i.at[value] = eta_s * (2.0 * 3.141592653589793 * thickness_nm / nm.at[value]);
-        value = value + 1;
-    }
-    return i;
-}
-
-// Each product, times the film of admittance eta, from the sine and cosine of its phase thickness.
-static surface_lines_Products surface_lines_times_lines(surface_lines_Products m, double eta, f64_x16 sin,
-        f64_x16 cos) {
-    f64_x16 text_2 = cos;
-    f64_x16 m_a = m.a;
-    f64_x16 m_b = m.b;
-    f64_x16 m_c = m.c;
-    f64_x16 m_d = m.d;
-    double square = surface_lines_divisor(eta);
-    f64_x16 a = {{0}};
-    f64_x16 b = {{0}};
-    f64_x16 c = {{0}};
-    f64_x16 d = {{0}};
+// The phase thickness of a film at the first n wavelengths.
+static void surface_lines_phases(double eta_s, double thickness_nm, uint64_t n, const f64_x16 *nm, f64_x16 *delta) {
     uint64_t i = 0;
-    while (i < 16) {
-        surface_real_Product m_2 = {.a = m_a.at[i], .b = m_b.at[i], .c = m_c.at[i], .d = m_d.at[i]};
-        double z = sin.at[i] * eta;
-        surface_real_Product next = surface_real_times(m_2, text_2.at[i], z / square, z);
-        a.at[i] = next.a;
-        b.at[i] = next.b;
-        c.at[i] = next.c;
-        d.at[i] = next.d;
+    while (i < n) {
+        delta->at[i] = eta_s * (2.0 * 3.141592653589793 * thickness_nm / nm->at[i]);
         i = i + 1;
     }
-    return (surface_lines_Products){.a = a, .b = b, .c = c, .d = d};
 }
 
-// One film more at each wavelength; that of light is not looked at.
-static surface_lines_Stacks surface_lines_join_lines(surface_lines_Stacks k, thin_film_solver_Incidence light,
-        thin_film_solver_ThinFilmLayer layer, f64_x16 nm) {
-    surface_real_Medium medium = surface_real_medium_of(light, layer);
-    math_waves_Waves waves = math_waves_sin_cos(surface_lines_phases(medium.eta_s, layer.thickness_nm, nm), 16);
-    f64_x16 sin = waves.sin;
-    f64_x16 cos = waves.cos;
-    surface_lines_Products s = k.s;
-    surface_lines_Products p = k.p;
-    surface_lines_Products next_s = surface_lines_times_lines(s, medium.eta_s, sin, cos);
-    surface_lines_Products next_p = surface_lines_times_lines(p, medium.eta_p, sin, cos);
-    return (surface_lines_Stacks){.s = next_s, .p = next_p};
-}
-
-// The product at a place.
-static surface_real_Product surface_lines_product_in(surface_lines_Products m, uint64_t j) {
-    f64_x16 a = m.a;
-    f64_x16 b = m.b;
-    f64_x16 c = m.c;
-    f64_x16 d = m.d;
-    return (surface_real_Product){.a = a.at[j], .b = b.at[j], .c = c.at[j], .d = d.at[j]};
-}
-
-// The products at a place; past the last those of no films.
-static surface_real_Stack surface_lines_line_of(surface_lines_Stacks k, uint64_t j) {
-    if (j < 16) {
-        surface_lines_Products s = k.s;
-        surface_lines_Products p = k.p;
-        surface_real_Product of_s = surface_lines_product_in(s, j);
-        surface_real_Product of_p = surface_lines_product_in(p, j);
-        return (surface_real_Stack){.s = of_s, .p = of_p};
+// The first n products, times the film of admittance eta, from the sines and cosines of its phase thickness.
+static void surface_lines_times_lines(double eta, uint64_t n, const f64_x16 *sin, const f64_x16 *cos, f64_x16 *a,
+        f64_x16 *b, f64_x16 *c, f64_x16 *d) {
+    double square = surface_lines_divisor(eta * eta);
+    uint64_t i = 0;
+    while (i < n) {
+        surface_real_Product m = {.a = a->at[i], .b = b->at[i], .c = c->at[i], .d = d->at[i]};
+        double z = sin->at[i] * eta;
+        surface_real_Product next = surface_real_times(m, cos->at[i], z / square, z);
+        a->at[i] = next.a;
+        b->at[i] = next.b;
+        c->at[i] = next.c;
+        d->at[i] = next.d;
+        i = i + 1;
     }
-    return surface_real_no_films();
+}
+
+// One film more at the first n wavelengths, for s and for p.
+static void surface_lines_join_lines(double eta_s, double eta_p, double thickness_nm, uint64_t n, const f64_x16 *nm,
+        f64_x16 *a_s, f64_x16 *b_s, f64_x16 *c_s, f64_x16 *d_s, f64_x16 *a_p, f64_x16 *b_p, f64_x16 *c_p,
+        f64_x16 *d_p) {
+    f64_x16 delta;
+    for (size_t each = 0; each < 16; each++) {
+        delta.at[each] = 1.0;
+    }
+    f64_x16 sin;
+    for (size_t each = 0; each < 16; each++) {
+        sin.at[each] = 1.0;
+    }
+    f64_x16 cos;
+    for (size_t each = 0; each < 16; each++) {
+        cos.at[each] = 1.0;
+    }
+    surface_lines_phases(eta_s, thickness_nm, n, nm, &delta);
+    math_waves_sin_cos(&delta, n, &sin, &cos);
+    surface_lines_times_lines(eta_s, n, &sin, &cos, a_s, b_s, c_s, d_s);
+    surface_lines_times_lines(eta_p, n, &sin, &cos, a_p, b_p, c_p, d_p);
+}
+
+// The products of many films, from the first or from the last, at the first n wavelengths; before them there are no films.
+static void surface_lines_stack_lines(const f64_x16 *eta_s, const f64_x16 *eta_p, const f64_x16 *thickness_nm,
+        uint64_t many, bool reversed, uint64_t n, const f64_x16 *nm, f64_x16 *a_s, f64_x16 *b_s, f64_x16 *c_s,
+        f64_x16 *d_s, f64_x16 *a_p, f64_x16 *b_p, f64_x16 *c_p, f64_x16 *d_p) {
+    uint64_t i = 0;
+    while (i < many) {
+        uint64_t j = thin_film_layers_nth_index(reversed, many, i);
+        surface_lines_join_lines(eta_s->at[j], eta_p->at[j], thickness_nm->at[j], n, nm, a_s, b_s, c_s, d_s, a_p, b_p,
+                c_p, d_p);
+        i = i + 1;
+    }
+}
+
+static surface_lines_Sides surface_lines_sides_of(thin_film_solver_Incidence light) {
+    double least = ieee_max(light.cos_theta0, 1e-12);
+    thin_film_complex_Complex cos = thin_film_complex_Complex_real(
+            surface_real_cos_theta_sub(light.snell / light.n_substrate));
+    thin_film_complex_Complex n_sub = thin_film_complex_Complex_real(light.n_substrate);
+    double eta_s = surface_real_real_part(thin_film_complex_Complex_mul(n_sub, cos));
+    double eta_p = surface_real_real_part(thin_film_complex_Complex_div(n_sub, cos));
+    return (surface_lines_Sides){.eta0_s = light.n_incident * light.cos_theta0, .eta_s = eta_s,
+            .eta0_p = light.n_incident / least, .eta_p = eta_p};
+}
+
+// What surface_real::power gives, with no branch.
+static surface_real_Shares surface_lines_shares(surface_real_Product m, double eta0, double eta) {
+    double b_re = eta0 * m.a;
+    double b_im = eta0 * (m.b * eta);
+    double c_re = m.d * eta;
+    double num_re = b_re - c_re;
+    double num_im = b_im - m.c;
+    double den_re = b_re + c_re;
+    double den_im = b_im + m.c;
+    double denom = surface_lines_divisor(den_re * den_re + den_im * den_im);
+    double r_re = (num_re * den_re + num_im * den_im) / denom;
+    double r_im = (num_im * den_re - num_re * den_im) / denom;
+    double t_re = eta0 * 2.0 * den_re / denom;
+    double t_im = -(eta0 * 2.0 * den_im) / denom;
+    return (surface_real_Shares){.r = r_re * r_re + r_im * r_im, .t = eta / eta0 * (t_re * t_re + t_im * t_im)};
+}
+
+// Those of the first n products: r is reflected, and t transmitted.
+static void surface_lines_share_lines(double eta0, double eta, uint64_t n, const f64_x16 *a, const f64_x16 *b,
+        const f64_x16 *c, const f64_x16 *d, f64_x16 *r, f64_x16 *t) {
+    uint64_t i = 0;
+    while (i < n) {
+        surface_real_Product m = {.a = a->at[i], .b = b->at[i], .c = c->at[i], .d = d->at[i]};
+        surface_real_Shares share = surface_lines_shares(m, eta0, eta);
+        r->at[i] = share.r;
+        t->at[i] = share.t;
+        i = i + 1;
+    }
+}
+
+// Whether the powers of the first n are known.
+static bool surface_lines_known_lines(uint64_t n, const f64_x16 *r_s, const f64_x16 *t_s, const f64_x16 *r_p,
+        const f64_x16 *t_p) {
+    bool known = true;
+    uint64_t i = 0;
+    while (i < n) {
+        known = known & ieee_is_finite(r_s->at[i] + t_s->at[i] + (r_p->at[i] + t_p->at[i]));
+        i = i + 1;
+    }
+    return known;
+}
+
+// The first n, from 0 to 1.
+static void surface_lines_clamp_lines(uint64_t n, const f64_x16 *x, f64_x16 *y) {
+    uint64_t i = 0;
+    while (i < n) {
+        y->at[i] = ieee_clamp(x->at[i], 0.0, 1.0);
+        i = i + 1;
+    }
+}
+
+// The reflected or the transmitted powers of the first n products, and whether all are known.
+static bool surface_lines_finish_lines(surface_lines_Sides sides, bool reflected, uint64_t n, const f64_x16 *a_s,
+        const f64_x16 *b_s, const f64_x16 *c_s, const f64_x16 *d_s, const f64_x16 *a_p, const f64_x16 *b_p,
+        const f64_x16 *c_p, const f64_x16 *d_p, f64_x16 *s, f64_x16 *p) {
+    f64_x16 r_s;
+    for (size_t each = 0; each < 16; each++) {
+        r_s.at[each] = 1.0;
+    }
+    f64_x16 t_s;
+    for (size_t each = 0; each < 16; each++) {
+        t_s.at[each] = 1.0;
+    }
+    f64_x16 r_p;
+    for (size_t each = 0; each < 16; each++) {
+        r_p.at[each] = 1.0;
+    }
+    f64_x16 t_p;
+    for (size_t each = 0; each < 16; each++) {
+        t_p.at[each] = 1.0;
+    }
+    surface_lines_share_lines(sides.eta0_s, sides.eta_s, n, a_s, b_s, c_s, d_s, &r_s, &t_s);
+    surface_lines_share_lines(sides.eta0_p, sides.eta_p, n, a_p, b_p, c_p, d_p, &r_p, &t_p);
+    bool known = surface_lines_known_lines(n, &r_s, &t_s, &r_p, &t_p);
+    if (reflected) {
+        surface_lines_clamp_lines(n, &r_s, s);
+        surface_lines_clamp_lines(n, &r_p, p);
+        return known;
+    }
+    surface_lines_clamp_lines(n, &t_s, s);
+    surface_lines_clamp_lines(n, &t_p, p);
+    return known;
+}
+
+// The same of many films, from the first or from the last, between two media.
+static bool surface_lines_powers(surface_lines_Sides sides, bool reflected, const f64_x16 *eta_s,
+        const f64_x16 *eta_p, const f64_x16 *thickness_nm, uint64_t many, bool reversed, uint64_t n,
+        const f64_x16 *nm, f64_x16 *s, f64_x16 *p) {
+    if (16 < many) {
+        return false;
+    }
+    if (16 < n) {
+        return false;
+    }
+    f64_x16 a_s;
+    for (size_t each = 0; each < 16; each++) {
+        a_s.at[each] = 1.0;
+    }
+    f64_x16 b_s = {{0}};
+    f64_x16 c_s = {{0}};
+    f64_x16 d_s;
+    for (size_t each = 0; each < 16; each++) {
+        d_s.at[each] = 1.0;
+    }
+    f64_x16 a_p;
+    for (size_t each = 0; each < 16; each++) {
+        a_p.at[each] = 1.0;
+    }
+    f64_x16 b_p = {{0}};
+    f64_x16 c_p = {{0}};
+    f64_x16 d_p;
+    for (size_t each = 0; each < 16; each++) {
+        d_p.at[each] = 1.0;
+    }
+    surface_lines_stack_lines(eta_s, eta_p, thickness_nm, many, reversed, n, nm, &a_s, &b_s, &c_s, &d_s, &a_p, &b_p,
+            &c_p, &d_p);
+    return surface_lines_finish_lines(sides, reflected, n, &a_s, &b_s, &c_s, &d_s, &a_p, &b_p, &c_p, &d_p, s, p);
 }
 
 // ==== response_real
@@ -4681,15 +4934,36 @@ static uint64_t c_layers_at_most_16(uint64_t left) {
     return 16;
 }
 
-// A few layers of the list, after so many others, in its order.
-static thin_film_solver_ThinFilmLayer_x16 c_layers_layers_from(slice_f64 flat, uint64_t after, uint64_t few) {
-    thin_film_solver_ThinFilmLayer_x16 some = {{{0}}};
+// The numbers of a few layers of the list, after so many others, in its order.
+static void c_layers_layers_from(slice_f64 flat, uint64_t after, uint64_t few, f64_x16 *n, f64_x16 *k, f64_x16 *d) {
     uint64_t i = 0;
     while (i < few) {
-        some.at[i] = c_layers_layer_at(flat, after + i);
+        thin_film_solver_ThinFilmLayer layer = c_layers_layer_at(flat, after + i);
+        n->at[i] = layer.n;
+        k->at[i] = layer.k;
+        d->at[i] = layer.thickness_nm;
         i = i + 1;
     }
-    return some;
+}
+
+// A few layers of the list, after so many others, joined to a product. The arrays have the list's own order, and are read
+// from their far end where light meets that first (document 02, slip 4).
+static surface_real_Stack c_layers_join_some(slice_f64 flat, uint64_t after, uint64_t few, bool reversed,
+        thin_film_solver_Incidence light, surface_real_Stack stack) {
+    f64_x16 n;
+    for (size_t each = 0; each < 16; each++) {
+        n.at[each] = 1.0;
+    }
+    f64_x16 k;
+    for (size_t each = 0; each < 16; each++) {
+        k.at[each] = 1.0;
+    }
+    f64_x16 d;
+    for (size_t each = 0; each < 16; each++) {
+        d.at[each] = 1.0;
+    }
+    c_layers_layers_from(flat, after, few, &n, &k, &d);
+    return surface_real_films_join_all(light, &n, &k, &d, few, reversed, stack);
 }
 
 // Where a few layers stand in a list of n that light meets after i others: from its front, or from its far end.
@@ -4700,17 +4974,15 @@ static uint64_t c_layers_front_of(bool reversed, uint64_t n, uint64_t i, uint64_
     return i;
 }
 
-// The products of every layer's films over real numbers, in the order of the list or reversed: 16 at a time. Each array has
-// the list's own order, and is read from its far end where light meets that first (document 02, slip 4).
+// The products of every layer's films over real numbers, in the order of the list or reversed: 16 at a time.
 static surface_real_Stack c_layers_stack_of(slice_f64 flat, bool reversed, thin_film_solver_Incidence light) {
     uint64_t n = flat.count / 3;
     surface_real_Stack stack = surface_real_no_films();
     uint64_t i = 0;
     while (i < n) {
         uint64_t few = c_layers_at_most_16(n - i);
-        thin_film_solver_ThinFilmLayer_x16 some = c_layers_layers_from(flat, c_layers_front_of(reversed, n, i, few),
-                few);
-        stack = surface_real_films_join_all(light, some, few, reversed, stack);
+        uint64_t after = c_layers_front_of(reversed, n, i, few);
+        stack = c_layers_join_some(flat, after, few, reversed, light, stack);
         i = i + few;
     }
     return stack;
@@ -5072,11 +5344,13 @@ static uint64_t c_call_put_answers(surface_Answers a, slice_mut_f64 list) {
 //
 // dihkelu_stack: the layers of a stack by their numbers, in a list that was lent.
 
-// The first layers at the front of a list that has room for them.
-static void c_stack_place(thin_film_solver_ThinFilmLayer_x64 items, uint64_t count, slice_mut_f64 list) {
+// The layers of the first films at the front of a list that has room for them.
+static void c_stack_place(thin_film_grammar_Film_x64 films, uint64_t count, double n_h, double n_l, double n_m,
+        double design_wavelength_nm, slice_mut_f64 list) {
     uint64_t i = 0;
     while (i < count) {
-        thin_film_solver_ThinFilmLayer layer = items.at[i];
+        thin_film_solver_ThinFilmLayer layer = thin_film_shorthand_layer(films.at[i], n_h, n_l, n_m,
+                design_wavelength_nm);
         list.at[3 * i] = layer.n;
         list.at[3 * i + 1] = layer.k;
         list.at[3 * i + 2] = layer.thickness_nm;
@@ -5084,13 +5358,14 @@ static void c_stack_place(thin_film_solver_ThinFilmLayer_x64 items, uint64_t cou
     }
 }
 
-// The first layers by their numbers, and how many numbers they are.
-static uint64_t c_stack_put(thin_film_solver_ThinFilmLayer_x64 items, uint64_t count, slice_mut_f64 list) {
+// The layers of the first films by their numbers, and how many numbers they are.
+static uint64_t c_stack_put(thin_film_grammar_Film_x64 films, uint64_t count, double n_h, double n_l, double n_m,
+        double design_wavelength_nm, slice_mut_f64 list) {
     uint64_t numbers = 3 * count;
     if (list.count < numbers) {
         return 0x800000000u;
     }
-    c_stack_place(items, count, list);
+    c_stack_place(films, count, n_h, n_l, n_m, design_wavelength_nm, list);
     return numbers;
 }
 
@@ -5098,15 +5373,17 @@ static uint64_t c_stack_put(thin_film_solver_ThinFilmLayer_x64 items, uint64_t c
 // the count of these numbers, or a refusal: 1, 9, 10, then 8 for a list that is too short.
 static uint64_t c_stack_stack(slice_u8 text, double n_h, double n_l, double n_m, double design_wavelength_nm,
         slice_mut_f64 list) {
-    thin_film_shorthand_Stacked stacked = thin_film_shorthand_stack(text, n_h, n_l, n_m, design_wavelength_nm);
-    refusal_Refusal refusal = stacked.refusal;
+    if (!thin_film_shorthand_valid(n_h, n_l, n_m, design_wavelength_nm)) {
+        return c_call_packed((refusal_Refusal){.number = 1, .place = 0});
+    }
+    thin_film_reader_Reading reading = thin_film_reader_read(text);
+    refusal_Refusal refusal = reading.refusal;
     if (refusal.number != 0) {
         return c_call_packed(refusal);
     }
-    thin_film_coating_Layers layers = stacked.layers;
-    thin_film_solver_ThinFilmLayer_x64 items = layers.items;
-    uint64_t count = layers.count;
-    return c_stack_put(items, count, list);
+    thin_film_grammar_Film_x64 films = reading.films;
+    uint64_t count = reading.count;
+    return c_stack_put(films, count, n_h, n_l, n_m, design_wavelength_nm, list);
 }
 
 // ==== c_scan
@@ -5411,11 +5688,13 @@ static gate_limits_Interface c_names_coating_of(uint32_t code) {
     return gate_limits_coded(code, 550.0);
 }
 
-// A name at the front of an output that has room for it.
+// A name of at most 16 bytes at the front of an output that has room for it.
 static void c_names_copy(slice_u8 name, slice_mut_u8 output) {
     uint64_t i = 0;
-    while (i < name.count) {
-        output.at[i] = name.at[i];
+    while (i < 16) {
+        if (i < name.count) {
+            output.at[i] = name.at[i];
+        }
         i = i + 1;
     }
 }
@@ -5648,35 +5927,6 @@ static thin_film_layers_Evaluation sheet_answers_evaluate_at(slice_u8 src, uint6
             .as.Response = sheet_answers_solve(src, at, n, reversed, wavelength_nm, light)};
 }
 
-// A place that holds no layer.
-static thin_film_solver_ThinFilmLayer sheet_answers_presets_no_layer(void) {
-    return (thin_film_solver_ThinFilmLayer){.n = 0.0, .k = 0.0, .thickness_nm = 0.0};
-}
-
-static thin_film_solver_ThinFilmLayer_x16 sheet_answers_presets_mgf2(double design_wavelength_nm) {
-    thin_film_solver_ThinFilmLayer m = thin_film_presets_quarter_wave(1.38, design_wavelength_nm);
-    thin_film_solver_ThinFilmLayer o = sheet_answers_presets_no_layer();
-    return (thin_film_solver_ThinFilmLayer_x16){{m, o, o, o, o, o, o, o, o, o, o, o, o, o, o, o}};
-}
-
-static thin_film_solver_ThinFilmLayer_x16 sheet_answers_presets_broadband(void) {
-    thin_film_solver_ThinFilmLayer_x4 four = thin_film_presets_broadband();
-    thin_film_solver_ThinFilmLayer a = four.at[0];
-    thin_film_solver_ThinFilmLayer b = four.at[1];
-    thin_film_solver_ThinFilmLayer c = four.at[2];
-    thin_film_solver_ThinFilmLayer d = four.at[3];
-    thin_film_solver_ThinFilmLayer o = sheet_answers_presets_no_layer();
-    return (thin_film_solver_ThinFilmLayer_x16){{a, b, c, d, o, o, o, o, o, o, o, o, o, o, o, o}};
-}
-
-// (H L)^7 H.
-static thin_film_solver_ThinFilmLayer_x16 sheet_answers_presets_mirror(void) {
-    thin_film_solver_ThinFilmLayer h = thin_film_presets_quarter_wave(2.3, 550.0);
-    thin_film_solver_ThinFilmLayer l = thin_film_presets_quarter_wave(1.46, 550.0);
-    thin_film_solver_ThinFilmLayer o = sheet_answers_presets_no_layer();
-    return (thin_film_solver_ThinFilmLayer_x16){{h, l, h, l, h, l, h, l, h, l, h, l, h, l, h, o}};
-}
-
 // No powers that are known.
 static surface_real_Known sheet_answers_presets_unknown(void) {
     surface_Powers powers = {.reflectance_s = 0.0, .reflectance_p = 0.0, .transmittance_s = 0.0,
@@ -5684,20 +5934,66 @@ static surface_real_Known sheet_answers_presets_unknown(void) {
     return (surface_real_Known){.known = false, .powers = powers};
 }
 
-// The powers with the first n layers.
-static surface_real_Known sheet_answers_presets_layers_powers(thin_film_solver_ThinFilmLayer_x16 layers, uint64_t n,
-        gate_limits_Surface surface, double wavelength_nm) {
+// The powers with the layers whose numbers stand in the first of 16 places.
+static surface_real_Known sheet_answers_presets_layers_powers(const f64_x16 *n, const f64_x16 *k, const f64_x16 *d,
+        uint64_t count, gate_limits_Surface surface, double wavelength_nm) {
     thin_film_layers_Prepared value = thin_film_coating_prepare(thin_film_coating_Coating_Multilayer,
-            surface.n_substrate < surface.n_incident, n, surface.n_incident, surface.n_substrate, surface.angle_rad,
-            wavelength_nm);
+            surface.n_substrate < surface.n_incident, count, surface.n_incident, surface.n_substrate,
+            surface.angle_rad, wavelength_nm);
     if (value.tag == thin_film_layers_Prepared_Answered) {
         return sheet_answers_presets_unknown();
     }
     bool reversed = value.as.Layers.reversed;
     thin_film_solver_Incidence light = value.as.Layers.light;
     surface_real_Stack none = surface_real_no_films();
-    surface_real_Stack stack = surface_real_films_join_all(light, layers, n, reversed, none);
+    surface_real_Stack stack = surface_real_films_join_all(light, n, k, d, count, reversed, none);
     return surface_real_finish(light, stack);
+}
+
+static surface_real_Known sheet_answers_presets_mgf2(double design_wavelength_nm, gate_limits_Surface surface,
+        double wavelength_nm) {
+    thin_film_solver_ThinFilmLayer m = thin_film_presets_quarter_wave(1.38, design_wavelength_nm);
+    f64_x16 n;
+    for (size_t each = 0; each < 16; each++) {
+        n.at[each] = m.n;
+    }
+    f64_x16 k;
+    for (size_t each = 0; each < 16; each++) {
+        k.at[each] = m.k;
+    }
+    f64_x16 d;
+    for (size_t each = 0; each < 16; each++) {
+        d.at[each] = m.thickness_nm;
+    }
+    return sheet_answers_presets_layers_powers(&n, &k, &d, 1, surface, wavelength_nm);
+}
+
+static surface_real_Known sheet_answers_presets_broadband(gate_limits_Surface surface, double wavelength_nm) {
+    thin_film_solver_ThinFilmLayer_x4 four = thin_film_presets_broadband();
+    thin_film_solver_ThinFilmLayer a = four.at[0];
+    thin_film_solver_ThinFilmLayer b = four.at[1];
+    thin_film_solver_ThinFilmLayer c = four.at[2];
+    thin_film_solver_ThinFilmLayer e = four.at[3];
+    f64_x16 n = {{a.n, b.n, c.n, e.n, 1.0, 1.0, 1.0, 1.0, 1.0, 1.0, 1.0, 1.0, 1.0, 1.0, 1.0, 1.0}};
+    f64_x16 k = {{a.k, b.k, c.k, e.k, 1.0, 1.0, 1.0, 1.0, 1.0, 1.0, 1.0, 1.0, 1.0, 1.0, 1.0, 1.0}};
+    f64_x16 d = {{a.thickness_nm, b.thickness_nm, c.thickness_nm, e.thickness_nm, 1.0, 1.0, 1.0, 1.0, 1.0, 1.0, 1.0,
+            1.0, 1.0, 1.0, 1.0, 1.0}};
+    return sheet_answers_presets_layers_powers(&n, &k, &d, 4, surface, wavelength_nm);
+}
+
+// A number of H and one of L, in turns.
+static f64_x16 sheet_answers_presets_turns(double h, double l) {
+    return (f64_x16){{h, l, h, l, h, l, h, l, h, l, h, l, h, l, h, l}};
+}
+
+// (H L)^7 H.
+static surface_real_Known sheet_answers_presets_mirror(gate_limits_Surface surface, double wavelength_nm) {
+    thin_film_solver_ThinFilmLayer h = thin_film_presets_quarter_wave(2.3, 550.0);
+    thin_film_solver_ThinFilmLayer l = thin_film_presets_quarter_wave(1.46, 550.0);
+    f64_x16 n = sheet_answers_presets_turns(h.n, l.n);
+    f64_x16 k = sheet_answers_presets_turns(h.k, l.k);
+    f64_x16 d = sheet_answers_presets_turns(h.thickness_nm, l.thickness_nm);
+    return sheet_answers_presets_layers_powers(&n, &k, &d, 15, surface, wavelength_nm);
 }
 
 // The powers of a preset coating, and whether they are known; those of another are not.
@@ -5707,13 +6003,12 @@ static surface_real_Known sheet_answers_presets_preset_powers(thin_film_SurfaceC
     case thin_film_SurfaceCoating_MgF2:
     {
         double design_wavelength_nm = coating.as.MgF2;
-        return sheet_answers_presets_layers_powers(sheet_answers_presets_mgf2(design_wavelength_nm), 1, surface,
-                wavelength_nm);
+        return sheet_answers_presets_mgf2(design_wavelength_nm, surface, wavelength_nm);
     }
     case thin_film_SurfaceCoating_BroadbandAr:
-        return sheet_answers_presets_layers_powers(sheet_answers_presets_broadband(), 4, surface, wavelength_nm);
+        return sheet_answers_presets_broadband(surface, wavelength_nm);
     case thin_film_SurfaceCoating_HighReflectanceMirror:
-        return sheet_answers_presets_layers_powers(sheet_answers_presets_mirror(), 15, surface, wavelength_nm);
+        return sheet_answers_presets_mirror(surface, wavelength_nm);
     case thin_film_SurfaceCoating_IdealAr:
         return sheet_answers_presets_unknown();
     default: // thin_film_SurfaceCoating_Custom
@@ -5721,18 +6016,31 @@ static surface_real_Known sheet_answers_presets_preset_powers(thin_film_SurfaceC
     }
 }
 
-// The n layers after the block at a place, at a wavelength, in the sheet's order: read in one walk.
-static thin_film_solver_ThinFilmLayer_x16 sheet_answers_quick_layers_after(slice_u8 src, uint64_t at, uint64_t n,
-        double wavelength_nm) {
-    thin_film_solver_ThinFilmLayer_x16 layers = {{{0}}};
+// Those at a place, at a wavelength: most layers are LAYERs that stand whole.
+static sheet_answers_quick_Reached sheet_answers_quick_reach(slice_u8 src, uint64_t at, double wavelength_nm) {
+    sheet_PlainFloats floats = sheet_plain_floats(src, at);
+    if (floats.stands) {
+        thin_film_solver_ThinFilmLayer layer = {.n = floats.first, .k = floats.second, .thickness_nm = floats.third};
+        return (sheet_answers_quick_Reached){.layer = layer, .next = at + 7};
+    }
+    thin_film_solver_ThinFilmLayer layer_2 = sheet_values_layer_at(src, at, wavelength_nm);
+    return (sheet_answers_quick_Reached){.layer = layer_2, .next = sheet_next_place(src, at)};
+}
+
+// The numbers of count layers after the block at a place, at a wavelength, in the sheet's order: read in one walk.
+static void sheet_answers_quick_read_layers(slice_u8 src, uint64_t at, uint64_t count, double wavelength_nm,
+        f64_x16 *n, f64_x16 *k, f64_x16 *d) {
     uint64_t place = sheet_next_place(src, at);
     uint64_t i = 0;
-    while (i < n) {
-        layers.at[i] = sheet_values_layer_at(src, place, wavelength_nm);
-        place = sheet_next_place(src, place);
+    while (i < count) {
+        sheet_answers_quick_Reached reached = sheet_answers_quick_reach(src, place, wavelength_nm);
+        thin_film_solver_ThinFilmLayer layer = reached.layer;
+        n->at[i] = layer.n;
+        k->at[i] = layer.k;
+        d->at[i] = layer.thickness_nm;
+        place = reached.next;
         i = i + 1;
     }
-    return layers;
 }
 
 // The products of the n films after the block at a place, in their order or reversed, one by one: for one or two films
@@ -5759,9 +6067,22 @@ static surface_real_Known sheet_answers_quick_quick_powers(slice_u8 src, uint64_
     if (n <= 2) {
         return surface_real_finish(light, sheet_answers_quick_stack_at(src, at, n, reversed, wavelength_nm, light));
     }
-    thin_film_solver_ThinFilmLayer_x16 layers = sheet_answers_quick_layers_after(src, at, n, wavelength_nm);
+    f64_x16 indices;
+    for (size_t each = 0; each < 16; each++) {
+        indices.at[each] = 1.0;
+    }
+    f64_x16 absorbing;
+    for (size_t each = 0; each < 16; each++) {
+        absorbing.at[each] = 1.0;
+    }
+    f64_x16 thicknesses;
+    for (size_t each = 0; each < 16; each++) {
+        thicknesses.at[each] = 1.0;
+    }
+    sheet_answers_quick_read_layers(src, at, n, wavelength_nm, &indices, &absorbing, &thicknesses);
     surface_real_Stack none = surface_real_no_films();
-    surface_real_Stack stack = surface_real_films_join_all(light, layers, n, reversed, none);
+    surface_real_Stack stack = surface_real_films_join_all(light, &indices, &absorbing, &thicknesses, n, reversed,
+            none);
     return surface_real_finish(light, stack);
 }
 
@@ -5950,27 +6271,131 @@ static bool gate_metal_holds(slice_u8 src, uint64_t at, double wavelength_nm) {
     return gate_metal_layers(src, sheet_next_place(src, at), n, wavelength_nm);
 }
 
+// A place that is kept, as a place.
+static uint64_t gate_wide(uint16_t place) {
+    return (uint64_t)place;
+}
+
 // The sine and the cosine of the SURFACE at a place, from the i-th that are kept, if these are its own.
-static math_trig_SinCos gate_kept_at(uint64_t at, double angle_rad, uint64_t i, const u64_x64 *places,
+static math_trig_SinCos gate_kept_at(uint64_t at, double angle_rad, uint64_t i, const u16_x64 *places,
         const f64_x64 *sines, const f64_x64 *cosines) {
     uint64_t j = i % 64;
-    if (0 < at) {
-        if (places->at[j] == at) {
+    if (1 < at) {
+        if (gate_wide(places->at[j]) == at) {
             return (math_trig_SinCos){.sin = sines->at[j], .cos = cosines->at[j]};
         }
     }
     return math_trig_sin_cos(angle_rad);
 }
 
-// The SURFACE at a place is judged, and its sine and cosine are the i-th that are kept.
-static gate_limits_Judgement gate_judge_keeping(slice_u8 src, uint64_t at, uint64_t i, u64_x64 *places,
-        f64_x64 *sines, f64_x64 *cosines) {
-    gate_limits_Surface surface = sheet_values_surface_at(src, at);
-    math_trig_SinCos theta = math_trig_sin_cos(surface.angle_rad);
+// Whether an angle is small enough to be worked out together with others.
+static bool gate_near(double angle_rad) {
+    return angle_rad < 1048576.0 && -1048576.0 < angle_rad;
+}
+
+// The SURFACE at a place.
+static gate_Note gate_noted(slice_u8 src, uint64_t at) {
+    if (at < 0x10000) {
+        double angle_rad = sheet_float_from(src, at + 5);
+        if (gate_near(angle_rad)) {
+            return (gate_Note){.place = (uint16_t)at, .angle_rad = angle_rad};
+        }
+    }
+    return (gate_Note){.place = 1, .angle_rad = 0.0};
+}
+
+// n SURFACEs, the first of which begins at a place: each is noted. Where the next one begins.
+static uint64_t gate_gather(slice_u8 src, uint64_t begin, uint64_t n, u16_x16 *places, f64_x16 *angles) {
+    uint64_t at = begin;
+    uint64_t i = 0;
+    while (i < n) {
+        uint64_t surface = sheet_onto(src, at);
+        gate_Note one = gate_noted(src, surface);
+        places->at[i] = one.place;
+        angles->at[i] = one.angle_rad;
+        at = sheet_after_layers(src, surface);
+        i = i + 1;
+    }
+    return at;
+}
+
+// The sines and cosines of n SURFACEs are kept, from the i-th on.
+static void gate_keep_each(uint64_t i, uint64_t n, const u16_x16 *at, const f64_x16 *sin, const f64_x16 *cos,
+        u16_x64 *places, f64_x64 *sines, f64_x64 *cosines) {
+    uint64_t k = 0;
+    while (k < n) {
+        uint64_t j = (i + k) % 64;
+        places->at[j] = at->at[k];
+        sines->at[j] = sin->at[k];
+        cosines->at[j] = cos->at[k];
+        k = k + 1;
+    }
+}
+
+// Those of n SURFACEs, the first of which begins at a place, worked out together. Where the next one begins.
+static uint64_t gate_keep_some(slice_u8 src, uint64_t begin, uint64_t i, uint64_t n, u16_x64 *places, f64_x64 *sines,
+        f64_x64 *cosines) {
+    u16_x16 at;
+    for (size_t each = 0; each < 16; each++) {
+        at.at[each] = 1;
+    }
+    f64_x16 angles;
+    for (size_t each = 0; each < 16; each++) {
+        angles.at[each] = 1.0;
+    }
+    uint64_t next = gate_gather(src, begin, n, &at, &angles);
+    f64_x16 sin;
+    for (size_t each = 0; each < 16; each++) {
+        sin.at[each] = 1.0;
+    }
+    f64_x16 cos;
+    for (size_t each = 0; each < 16; each++) {
+        cos.at[each] = 1.0;
+    }
+    math_waves_sin_cos(&angles, n, &sin, &cos);
+    gate_keep_each(i, n, &at, &sin, &cos, places, sines, cosines);
+    return next;
+}
+
+static uint64_t gate_at_most_16(uint64_t n) {
+    if (n < 16) {
+        return n;
+    }
+    return 16;
+}
+
+// Those of all SURFACEs of a sheet in grammar with a count of them, 16 at a time. One or two are left to be worked out alone.
+static void gate_keep(slice_u8 src, uint64_t count, u16_x64 *places, f64_x64 *sines, f64_x64 *cosines) {
+    if (count < 3) {
+        return;
+    }
+    uint64_t begin = sheet_begin_of(src, 0);
+    uint64_t i = 0;
+    while (i < count) {
+        uint64_t n = gate_at_most_16(count - i);
+        begin = gate_keep_some(src, begin, i, n, places, sines, cosines);
+        i = i + n;
+    }
+}
+
+// The sine and the cosine of the SURFACE at a place are the i-th that are kept.
+static void gate_keep_one(uint64_t at, math_trig_SinCos theta, uint64_t i, u16_x64 *places, f64_x64 *sines,
+        f64_x64 *cosines) {
+    if (0x10000 <= at) {
+        return;
+    }
     uint64_t j = i % 64;
-    places->at[j] = at;
+    places->at[j] = (uint16_t)at;
     sines->at[j] = theta.sin;
     cosines->at[j] = theta.cos;
+}
+
+// The SURFACE at a place is judged, and its sine and cosine are the i-th that are kept.
+static gate_limits_Judgement gate_judge_keeping(slice_u8 src, uint64_t at, uint64_t i, u16_x64 *places,
+        f64_x64 *sines, f64_x64 *cosines) {
+    gate_limits_Surface surface = sheet_values_surface_at(src, at);
+    math_trig_SinCos theta = gate_kept_at(at, surface.angle_rad, i, places, sines, cosines);
+    gate_keep_one(at, theta, i, places, sines, cosines);
     return gate_limits_judge_with(surface, theta);
 }
 
@@ -5988,7 +6413,7 @@ static bool gate_cauchy_stands(slice_u8 src, uint64_t at, uint64_t surface, doub
 
 // The block at a place, at a wavelength and after the SURFACE at another, which was the i-th.
 static gate_Passage gate_judge(slice_u8 src, uint64_t at, uint64_t surface, double wavelength_nm, double snell,
-        uint64_t i, u64_x64 *places, f64_x64 *sines, f64_x64 *cosines) {
+        uint64_t i, u16_x64 *places, f64_x64 *sines, f64_x64 *cosines) {
     uint32_t kind = sheet_kind_at(src, at);
     if (kind == 2) {
         sheet_values_Beam beam = sheet_values_beam_at(src, at);
@@ -6014,6 +6439,63 @@ static gate_Passage gate_judge(slice_u8 src, uint64_t at, uint64_t surface, doub
     return (gate_Passage){.passes = true, .snell = snell, .surface = surface};
 }
 
+// A whole LAYER stands at a place, and is within section 3's limits.
+static bool gate_plain_fits(slice_u8 src, uint64_t at, double snell) {
+    sheet_PlainFloats floats = sheet_plain_floats_again(src, at);
+    if (!floats.stands) {
+        return false;
+    }
+    thin_film_solver_ThinFilmLayer layer = {.n = floats.first, .k = floats.second, .thickness_nm = floats.third};
+    return gate_limits_layer_within(snell, layer);
+}
+
+// The place after such ones from a place on, 16 at the most.
+static uint64_t gate_after_plain(slice_u8 src, uint64_t at, double snell) {
+    uint64_t place = at;
+    uint64_t i = 0;
+    while (i < 16) {
+        if (!gate_plain_fits(src, place, snell)) {
+            return place;
+        }
+        place = place + 7;
+        i = i + 1;
+    }
+    return place;
+}
+
+// The same of kinds 6, at a wavelength.
+static bool gate_cauchy_fits(slice_u8 src, uint64_t at, double wavelength_nm, double snell) {
+    if (sheet_kind_at(src, at) != 6) {
+        return false;
+    }
+    return gate_cauchy_passes(wavelength_nm, snell, sheet_values_cauchy_at(src, at));
+}
+
+static uint64_t gate_after_cauchy(slice_u8 src, uint64_t at, double wavelength_nm, double snell) {
+    uint64_t place = at;
+    uint64_t i = 0;
+    while (i < 16) {
+        if (!gate_cauchy_fits(src, place, wavelength_nm, snell)) {
+            return place;
+        }
+        place = sheet_next_place(src, place);
+        i = i + 1;
+    }
+    return place;
+}
+
+// The place after those of the kind that stands at a place.
+static uint64_t gate_after_fitting(slice_u8 src, uint64_t at, double wavelength_nm, double snell) {
+    uint32_t kind = sheet_kind_at(src, at);
+    if (kind == 4) {
+        return gate_after_plain(src, at, snell);
+    }
+    if (kind == 6) {
+        return gate_after_cauchy(src, at, wavelength_nm, snell);
+    }
+    return at;
+}
+
 // One more of 64 where a SURFACE has taken the place of another.
 static uint64_t gate_next_slot(uint64_t i, uint64_t before, uint64_t surface) {
     if (surface == before) {
@@ -6023,7 +6505,7 @@ static uint64_t gate_next_slot(uint64_t i, uint64_t before, uint64_t surface) {
 }
 
 // The limits of a sheet that is in grammar, block after block, each layer at the wavelength that its SURFACE is met with.
-static gate_Gated gate_limits(slice_u8 src, uint32_t count, u64_x64 *places, f64_x64 *sines, f64_x64 *cosines) {
+static gate_Gated gate_limits(slice_u8 src, uint32_t count, u16_x64 *places, f64_x64 *sines, f64_x64 *cosines) {
     uint64_t total = src.count / 4;
     sheet_values_Beam beam = sheet_values_beam_of(src);
     double wavelength_nm = beam.wavelength_nm;
@@ -6040,19 +6522,20 @@ static gate_Gated gate_limits(slice_u8 src, uint32_t count, u64_x64 *places, f64
         i = gate_next_slot(i, surface, passage.surface);
         snell = passage.snell;
         surface = passage.surface;
-        at = sheet_next_place(src, at);
+        at = gate_after_fitting(src, sheet_next_place(src, at), wavelength_nm, snell);
     }
     return (gate_Gated){.tag = gate_Gated_Admitted, .as.Admitted = count};
 }
 
-// The gate: the length, then the grammar, then the limits. What is kept stays right.
-static gate_Gated gate_gate_keeping(slice_u8 src, u64_x64 *places, f64_x64 *sines, f64_x64 *cosines) {
+// The gate: the length, then the grammar, then the limits. What is kept has to be right, and stays so.
+static gate_Gated gate_gate_keeping(slice_u8 src, u16_x64 *places, f64_x64 *sines, f64_x64 *cosines) {
     if (!gate_length_fits(src)) {
         return (gate_Gated){.tag = gate_Gated_Refused, .as.Refused = {.number = 4, .place = 0}};
     }
     sheet_Verdict value = sheet_grammar(src);
     if (value.tag == sheet_Verdict_Whole) {
         uint32_t count = value.as.Whole;
+        gate_keep(src, (uint64_t)count, places, sines, cosines);
         return gate_limits(src, count, places, sines, cosines);
     }
     uint64_t place = value.as.Fault;
@@ -6061,9 +6544,18 @@ static gate_Gated gate_gate_keeping(slice_u8 src, u64_x64 *places, f64_x64 *sine
 
 // The gate alone.
 static gate_Gated gate_gate(slice_u8 src) {
-    u64_x64 places = {{0}};
-    f64_x64 sines = {{0}};
-    f64_x64 cosines = {{0}};
+    u16_x64 places;
+    for (size_t each = 0; each < 64; each++) {
+        places.at[each] = 1;
+    }
+    f64_x64 sines;
+    for (size_t each = 0; each < 64; each++) {
+        sines.at[each] = 1.0;
+    }
+    f64_x64 cosines;
+    for (size_t each = 0; each < 64; each++) {
+        cosines.at[each] = 1.0;
+    }
     return gate_gate_keeping(src, &places, &sines, &cosines);
 }
 
@@ -6357,7 +6849,7 @@ static train_steps_Chosen train_steps_chosen_at(slice_u8 src, uint64_t at, uint6
 
 // The same with the sine and the cosine that the gate kept of the i-th surface.
 static train_steps_Chosen train_steps_chosen_kept(slice_u8 src, uint64_t at, uint64_t n, double wavelength_nm,
-        uint64_t i, const u64_x64 *places, const f64_x64 *sines, const f64_x64 *cosines) {
+        uint64_t i, const u16_x64 *places, const f64_x64 *sines, const f64_x64 *cosines) {
     gate_limits_Surface surface = sheet_values_surface_at(src, at);
     math_trig_SinCos theta = gate_kept_at(at, surface.angle_rad, i, places, sines, cosines);
     sheet_answers_PowersReply reply = sheet_answers_powers_with_angle(src, at, n, surface, theta, wavelength_nm);
@@ -6372,7 +6864,7 @@ static train_steps_State train_steps_moved(train_steps_Chosen c, double waveleng
 
 // The state after the surface that begins at a place, which is met with its own kind 7's wavelength or the one held.
 static train_steps_State train_steps_moved_at(slice_u8 src, uint64_t begin, train_steps_State state,
-        const u64_x64 *places, const f64_x64 *sines, const f64_x64 *cosines) {
+        const u16_x64 *places, const f64_x64 *sines, const f64_x64 *cosines) {
     double wavelength_nm = sheet_values_met_with(src, begin, state.wavelength_nm);
     uint64_t at = sheet_onto(src, begin);
     uint64_t n = sheet_layer_run(src, at);
@@ -6383,9 +6875,18 @@ static train_steps_State train_steps_moved_at(slice_u8 src, uint64_t begin, trai
 
 // One surface on from any state; a refusal leaves the state as it was.
 static train_steps_TrainReply train_steps_step(slice_u8 src, train_steps_State state) {
-    u64_x64 places = {{0}};
-    f64_x64 sines = {{0}};
-    f64_x64 cosines = {{0}};
+    u16_x64 places;
+    for (size_t each = 0; each < 64; each++) {
+        places.at[each] = 1;
+    }
+    f64_x64 sines;
+    for (size_t each = 0; each < 64; each++) {
+        sines.at[each] = 1.0;
+    }
+    f64_x64 cosines;
+    for (size_t each = 0; each < 64; each++) {
+        cosines.at[each] = 1.0;
+    }
     gate_Gated value = gate_gate_keeping(src, &places, &sines, &cosines);
     if (value.tag == gate_Gated_Admitted) {
         uint32_t count = value.as.Admitted;
@@ -6422,7 +6923,7 @@ static train_steps_TrainReply train_steps_retune(slice_u8 src, train_steps_State
 }
 
 // The powers after each of count surfaces, written to a list that has room for them.
-static void train_steps_write_each(slice_u8 src, uint64_t count, const u64_x64 *places, const f64_x64 *sines,
+static void train_steps_write_each(slice_u8 src, uint64_t count, const u16_x64 *places, const f64_x64 *sines,
         const f64_x64 *cosines, slice_mut_f64 list) {
     sheet_values_Beam beam = sheet_values_beam_of(src);
     double s = beam.s;
@@ -6447,9 +6948,18 @@ static void train_steps_write_each(slice_u8 src, uint64_t count, const u64_x64 *
 
 // A run over the whole sheet from its start: s, p after each surface go to the lent list.
 static gate_Gated train_steps_run(slice_u8 src, slice_mut_f64 list) {
-    u64_x64 places = {{0}};
-    f64_x64 sines = {{0}};
-    f64_x64 cosines = {{0}};
+    u16_x64 places;
+    for (size_t each = 0; each < 64; each++) {
+        places.at[each] = 1;
+    }
+    f64_x64 sines;
+    for (size_t each = 0; each < 64; each++) {
+        sines.at[each] = 1.0;
+    }
+    f64_x64 cosines;
+    for (size_t each = 0; each < 64; each++) {
+        cosines.at[each] = 1.0;
+    }
     gate_Gated value = gate_gate_keeping(src, &places, &sines, &cosines);
     if (value.tag == gate_Gated_Admitted) {
         uint32_t count = value.as.Admitted;
@@ -6466,11 +6976,12 @@ static gate_Gated train_steps_run(slice_u8 src, slice_mut_f64 list) {
 
 // ==== train_lines
 //
-// A train at 16 lines of a band at once: surface after surface, and at each of them all lines together, so that what does
-// not hang on the wavelength is worked out once. Each line's state is that of train_steps.
+// A train at up to 64 lines of a band: surface after surface, and at each of them all lines, sixteen at once, so that what
+// does not hang on the wavelength is worked out once. Each line's state is that of train_steps.
 
-// Whether the n layers from a place on are of kind 4 and do not absorb.
-static bool train_lines_steady(slice_u8 src, uint64_t at, uint64_t n) {
+// The admittances and the thicknesses of the n layers from a place on, and whether all are of kind 4 and do not absorb.
+static bool train_lines_media_at(slice_u8 src, uint64_t at, uint64_t n, thin_film_solver_Incidence light,
+        f64_x16 *eta_s, f64_x16 *eta_p, f64_x16 *thickness_nm) {
     uint64_t place = at;
     uint64_t i = 0;
     while (i < n) {
@@ -6481,151 +6992,189 @@ static bool train_lines_steady(slice_u8 src, uint64_t at, uint64_t n) {
         if (!(layer.k == 0.0)) {
             return false;
         }
+        surface_real_Medium medium = surface_real_medium_of(light, layer);
+        eta_s->at[i] = medium.eta_s;
+        eta_p->at[i] = medium.eta_p;
+        thickness_nm->at[i] = layer.thickness_nm;
         place = sheet_next_place(src, place);
         i = i + 1;
     }
     return true;
 }
 
-// The products of the n layers of kind 4 after the block at a place at each line, in their order or reversed.
-static surface_lines_Stacks train_lines_stacks_at(slice_u8 src, uint64_t at, uint64_t n, bool reversed,
-        thin_film_solver_Incidence light, f64_x16 nm) {
-    uint64_t from = sheet_next_place(src, at);
-    surface_lines_Stacks stacks = surface_lines_no_lines();
+// Whether all of n lines can be evaluated.
+static bool train_lines_valid_lines(gate_limits_Surface surface, uint64_t n, const f64_x16 *nm) {
+    bool valid = true;
     uint64_t i = 0;
     while (i < n) {
-        uint64_t j = thin_film_layers_nth_index(reversed, n, i);
-        thin_film_solver_ThinFilmLayer layer = sheet_values_plain_at(src, sheet_place_on(src, from, j));
-        stacks = surface_lines_join_lines(stacks, light, layer, nm);
+        valid = valid & thin_film_valid_valid(surface.n_incident, surface.n_substrate, surface.angle_rad, nm->at[i]);
         i = i + 1;
     }
-    return stacks;
+    return valid;
 }
 
-// The powers at one line, of the surface at a place with n layers: from their product where that tells, or else as a run has them.
-static train_steps_Chosen train_lines_chosen_line(slice_u8 src, uint64_t at, uint64_t n, gate_limits_Surface surface,
-        thin_film_solver_Incidence light, surface_real_Stack stack) {
-    if (thin_film_valid_valid(surface.n_incident, surface.n_substrate, surface.angle_rad, light.wavelength_nm)) {
-        surface_real_Known last = surface_real_finish(light, stack);
-        if (last.known) {
-            surface_Powers powers = last.powers;
-            return train_steps_choose(surface.reflected, powers);
-        }
-        return train_steps_chosen_at(src, at, n, light.wavelength_nm);
+// The powers at each of n lines that s and p are multiplied by, one after the other.
+static void train_lines_each_line(slice_u8 src, uint64_t at, uint64_t many, uint64_t n, const f64_x16 *nm, f64_x16 *s,
+        f64_x16 *p) {
+    uint64_t i = 0;
+    while (i < n) {
+        train_steps_Chosen c = train_steps_chosen_at(src, at, many, nm->at[i]);
+        s->at[i] = c.s;
+        p->at[i] = c.p;
+        i = i + 1;
     }
-    return train_steps_chosen_at(src, at, n, light.wavelength_nm);
 }
 
-// Those at each line, of a surface with n layers of kind 4.
-static train_lines_Lines train_lines_quick_lines(slice_u8 src, uint64_t at, uint64_t n, gate_limits_Surface surface,
-        f64_x16 nm) {
-    thin_film_solver_Incidence light = thin_film_solver_Incidence_new(surface.n_incident, surface.n_substrate,
-            surface.angle_rad, 500.0);
+// The same all at once, and whether they are known: where the surface's films are steady, and all lines can be evaluated.
+static bool train_lines_quick_lines(gate_limits_Surface surface, surface_lines_Sides sides, bool steady,
+        const f64_x16 *eta_s, const f64_x16 *eta_p, const f64_x16 *thickness_nm, uint64_t many, uint64_t n,
+        const f64_x16 *nm, f64_x16 *s, f64_x16 *p) {
+    if (!steady) {
+        return false;
+    }
+    if (!train_lines_valid_lines(surface, n, nm)) {
+        return false;
+    }
     bool reversed = surface.n_substrate < surface.n_incident;
-    surface_lines_Stacks stacks = train_lines_stacks_at(src, at, n, reversed, light, nm);
-    f64_x16 s = {{0}};
-    f64_x16 p = {{0}};
+    bool reflected = surface.reflected;
+    return surface_lines_powers(sides, reflected, eta_s, eta_p, thickness_nm, many, reversed, n, nm, s, p);
+}
+
+// The powers at each of n lines: all at once, or else one after the other.
+static void train_lines_chosen_lines(slice_u8 src, uint64_t at, uint64_t many, gate_limits_Surface surface,
+        surface_lines_Sides sides, bool steady, const f64_x16 *eta_s, const f64_x16 *eta_p,
+        const f64_x16 *thickness_nm, uint64_t n, const f64_x16 *nm, f64_x16 *s, f64_x16 *p) {
+    bool value = train_lines_quick_lines(surface, sides, steady, eta_s, eta_p, thickness_nm, many, n, nm, s, p);
+    if (value) {
+        return;
+    }
+    train_lines_each_line(src, at, many, n, nm, s, p);
+}
+
+// The wavelength that the surface that begins at a place is met with, at the first n lines.
+static void train_lines_met_lines(slice_u8 src, uint64_t begin, uint64_t n, f64_x64 *nm) {
+    uint64_t i = 0;
+    while (i < n) {
+        nm->at[i] = sheet_values_met_with(src, begin, nm->at[i]);
+        i = i + 1;
+    }
+}
+
+// Sixteen of them.
+static void train_lines_sixteen(const f64_x64 *nm, uint64_t from, f64_x16 *some) {
     uint64_t i = 0;
     while (i < 16) {
-        thin_film_solver_Incidence here = {.n_incident = light.n_incident, .n_substrate = light.n_substrate,
-                .cos_theta0 = light.cos_theta0, .snell = light.snell, .wavelength_nm = nm.at[i]};
-        train_steps_Chosen c = train_lines_chosen_line(src, at, n, surface, here, surface_lines_line_of(stacks, i));
-        s.at[i] = c.s;
-        p.at[i] = c.p;
+        some->at[i] = nm->at[from + i];
         i = i + 1;
     }
-    return (train_lines_Lines){.s = s, .p = p};
 }
 
-// Those at each line, one after the other.
-static train_lines_Lines train_lines_each_line(slice_u8 src, uint64_t at, uint64_t n, f64_x16 nm) {
-    f64_x16 p = {{0}};
-    f64_x16 i = {{0}};
-    uint64_t c = 0;
-    while (c < 16) {
-        train_steps_Chosen value = train_steps_chosen_at(src, at, n, nm.at[c]);
-        p.at[c] = value.s;
-        i.at[c] = value.p;
-        c = c + 1;
+// Each of n places from one on, times that of a surface.
+static void train_lines_multiply(const f64_x16 *by, uint64_t from, uint64_t n, f64_x64 *x) {
+    uint64_t i = 0;
+    while (i < n) {
+        x->at[from + i] = x->at[from + i] * by->at[i];
+        i = i + 1;
     }
-    return (train_lines_Lines){.s = p, .p = i};
 }
 
-// The powers at each line that s and p are multiplied by, of the surface at a place with the n layers after it.
-static train_lines_Lines train_lines_chosen_lines(slice_u8 src, uint64_t at, uint64_t n, f64_x16 nm) {
-    gate_limits_Surface surface = sheet_values_surface_at(src, at);
+// Sixteen lines, or as many as are left of n.
+static void train_lines_some_lines(slice_u8 src, uint64_t at, uint64_t many, gate_limits_Surface surface,
+        surface_lines_Sides sides, bool steady, const f64_x16 *eta_s, const f64_x16 *eta_p,
+        const f64_x16 *thickness_nm, uint64_t from, uint64_t n, const f64_x64 *nm, f64_x64 *s, f64_x64 *p) {
+    uint64_t left = n - from;
+    uint64_t few;
+    if (left < 16) {
+        few = left;
+    } else {
+        few = 16;
+    }
+    f64_x16 some;
+    for (size_t each = 0; each < 16; each++) {
+        some.at[each] = 1.0;
+    }
+    f64_x16 by_s;
+    for (size_t each = 0; each < 16; each++) {
+        by_s.at[each] = 1.0;
+    }
+    f64_x16 by_p;
+    for (size_t each = 0; each < 16; each++) {
+        by_p.at[each] = 1.0;
+    }
+    train_lines_sixteen(nm, from, &some);
+    train_lines_chosen_lines(src, at, many, surface, sides, steady, eta_s, eta_p, thickness_nm, few, &some, &by_s,
+            &by_p);
+    train_lines_multiply(&by_s, from, few, s);
+    train_lines_multiply(&by_p, from, few, p);
+}
+
+// All of n lines.
+static void train_lines_all_lines(slice_u8 src, uint64_t at, uint64_t many, gate_limits_Surface surface,
+        surface_lines_Sides sides, bool steady, const f64_x16 *eta_s, const f64_x16 *eta_p,
+        const f64_x16 *thickness_nm, uint64_t n, const f64_x64 *nm, f64_x64 *s, f64_x64 *p) {
+    uint64_t from = 0;
+    while (from < n) {
+        train_lines_some_lines(src, at, many, surface, sides, steady, eta_s, eta_p, thickness_nm, from, n, nm, s, p);
+        from = from + 16;
+    }
+}
+
+// Whether the surface at a place has many films whose powers are worked out here, with their media.
+static bool train_lines_steady_at(slice_u8 src, uint64_t at, uint64_t many, gate_limits_Surface surface,
+        thin_film_solver_Incidence light, f64_x16 *eta_s, f64_x16 *eta_p, f64_x16 *thickness_nm) {
     if (surface.coating == 5) {
-        if (n <= 64) {
-            if (train_lines_steady(src, sheet_next_place(src, at), n)) {
-                return train_lines_quick_lines(src, at, n, surface, nm);
-            }
+        if (many <= 16) {
+            return train_lines_media_at(src, sheet_next_place(src, at), many, light, eta_s, eta_p, thickness_nm);
         }
     }
-    return train_lines_each_line(src, at, n, nm);
+    return false;
 }
 
-// The wavelength that the surface that begins at a place is met with, at each line.
-static f64_x16 train_lines_met_lines(slice_u8 src, uint64_t begin, f64_x16 nm) {
-    f64_x16 i = {{0}};
-    uint64_t value = 0;
-    while (value < 16) {
-        i.at[value] = sheet_values_met_with(src, begin, nm.at[value]);
-        value = value + 1;
+// After the SURFACE at a place with many layers after it.
+static void train_lines_moved_lines(slice_u8 src, uint64_t at, uint64_t many, uint64_t n, const f64_x64 *nm,
+        f64_x64 *s, f64_x64 *p) {
+    gate_limits_Surface surface = sheet_values_surface_at(src, at);
+    thin_film_solver_Incidence light = thin_film_solver_Incidence_new(surface.n_incident, surface.n_substrate,
+            surface.angle_rad, 500.0);
+    f64_x16 eta_s;
+    for (size_t each = 0; each < 16; each++) {
+        eta_s.at[each] = 1.0;
     }
-    return i;
-}
-
-// Place by place.
-static f64_x16 train_lines_multiplied(f64_x16 x, f64_x16 y) {
-    f64_x16 z = y;
-    f64_x16 i = {{0}};
-    uint64_t value = 0;
-    while (value < 16) {
-        i.at[value] = x.at[value] * z.at[value];
-        value = value + 1;
+    f64_x16 eta_p;
+    for (size_t each = 0; each < 16; each++) {
+        eta_p.at[each] = 1.0;
     }
-    return i;
+    f64_x16 thickness_nm;
+    for (size_t each = 0; each < 16; each++) {
+        thickness_nm.at[each] = 1.0;
+    }
+    surface_lines_Sides sides = surface_lines_sides_of(light);
+    bool steady = train_lines_steady_at(src, at, many, surface, light, &eta_s, &eta_p, &thickness_nm);
+    train_lines_all_lines(src, at, many, surface, sides, steady, &eta_s, &eta_p, &thickness_nm, n, nm, s, p);
 }
 
-// After the surface that begins at a place: the SURFACE with the n layers after it is at another.
-static train_lines_Course train_lines_moved_lines(slice_u8 src, uint64_t begin, uint64_t at, uint64_t n,
-        train_lines_Course course) {
-    f64_x16 held = course.nm;
-    f64_x16 s = course.s;
-    f64_x16 p = course.p;
-    f64_x16 nm = train_lines_met_lines(src, begin, held);
-    train_lines_Lines by = train_lines_chosen_lines(src, at, n, nm);
-    f64_x16 by_s = by.s;
-    f64_x16 by_p = by.p;
-    f64_x16 next_s = train_lines_multiplied(s, by_s);
-    f64_x16 next_p = train_lines_multiplied(p, by_p);
-    return (train_lines_Course){.nm = nm, .s = next_s, .p = next_p};
-}
-
-// s and p at each line after count surfaces from the start, with a line's wavelength in place of the BEAM's; it gates nothing.
-static train_lines_Lines train_lines_run_lines(slice_u8 src, uint32_t count, f64_x16 nm) {
+// s and p at each of n lines after count surfaces from the start, with a line's wavelength in place of the BEAM's; it gates nothing.
+static void train_lines_run_lines(slice_u8 src, uint32_t count, uint64_t n, f64_x64 *nm, f64_x64 *s, f64_x64 *p) {
+    if (64 < n) {
+        return;
+    }
     sheet_values_Beam beam = sheet_values_beam_of(src);
-    f64_x16 value;
-    for (size_t each = 0; each < 16; each++) {
-        value.at[each] = beam.s;
+    for (size_t each = 0; each < 64; each++) {
+        (*s).at[each] = beam.s;
     }
-    f64_x16 value_2;
-    for (size_t each = 0; each < 16; each++) {
-        value_2.at[each] = beam.p;
+    for (size_t each = 0; each < 64; each++) {
+        (*p).at[each] = beam.p;
     }
-    train_lines_Course course = {.nm = nm, .s = value, .p = value_2};
     uint64_t begin = sheet_begin_of(src, 0);
     uint32_t i = 0;
     while (i < count) {
         uint64_t at = sheet_onto(src, begin);
-        uint64_t n = sheet_layer_run(src, at);
-        course = train_lines_moved_lines(src, begin, at, n, course);
-        begin = sheet_place_on(src, at, n + 1);
+        uint64_t many = sheet_layer_run(src, at);
+        train_lines_met_lines(src, begin, n, nm);
+        train_lines_moved_lines(src, at, many, n, nm, s, p);
+        begin = sheet_place_on(src, at, many + 1);
         i = i + 1;
     }
-    f64_x16 s = course.s;
-    f64_x16 p = course.p;
-    return (train_lines_Lines){.s = s, .p = p};
 }
 
 // ==== band
@@ -6723,42 +7272,41 @@ static double band_nth_nm(slice_f64 wavelengths, uint64_t i) {
     return 500.0;
 }
 
-// Sixteen wavelengths from one on.
-static f64_x16 band_sixteen_nm(slice_f64 wavelengths, uint64_t from) {
-    f64_x16 nm = {{0}};
+// All wavelengths, in places.
+static void band_all_nm(slice_f64 wavelengths, f64_x64 *nm) {
     uint64_t i = 0;
-    while (i < 16) {
-        nm.at[i] = band_nth_nm(wavelengths, from + i);
+    while (i < 64) {
+        nm->at[i] = band_nth_nm(wavelengths, i);
         i = i + 1;
     }
-    return nm;
-}
-
-// The trains at the sixteen lines that the i-th is among, from their start to their last surface: run at the first of them.
-static train_lines_Lines band_lines_at(slice_u8 src, uint32_t count, slice_f64 wavelengths, uint64_t i,
-        train_lines_Lines before) {
-    if (i % 16 == 0) {
-        return train_lines_run_lines(src, count, band_sixteen_nm(wavelengths, i));
-    }
-    return before;
 }
 
 // Each weight times each power is added up in the order of the lines, onto +0; the totals are divided by
 // the sum of the weights.
 static band_BandPowers band_weighed(slice_u8 src, uint32_t count, slice_f64 wavelengths, slice_u32 weights) {
     uint64_t n = wavelengths.count;
+    f64_x64 nm;
+    for (size_t each = 0; each < 64; each++) {
+        nm.at[each] = 1.0;
+    }
+    f64_x64 of_s;
+    for (size_t each = 0; each < 64; each++) {
+        of_s.at[each] = 1.0;
+    }
+    f64_x64 of_p;
+    for (size_t each = 0; each < 64; each++) {
+        of_p.at[each] = 1.0;
+    }
+    band_all_nm(wavelengths, &nm);
+    train_lines_run_lines(src, count, n, &nm, &of_s, &of_p);
     double s = 0.0;
     double p = 0.0;
     uint32_t whole = 0;
-    train_lines_Lines lines = {.s = {{0}}, .p = {{0}}};
     uint64_t i = 0;
     while (i < n) {
-        lines = band_lines_at(src, count, wavelengths, i, lines);
-        f64_x16 of_s = lines.s;
-        f64_x16 of_p = lines.p;
         uint32_t weight = weights.at[i];
-        s = s + (double)weight * of_s.at[i % 16];
-        p = p + (double)weight * of_p.at[i % 16];
+        s = s + (double)weight * of_s.at[i];
+        p = p + (double)weight * of_p.at[i];
         whole = whole + weight;
         i = i + 1;
     }
