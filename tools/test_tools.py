@@ -175,7 +175,7 @@ class Stale(unittest.TestCase):
 class Everything(Folder):
     """tools/test with parts that are told what to do: its last line is that of `rt ci` only where all of it passed."""
 
-    PARTS = ["check_claims", "guess_table", "test_claims.py", "test_train", "test_sheet.py", "test_python", "test_tools.py", "test_header", "examples", "hostile", "compare", "test_printer.py", "test_release", "cargo"]
+    PARTS = ["check_claims", "guess_table", "test_claims.py", "test_train", "test_sheet.py", "test_python", "test_tools.py", "test_library", "test_header", "examples", "hostile", "compare", "test_printer.py", "test_release", "cargo"]
     RT = """#!/bin/sh
 case $1 in
 ci) echo "some crate proved"; echo "$LAST"; exit "$STATUS" ;;
