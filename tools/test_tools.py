@@ -46,7 +46,7 @@ class Run(Folder):
         self.assertEqual(run(self.folder / "tools/test_train"), (1, "", "tools/test_train: train is not built yet; run: rt check train\n"))
 
     def test_no_toolchain(self):
-        for tool, words in [("run", ["train"]), ("hostile", []), ("examples", []), ("compare", []), ("bench", []), ("library", []), ("test", []), ("test_header", []), ("test_release", [])]:
+        for tool, words in [("run", ["train"]), ("hostile", []), ("examples", []), ("compare", []), ("bench", []), ("library", []), ("test", []), ("test_library", []), ("test_header", []), ("test_release", [])]:
             # commands that the tool may look for before rt, but no rt
             for name in ["cc", "valgrind", "cargo", "rustc", "python3", "objcopy"]:
                 self.write(f"bin/{name}", "#!/bin/sh\n")
@@ -170,6 +170,30 @@ class Stale(unittest.TestCase):
         library.unlink()
         self.assertEqual(run("bash", "-c", script)[0], 0)
         self.assertTrue(library.exists())
+
+
+class Library(Folder):
+    """tools/test_library over archives that a compiler wrote: it fails where a function is called that they do not have, or nothing is exported."""
+
+    RT = """#!/bin/sh
+case $1 in
+check) mkdir -p target/stamp; shift; for name; do echo 1 > target/stamp/$name; done ;;
+staticlib) mkdir -p target/staticlib; cc -c -x c -o $2.o code.c && ar rc target/staticlib/lib$2.a $2.o ;;
+esac
+"""
+
+    def test_undefined(self):
+        self.write("bin/rt", self.RT)
+        for code, status, said in [
+            ("double dihkelu_half(double x) { return x / 2; }", 0, "1 calls, nothing is undefined"),
+            ("double other(double); double dihkelu_half(double x) { return other(x); }", 1, "undefined in target/staticlib/libc_scalars.a: other"),
+            ("double half(double x) { return x / 2; }", 1, "target/staticlib/libc_scalars.a exports nothing"),
+        ]:
+            with self.subTest(code):
+                shutil.rmtree(self.folder / "target", ignore_errors=True)
+                self.write("code.c", code)
+                found, out, err = run(self.folder / "tools/test_library", PATH=f"{self.folder}/bin:{os.environ['PATH']}")
+                self.assertEqual((found, said in out + err), (status, True), out + err)
 
 
 class Everything(Folder):
