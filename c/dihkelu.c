@@ -1758,7 +1758,7 @@ static double math_waves_turned(double r, double c) {
 
 // Whether an angle is below 2^20 in size, and r, what its first line leaves, within -π..π: seldom is it not.
 static bool math_waves_near(double x, double r) {
-    return x < 1048576.0 & -1048576.0 < x & (!(3.141592653589793 < r) & !(r < -3.141592653589793));
+    return (x < 1048576.0) & (-1048576.0 < x) & (!(3.141592653589793 < r) & !(r < -3.141592653589793));
 }
 
 // The sines and cosines of the first n angles where all are near, and whether they are. cos has the argument of sin up to its

@@ -176,7 +176,7 @@ class Made(unittest.TestCase):
         import re
 
         c = (ROOT / "c" / "dihkelu.c").read_text() + (ROOT / "c" / "train_text.c").read_text()
-        self.assertEqual(set(re.findall(r"\(((?:u?int\d+_t|double|size_t|char|void)(?: \*)?)\)[\w(]", c)) - {"void"}, {"uint8_t", "uint32_t", "uint64_t", "double"})
+        self.assertEqual(set(re.findall(r"\(((?:u?int\d+_t|double|size_t|char|void)(?: \*)?)\)[\w(]", c)) - {"void"}, {"uint8_t", "uint16_t", "uint32_t", "uint64_t", "double"})
 
 
 if __name__ == "__main__":

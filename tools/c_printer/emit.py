@@ -278,7 +278,7 @@ class Printer:
             raise Unknown(e)
         sign, strength = INFIX[op]
         left, right = self.text(a, strength), self.text(b, strength + 1)
-        if op in BITWISE and t != ("bool",):  # what mixes with these has brackets; nobody knows how strongly they bind
+        if op in BITWISE:  # what mixes with these has brackets; nobody knows how strongly they bind
             left, right = (x if same == (op,) else self.text(e, UNARY) for x, same, e in ((left, a[1:2], a), (right, None, b)))
         if op in ARITHMETIC and a[0] == "lit" and (b[0] == "lit" or op == "shl"):
             left = f"UINT{t[1]}_C({a[2]})"
