@@ -250,23 +250,29 @@ pub fn sqrt(x: f64) -> f64
     }
 }
 
-// The square root of x. It is quick for an x from 1 to 2 whose root is near s.
-pub fn sqrt_near(x: f64, s: f64) -> f64
+// The square root of x. It is quick for an x from 1/2 to 2 whose root is n.
+pub fn sqrt_guessed(x: f64, n: f64) -> f64
     ensures { λ r. ⌜ r ≡ squareRoot binary64 x ⌝ }
 {
-    if x >= 1.0 {
+    if x >= 0.5 {
         let bits = f64::to_bits(x);
         if bits < 0x4000_0000_0000_0000 {
-            let n = second_guess(x, s);
-            if n >= 1.0 {
+            if n >= 0.5 {
                 let root = f64::to_bits(n);
-                if root < 0x4000_0000_0000_0000 {
+                if root / 0x10_0000_0000_0000 == bits / 0x10_0000_0000_0000 {
                     if is_root(bits, root) {
-                        return f64::from_bits(root);
+                        return n;
                     }
                 }
             }
         }
     }
     sqrt(x)
+}
+
+// The square root of x. It is quick for an x from 1/2 to 2 whose root is near s.
+pub fn sqrt_near(x: f64, s: f64) -> f64
+    ensures { λ r. ⌜ r ≡ squareRoot binary64 x ⌝ }
+{
+    sqrt_guessed(x, second_guess(x, s))
 }
