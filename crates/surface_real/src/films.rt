@@ -1,5 +1,5 @@
-// Up to 16 films at once. Their numbers stand in arrays, so that divisions and the series of their phases go two at a
-// time; of layers that take turns, as in H L H L, two films are worked out.
+// Up to 16 films at once. Their numbers stand in arrays, so that divisions, guesses at roots and the series of their
+// phases go two at a time; of layers that take turns, as in H L H L, two films are worked out.
 ghost use mathlib.Core.Path.{_≡_};
 ghost use mathlib.Core.List.{List};
 ghost use Prim.Native.Nat.{ℕ, _+_, _≤_, _<_};
@@ -31,21 +31,50 @@ fn radicands(snell: f64, n: &[f64; 16], count: usize, h: &mut [f64; 16])
     }
 }
 
-// The cosine in a film that does not absorb.
-fn root_of(h: f64, k: f64) -> f64
-    ensures { λ r. ⌜ r ≡ root-of h k ⌝ }
-{
-    if k == 0.0 { crate::root(h) } else { 0.0 / 0.0 }
+// A guess at the root of h from 1/2 to 1, of which nothing is proved: a quartic for 1 over the root, and two better ones
+// from it.
+fn guess(h: f64) -> f64 {
+    let square = h * h;
+    let first = (2.9228837662011293 - 5.4349775452710505 * h)
+        + square * ((6.719651141032791 - 4.331924622358352 * h) + 1.1244305836496429 * square);
+    let left = 1.0 - h * first * first;
+    let r = first + first * left * (0.5 + 0.375 * left);
+    let s = h * r;
+    let high = (s + 201326592.0) - 201326592.0;
+    let over = (h - high * high) - (s + high) * (s - high);
+    s + over * (0.5 * r)
 }
 
-// Those of the first films.
-fn roots(h: &[f64; 16], k: &[f64; 16], count: usize, c: &mut [f64; 16])
+// Guesses at the roots of the first. The compiler packs them two by two.
+fn guesses(h: &[f64; 16], count: usize, g: &mut [f64; 16])
+    requires { ⌜ count ≤ 16 ⌝ }
+{
+    let mut i = 0;
+    while i < count {
+        g[i] = guess(h[i]);
+        i += 1;
+    }
+}
+
+// The cosine in a film that does not absorb. It is quick if g is that.
+fn root_of(h: f64, k: f64, g: f64) -> f64
+    ensures { λ r. ⌜ r ≡ root-of h k ⌝ }
+{
+    if k == 0.0 {
+        crate::root_guessed(h, g)
+    } else {
+        0.0 / 0.0
+    }
+}
+
+// Those of the first films, from the guesses g.
+fn roots(h: &[f64; 16], k: &[f64; 16], g: &[f64; 16], count: usize, c: &mut [f64; 16])
     requires { ⌜ count ≤ 16 ⌝ }
     ensures { λ r. ⌜ now (c .exit) ≡ written (λ i. root-of (at (now (h .entry)) i) (at (now (k .entry)) i)) count (now (c .entry)) ⌝ }
 {
     let mut i = 0;
     while i < count {
-        c[i] = root_of(h[i], k[i]);
+        c[i] = root_of(h[i], k[i], g[i]);
         i += 1;
     }
 }
@@ -74,12 +103,19 @@ fn media(
     }
 }
 
-// As many angles as so many films take: four go at once, so that fewer are no quicker.
+// As many angles as so many films take: four go at once, and sixteen in another, quicker way, so that fewer are no
+// quicker.
 fn angle_count(films: usize) -> usize
     requires { ⌜ films ≤ 16 ⌝ }
     ensures { λ r. ⌜ (films ≤ r) × (r ≤ 16) ⌝ }
 {
-    if films < 4 { 4 } else { films }
+    if films < 4 {
+        4
+    } else if films > 8 {
+        16
+    } else {
+        films
+    }
 }
 
 // The sines of the first films over their admittances.
@@ -196,6 +232,7 @@ pub fn join_all(
     let few = if count < 16 { count } else { 16 };
     let films = film_count(n, k, d, few);
     let mut h = [1.0; 16];
+    let mut g = [1.0; 16];
     let mut c = [1.0; 16];
     let mut eta_s = [1.0; 16];
     let mut eta_p = [1.0; 16];
@@ -205,7 +242,8 @@ pub fn join_all(
     let mut y_s = [1.0; 16];
     let mut y_p = [1.0; 16];
     radicands(light.snell, n, films, &mut h);
-    roots(&h, k, films, &mut c);
+    guesses(&h, films, &mut g);
+    roots(&h, k, &g, films, &mut c);
     media(
         light.wavelength_nm,
         n,

@@ -41,19 +41,27 @@ pub fn real_part(z: Complex) -> f64
     if z.im == 0.0 { z.re } else { 0.0 / 0.0 }
 }
 
-// The root of a number from 2^-10 to 2^10, as Complex::sqrt takes it.
-fn root(x: f64) -> f64
+// The root of a number from 2^-10 to 2^10, as Complex::sqrt takes it. It is quick for a number from 1/2 to 2 whose root
+// is n.
+fn root_guessed(x: f64, n: f64) -> f64
     ensures { λ r. ⌜ r ≡ root x ⌝ }
 {
     if x >= 0.0009765625 {
         if x <= 1024.0 {
-            math_sqrt::sqrt(ieee::max((x + x) / 2.0, 0.0))
+            math_sqrt::sqrt_guessed(ieee::max((x + x) / 2.0, 0.0), n)
         } else {
             0.0 / 0.0
         }
     } else {
         0.0 / 0.0
     }
+}
+
+// The same without a guess.
+fn root(x: f64) -> f64
+    ensures { λ r. ⌜ r ≡ root x ⌝ }
+{
+    root_guessed(x, 0.0)
 }
 
 // cos(theta) in a film that does not absorb.

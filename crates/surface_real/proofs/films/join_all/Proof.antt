@@ -28,7 +28,7 @@ returns c layers long low stand =
     let g = w .before .before .before in
     let m = g .before .before in
     let r = m .before .before .before .before .before in
-    let h = r .before .before .before in
+    let h = r .before .before .before .before .before .before .before in
     let f = h .before .before in
     let s = f .before .before in
     let a = s .args in
@@ -49,9 +49,10 @@ join-all-spec =
     (λ c κs. few c .0)
     (λ c κs. films (c .before))
     (λ c κs. films (c .before .before .before .before))
-    (λ c κs. films (c .before .before .before .before .before .before .before .before .before))
-    (λ c κs. films (c .before .before .before .before .before .before .before .before .before .before .before))
+    (λ c κs. films (c .before .before .before .before .before .before .before .before))
+    (λ c κs. films (c .before .before .before .before .before .before .before .before .before .before .before .before .before))
+    (λ c κs. films (c .before .before .before .before .before .before .before .before .before .before .before .before .before .before .before))
     (λ c κs. search needs)
-    (λ c κs. films (c .before .before .before .before .before .before .before .before .before .before .before .before .before .before .before .before .before .before .before .before))
-    (λ c κs. few (c .before .before .before .before .before .before .before .before .before .before .before .before .before .before .before .before .before .before .before .before .before .before .before .before .before .before .before .before) .0)
+    (λ c κs. films (c .before .before .before .before .before .before .before .before .before .before .before .before .before .before .before .before .before .before .before .before .before .before .before .before))
+    (λ c κs. few (c .before .before .before .before .before .before .before .before .before .before .before .before .before .before .before .before .before .before .before .before .before .before .before .before .before .before .before .before .before .before .before .before) .0)
     returns)

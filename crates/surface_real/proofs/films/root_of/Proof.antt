@@ -19,7 +19,7 @@ module _ (h k : Float) where
   lossy e = simp e
 
 returns : tie.Need-returns
-returns c = lossless _ _ _ (c .before .if1 .taken) (c .root .ensures)
+returns c = lossless _ _ _ (c .before .if1 .taken) (c .root-guessed .ensures)
 
 returns-2 : tie.Need-returns-2
 returns-2 c = lossy _ _ (c .if1 .left)
