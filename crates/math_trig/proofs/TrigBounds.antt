@@ -64,7 +64,7 @@ pub fold-mag : (x : Float) → T (finite x) → Mag P 51 (fold x)
 unfolding fold
 fold-mag x f = wrap-mag (first-line x) (first-line-mag x f)
 
-second-fold-mag : (r : Float) → Mag P 51 r → Mag P 52 (second-fold r)
+pub second-fold-mag : (r : Float) → Mag P 51 r → Mag P 52 (second-fold r)
 unfolding second-fold
 second-fold-mag r h =
     choose (λ z. Mag P 52 z) (lt half-pi r) (pi ⊖ r) (cond (lt r minus-half-pi) (minus-pi ⊖ r) r)

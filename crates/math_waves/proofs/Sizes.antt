@@ -1,8 +1,9 @@
 -- The sines and cosines of near angles are those of any angle. Assumes nothing.
-use mathlib.Core.Path.{_≡_, refl, sym, ap, _∙_, subst}
+use mathlib.Core.Path.{_≡_, refl, sym, ap, ap₂, _∙_, subst}
 use mathlib.Core.Bool.{Bool, true, false, not, _&&_, _||_, cond}
-use Prim.Native.Nat.{ℕ, zero, suc, _≤_, _<_}
+use Prim.Native.Nat.{ℕ, zero, suc, _+_, _≤_, _<_}
 use native.Mathlib.Nat.{not-suc-le-zero}
+use native.Mathlib.Numerals.{add-one}
 use native.Mathlib.Omega.{arith}
 use mathlib.Core.List.{List}
 use lib.Dec.{T, ltb, ltb→lt, nltb→le}
@@ -43,7 +44,7 @@ module _ (x r : Float) (t : T (near x r)) where
   unfolding near
   sizes = t
 
-  limited : T (le (abs x) turns-limit)
+  pub limited : T (le (abs x) turns-limit)
   limited =
       let h = and-l (lt x turns-limit && lt (neg turns-limit) x) (not (lt pi r) && not (lt r minus-pi)) sizes in
       in-size x (and-l (lt x turns-limit) (lt (neg turns-limit) x) h) (and-r (lt x turns-limit) (lt (neg turns-limit) x) h)
@@ -62,7 +63,7 @@ module _ (x r : Float) (t : T (near x r)) where
 
 -- ---- one angle
 module _ (x : Float) (t : T (near x (near-line x))) where
-  folded : near-line x ≡ fold x
+  pub folded : near-line x ≡ fold x
   unfolding fold
   folded = sym (unwrapped x (near-line x) t) ∙ ap wrap (up-to-limit x (limited x (near-line x) t))
 
@@ -77,6 +78,11 @@ module _ (x : Float) (t : T (near x (near-line x))) where
 -- ---- the first n
 abbrev Near : Float → Type 0
 Near x = T (near x (near-line x))
+
+-- one angle more
+pub more-near : (x : List Float) (i : ℕ) (b t : Bool) (y : Float) → b ≡ all-near x i → t ≡ near (getD x i nan) y → y ≡ near-line (getD x i nan) → b && t ≡ all-near x (i + 1)
+unfolding all-near
+more-near x i b t y e f g = ap₂ _&&_ e (f ∙ ap (near (getD x i nan)) g) ∙ ap (all-near x) (sym (add-one i))
 
 pub each-near : (x : List Float) (n k : ℕ) → T (all-near x n) → k < n → Near (getD x k nan)
 unfolding all-near

@@ -8,7 +8,6 @@ use native.Mathlib.Nat.{not-suc-le-zero, le-of-suc-le-suc, eq-or-lt-of-le}
 use native.Mathlib.Omega.{arith}
 use lib.Dec.{T}
 use lib.ListN.{length, replicate, getD-replicate}
-use lib.Seq.{getD-set-other}
 use lib.Ieee.{Float, nan, inf, fin, lt, div, ofBits}
 use lib.Ieee.Fits.{and-l, and-r}
 use lib.Ieee.Scale.{finite}
@@ -16,7 +15,7 @@ use Rattle.ieee.specs.Operators.{_⊕_, _⊗_, _⊘_}
 use Rattle.ieee.specs.Functions.{zero-f, one, tiny, clamp}
 use Rattle.math_trig.specs.Trig.{sin, cos}
 use Rattle.math_waves.specs.Waves.{written, at-most-16, each}
-use Rattle.math_waves.proofs.Written.{length-written, nth-written}
+use Rattle.math_waves.proofs.Written.{length-written, nth-written, nth-unwritten}
 use Rattle.thin_film_solver.specs.declared.ThinFilmLayer.{ThinFilmLayer}
 use Rattle.thin_film_solver.specs.Layer.{factor}
 use Rattle.surface_real.specs.declared.Product.{Product}
@@ -25,14 +24,9 @@ use Rattle.surface_real.specs.Internal.{no-number, over, cos-theta, medium-of, 
 use Rattle.surface_lines.specs.declared.Sides.{Sides}
 use Rattle.surface_lines.specs.Internal.{Products, Stacks, line, product-in, stack-in, stacks, Long, divisor, phases, time, times-lines, film-from, reflected-lines, transmitted-lines, known-lines, clamp-lines, Told}
 
--- ---- places that are written, and those that are not yet
-pub all-written : (f : ℕ → Float) (l l₀ : List Float) (i n : ℕ) → i ≡ n → l ≡ written f i l₀ → l ≡ written f n l₀
-all-written f l l₀ i n e is = is ∙ ap (λ (k : ℕ). written f k l₀) e
-
+-- ---- a place that is not yet written
 pub unwritten : (f : ℕ → Float) (n : ℕ) (l : List Float) (k : ℕ) → n ≤ k → line (written f n l) k ≡ line l k
-unfolding written
-unwritten f zero l k h = refl
-unwritten f (suc n) l k h = getD-set-other (written f n l) n k (f n) nan (λ e. omega (arith, h, e)) ∙ unwritten f n l k (omega (arith, h))
+unwritten f n l k h = nth-unwritten f n l k nan h
 
 -- ---- a quotient by a NaN is a NaN
 by-nan : (x : Float) → nan ≡ x ⊘ nan

@@ -1,12 +1,10 @@
 -- `math_waves::at_once` meets its contract. Assumes nothing.
-use mathlib.Core.Path.{_≡_, refl, sym, ap, ap₂, _∙_}
-use mathlib.Core.Bool.{Bool, _&&_}
-use Prim.Native.Nat.{ℕ, _+_, _-_, _≤_}
-use native.Mathlib.Numerals.{add-one}
+use mathlib.Core.Path.{_≡_, refl, ap, _∙_}
+use mathlib.Core.Bool.{Bool}
+use Prim.Native.Nat.{ℕ, _-_, _≤_}
 use native.Mathlib.Omega.{arith}
 use mathlib.Core.List.{List}
-use lib.ListN.{getD}
-use lib.Ieee.{Float, nan, neg, ofBits}
+use lib.Ieee.{Float, neg, ofBits}
 use borrow.Author.Needs.{needs}
 use Rattle.ieee.specs.Operators.{_⊗_}
 use Rattle.ieee.specs.Functions.{one, minus-one, clamp}
@@ -14,8 +12,9 @@ use Rattle.math_trig.specs.declared.Series.{Series}
 use Rattle.math_trig.specs.Trig.{second-fold, series, sin-div, cos-div, sin-at, cos-at}
 use Rattle.math_trig.specs.Internal.{near-line}
 use Rattle.math_waves.specs.Waves.{each-first}
-use Rattle.math_waves.specs.Internal.{turned, near, all-near, near-sin, near-cos}
+use Rattle.math_waves.specs.Internal.{turned, all-near, near-sin, near-cos}
 use Rattle.math_waves.proofs.Written.{written-none, written-more}
+use Rattle.math_waves.proofs.Sizes.{more-near}
 use Rattle.math_waves.proofs.at_once.Statement.{statement}
 use Rattle.math_waves.proofs.at_once.Tie as tie
 
@@ -25,11 +24,6 @@ Inv-loop x n sin₀ cos₀ all₀ i₀ sin cos all i =
 
 abbrev μ-loop : tie.MeasureT-loop
 μ-loop x n sin₀ cos₀ all₀ i₀ sin cos all i = n - i
-
--- whether one angle more is near
-more : (x : List Float) (i : ℕ) (b t : Bool) (y : Float) → b ≡ all-near x i → t ≡ near (getD x i nan) y → y ≡ near-line (getD x i nan) → b && t ≡ all-near x (i + 1)
-unfolding all-near
-more x i b t y e f g = ap₂ _&&_ e (f ∙ ap (near (getD x i nan)) g) ∙ ap (all-near x) (sym (add-one i))
 
 -- one angle
 module _ (x r a : Float) (p : Series) (er : r ≡ near-line x) (ea : a ≡ second-fold r)
@@ -55,7 +49,7 @@ loop-again c =
     let w = c .before .before .before .before .before .before .before .before .before .before .loop .inv .1 in (
       omega (arith, c .before .before .before .before .before .before .before .before .before .loop-test .taken),
       (
-        more _ _ _ _ _ (w .0) (c .before .before .before .before .before .before .near .ensures) line,
+        more-near _ _ _ _ _ (w .0) (c .before .before .before .before .before .before .near .ensures) line,
         (
           written-more _ _ _ _ _ (w .1 .0) (sin-here _ _ _ _ line folds both _ (c .before .before .clamp .ensures)),
           written-more _ _ _ _ _ (w .1 .1) (cos-here _ _ _ _ line folds both _ _ (c .before .clamp2 .ensures) (c .turned .ensures)),

@@ -3,9 +3,8 @@ use mathlib.Core.Path.{_≡_}
 use Prim.Native.Nat.{_-_, _≤_}
 use native.Mathlib.Omega.{arith}
 use borrow.Author.Needs.{needs}
-use Rattle.math_waves.proofs.Written.{written-none, written-more}
+use Rattle.math_waves.proofs.Written.{written-none, written-more, written-all}
 use Rattle.surface_lines.specs.Internal.{clamp-lines}
-use Rattle.surface_lines.proofs.Places.{all-written}
 use Rattle.surface_lines.proofs.clamp_lines.Statement.{statement}
 use Rattle.surface_lines.proofs.clamp_lines.Tie as tie
 
@@ -22,7 +21,7 @@ loop-again : tie.Need-loop-again Inv-loop μ-loop
 loop-again c = (omega arith, written-more _ _ _ _ _ (c .before .before .before .loop .inv .1) (c .clamp .ensures))
 
 returns : tie.Need-returns Inv-loop μ-loop
-returns c = all-written _ _ _ (c .before .loop .i) _ (omega arith) (c .before .loop .inv .1)
+returns c = written-all _ _ _ (c .before .loop .i) _ (omega arith) (c .before .loop .inv .1)
 
 pub clamp-lines-spec : {M : Type 1} → statement M
 clamp-lines-spec = tie.close (tie.spec Inv-loop μ-loop loop-holds (λ c. search needs) (λ c. search needs) (λ c κs. search needs) (λ c. search needs) (λ c. search needs) (λ c. search needs) (λ c. search needs) loop-again returns)

@@ -4,9 +4,8 @@ use Prim.Native.Nat.{_-_, _≤_}
 use native.Mathlib.Omega.{arith}
 use borrow.Author.Needs.{needs}
 use Rattle.thin_film_solver.specs.Layer.{factor}
-use Rattle.math_waves.proofs.Written.{written-none, written-more}
+use Rattle.math_waves.proofs.Written.{written-none, written-more, written-all}
 use Rattle.surface_lines.specs.Internal.{phases}
-use Rattle.surface_lines.proofs.Places.{all-written}
 use Rattle.surface_lines.proofs.phases.Statement.{statement}
 use Rattle.surface_lines.proofs.phases.Tie as tie
 
@@ -24,7 +23,7 @@ unfolding factor
 loop-again c = (omega arith, written-more _ _ _ _ _ (c .before .before .loop .inv .1) refl)
 
 returns : tie.Need-returns Inv-loop μ-loop
-returns c = all-written _ _ _ (c .before .loop .i) _ (omega arith) (c .before .loop .inv .1)
+returns c = written-all _ _ _ (c .before .loop .i) _ (omega arith) (c .before .loop .inv .1)
 
 pub phases-spec : {M : Type 1} → statement M
 phases-spec = tie.close (tie.spec Inv-loop μ-loop loop-holds (λ c. search needs) (λ c. search needs) (λ c. search needs) (λ c. search needs) (λ c. search needs) (λ c. search needs) loop-again returns)

@@ -3,10 +3,9 @@ use mathlib.Core.Path.{_≡_, ap}
 use Prim.Native.Nat.{_-_, _≤_}
 use native.Mathlib.Omega.{arith}
 use borrow.Author.Needs.{needs}
-use Rattle.math_waves.proofs.Written.{written-none, written-more}
+use Rattle.math_waves.proofs.Written.{written-none, written-more, written-all}
 use Rattle.surface_real.specs.declared.Shares.{Shares}
 use Rattle.surface_lines.specs.Internal.{product-in, products, reflected-lines, transmitted-lines}
-use Rattle.surface_lines.proofs.Places.{all-written}
 use Rattle.surface_lines.proofs.share_lines.Statement.{statement}
 use Rattle.surface_lines.proofs.share_lines.Tie as tie
 
@@ -28,7 +27,7 @@ loop-again c =
 returns : tie.Need-returns Inv-loop μ-loop
 returns c =
     let w = c .before .loop .inv .1 in
-    (all-written _ _ _ (c .before .loop .i) _ (omega arith) (w .0), all-written _ _ _ (c .before .loop .i) _ (omega arith) (w .1))
+    (written-all _ _ _ (c .before .loop .i) _ (omega arith) (w .0), written-all _ _ _ (c .before .loop .i) _ (omega arith) (w .1))
 
 pub share-lines-spec : {M : Type 1} → statement M
 share-lines-spec =

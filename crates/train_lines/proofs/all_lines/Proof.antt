@@ -5,8 +5,7 @@ use Prim.Native.Nat.{ℕ, _+_, _-_, _≤_, _<_, _%_}
 use native.Mathlib.Omega.{arith}
 use lib.Ieee.{Float}
 use Rattle.math_waves.specs.Waves.{written}
-use Rattle.math_waves.proofs.Written.{written-none}
-use Rattle.surface_lines.proofs.Places.{all-written}
+use Rattle.math_waves.proofs.Written.{written-none, written-all}
 use Rattle.train_lines.specs.Internal.{times-s, times-p}
 use borrow.Author.Needs.{needs}
 use Rattle.train_lines.proofs.all_lines.Statement.{statement}
@@ -29,8 +28,8 @@ begun : (src : List ℕ) (place many n : ℕ) (nm s p : List Float) → Before s
 begun src place many n nm s p = record {
   whole = omega arith;
   most = omega arith;
-  of-s = all-written _ s s 0 (n - (n - 0)) (omega arith) (written-none _ _);
-  of-p = all-written _ p p 0 (n - (n - 0)) (omega arith) (written-none _ _);
+  of-s = written-all _ s s 0 (n - (n - 0)) (omega arith) (written-none _ _);
+  of-p = written-all _ p p 0 (n - (n - 0)) (omega arith) (written-none _ _);
 }
 
 module _ (src : List ℕ) (place many n : ℕ) (nm s₀ p₀ s p : List Float) (from : ℕ) (was : Before src place many n nm s₀ p₀ s p from) where
@@ -44,12 +43,12 @@ module _ (src : List ℕ) (place many n : ℕ) (nm s₀ p₀ s p : List Float) (
   further lt few s′ p′ s-is p-is = record {
     whole = omega (arith, was .whole);
     most = omega (arith, room lt few);
-    of-s = s-is s₀ (all-written _ s s₀ (n - (n - from)) from (omega (arith, lt)) (was .of-s));
-    of-p = p-is p₀ (all-written _ p p₀ (n - (n - from)) from (omega (arith, lt)) (was .of-p));
+    of-s = s-is s₀ (written-all _ s s₀ (n - (n - from)) from (omega (arith, lt)) (was .of-s));
+    of-p = p-is p₀ (written-all _ p p₀ (n - (n - from)) from (omega (arith, lt)) (was .of-p));
   }
 
   done : n ≤ from → (s ≡ written (times-s src place many nm s₀) n s₀) × (p ≡ written (times-p src place many nm p₀) n p₀)
-  done le = (all-written _ s s₀ (n - (n - from)) n (omega (arith, le)) (was .of-s), all-written _ p p₀ (n - (n - from)) n (omega (arith, le)) (was .of-p))
+  done le = (written-all _ s s₀ (n - (n - from)) n (omega (arith, le)) (was .of-s), written-all _ p p₀ (n - (n - from)) n (omega (arith, le)) (was .of-p))
 
 loop-holds : tie.Need-loop-holds Inv-loop μ-loop
 loop-holds c = begun _ _ _ _ _ _ _

@@ -3,9 +3,8 @@ use mathlib.Core.Path.{_≡_, ap}
 use Prim.Native.Nat.{_-_, _≤_}
 use native.Mathlib.Omega.{arith}
 use Rattle.math_waves.specs.Waves.{written}
-use Rattle.math_waves.proofs.Written.{written-none, written-more}
+use Rattle.math_waves.proofs.Written.{written-none, written-more, written-all}
 use Rattle.surface_lines.specs.Internal.{line}
-use Rattle.surface_lines.proofs.Places.{all-written}
 use Rattle.train_steps.specs.declared.Chosen.{Chosen}
 use Rattle.train_steps.specs.Internal.{chosen-at}
 use borrow.Author.Needs.{needs}
@@ -30,7 +29,7 @@ loop-again c =
 returns : tie.Need-returns Inv-loop μ-loop
 returns c =
     let w = c .before .loop .inv in
-    (all-written _ _ _ (c .before .loop .i) _ (omega arith) (w .1), all-written _ _ _ (c .before .loop .i) _ (omega arith) (w .2))
+    (written-all _ _ _ (c .before .loop .i) _ (omega arith) (w .1), written-all _ _ _ (c .before .loop .i) _ (omega arith) (w .2))
 
 pub each-line-spec : {M : Type 1} → statement M
 each-line-spec =

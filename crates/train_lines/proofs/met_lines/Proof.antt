@@ -5,11 +5,11 @@ use native.Mathlib.Omega.{arith}
 use mathlib.Core.List.{List}
 use lib.Ieee.{Float}
 use Rattle.math_waves.specs.Waves.{written}
-use Rattle.math_waves.proofs.Written.{written-none, written-more}
+use Rattle.math_waves.proofs.Written.{written-none, written-more, written-all}
 use Rattle.sheet.specs.Internal.{tuning-at}
 use Rattle.sheet_values.specs.Values.{met-with}
 use Rattle.surface_lines.specs.Internal.{line}
-use Rattle.surface_lines.proofs.Places.{all-written, unwritten}
+use Rattle.surface_lines.proofs.Places.{unwritten}
 use Rattle.train_lines.specs.Internal.{met-lines}
 use borrow.Author.Needs.{needs}
 use Rattle.train_lines.proofs.met_lines.Statement.{statement}
@@ -34,7 +34,7 @@ loop-again c =
     (omega arith, written-more _ _ _ _ _ (w .1) (here _ _ _ _ _ _ _ (w .1) (c .met-with .ensures)))
 
 returns : tie.Need-returns Inv-loop μ-loop
-returns c = all-written _ _ _ (c .before .loop .i) _ (omega arith) (c .before .loop .inv .1)
+returns c = written-all _ _ _ (c .before .loop .i) _ (omega arith) (c .before .loop .inv .1)
 
 pub met-lines-spec : {M : Type 1} → statement M
 met-lines-spec = tie.close (tie.spec Inv-loop μ-loop loop-holds (λ c. search needs) (λ c. search needs) (λ c κs. search needs) (λ c. search needs) (λ c. search needs) (λ c. search needs) (λ c. search needs) loop-again returns)

@@ -3,9 +3,8 @@ use mathlib.Core.Path.{_≡_, refl}
 use Prim.Native.Nat.{_+_, _-_, _≤_}
 use native.Mathlib.Omega.{arith}
 use Rattle.math_waves.specs.Waves.{written}
-use Rattle.math_waves.proofs.Written.{written-none, written-more}
+use Rattle.math_waves.proofs.Written.{written-none, written-more, written-all}
 use Rattle.surface_lines.specs.Internal.{line}
-use Rattle.surface_lines.proofs.Places.{all-written}
 use borrow.Author.Needs.{needs}
 use Rattle.train_lines.proofs.sixteen.Statement.{statement}
 use Rattle.train_lines.proofs.sixteen.Tie as tie
@@ -23,7 +22,7 @@ loop-again : tie.Need-loop-again Inv-loop μ-loop
 loop-again c = (omega arith, written-more _ _ _ _ _ (c .before .before .loop .inv .1) refl)
 
 returns : tie.Need-returns Inv-loop μ-loop
-returns c = all-written _ _ _ (c .before .loop .i) _ (omega arith) (c .before .loop .inv .1)
+returns c = written-all _ _ _ (c .before .loop .i) _ (omega arith) (c .before .loop .inv .1)
 
 pub sixteen-spec : {M : Type 1} → statement M
 sixteen-spec = tie.close (tie.spec Inv-loop μ-loop loop-holds (λ c. search needs) (λ c. search needs) (λ c. search needs) (λ c. search needs) (λ c. search needs) (λ c. search needs) (λ c. search needs) loop-again returns)

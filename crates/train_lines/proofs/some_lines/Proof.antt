@@ -9,9 +9,8 @@ use lib.Ieee.{Float, nan}
 use Rattle.ieee.specs.Operators.{_⊗_}
 use Rattle.ieee.specs.Functions.{one}
 use Rattle.math_waves.specs.Waves.{written}
-use Rattle.math_waves.proofs.Written.{nth-written}
+use Rattle.math_waves.proofs.Written.{nth-written, written-all}
 use Rattle.surface_lines.specs.Internal.{line}
-use Rattle.surface_lines.proofs.Places.{all-written}
 use Rattle.train_steps.specs.declared.Chosen.{Chosen}
 use Rattle.train_steps.specs.Internal.{chosen-at}
 use borrow.Author.Needs.{needs}
@@ -39,8 +38,8 @@ returns c =
     let s = c .before .before .before .before .before .before .before .before .before .before .before .before .before .before in
     let some = c .before .before .before .before .before .before .before .before .before .before .sixteen .ensures in
     let chosen = c .before .before .before .before .before .before .chosen-lines in (
-      λ l e. all-written _ _ l _ _ (p .1) (c .before .before .before .multiply .ensures _ l e (factor _ _ _ (s .args .nm .now) _ (s .args .from) _ (λ z. z .s) some (p .0) (chosen .last .1 .1 .1 .1 .1 .1 .1 .1 .1 .1 .1 .0) (λ j h. chosen .ensures j h .0) l)),
-      λ l e. all-written _ _ l _ _ (p .1) (c .multiply2 .ensures _ l e (factor _ _ _ (s .args .nm .now) _ (s .args .from) _ (λ z. z .p) some (p .0) (chosen .last .1 .1 .1 .1 .1 .1 .1 .1 .1 .1 .1 .1 .0) (λ j h. chosen .ensures j h .1) l)),
+      λ l e. written-all _ _ l _ _ (p .1) (c .before .before .before .multiply .ensures _ l e (factor _ _ _ (s .args .nm .now) _ (s .args .from) _ (λ z. z .s) some (p .0) (chosen .last .1 .1 .1 .1 .1 .1 .1 .1 .1 .1 .1 .0) (λ j h. chosen .ensures j h .0) l)),
+      λ l e. written-all _ _ l _ _ (p .1) (c .multiply2 .ensures _ l e (factor _ _ _ (s .args .nm .now) _ (s .args .from) _ (λ z. z .p) some (p .0) (chosen .last .1 .1 .1 .1 .1 .1 .1 .1 .1 .1 .1 .1 .0) (λ j h. chosen .ensures j h .1) l)),
     )
 
 pub some-lines-spec : {M : Type 1} → statement M
