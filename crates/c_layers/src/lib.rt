@@ -38,19 +38,16 @@ fn layer_at(flat: &[f64], j: usize) -> ThinFilmLayer
 // Whether there are layers, none absorbs, and light goes on in each: the quick way takes no others. Nothing but time hangs on this.
 fn promising(flat: &[f64], light: Incidence) -> bool {
     let n = flat.len() / 3;
-    let most = ieee::abs(light.snell);
+    let mut lossless = 0 < n;
+    let mut least = 1e300;
     let mut i = 0;
     while i < n {
         let layer = layer_at(flat, i);
-        if !(layer.k == 0.0) {
-            return false;
-        }
-        if !(most <= 0.9995 * layer.n) {
-            return false;
-        }
+        lossless = lossless & (layer.k == 0.0);
+        least = if layer.n < least { layer.n } else { least };
         i += 1;
     }
-    0 < n
+    lossless & (ieee::abs(light.snell) <= 0.9995 * least)
 }
 
 // As many layers as there are places for, of those that are left.
