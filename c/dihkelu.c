@@ -1556,6 +1556,18 @@ static thin_film_reader_Reading thin_film_reader_read(slice_u8 text) {
     return thin_film_reader_counted(f);
 }
 
+// ==== ieee_quotient
+//
+// Quotients by 6, 12, 20, 72, 132 and 272 without a division. Each is a sum of two powers of 2, so that a product with it is two
+// exact ones, and 1 less the quotient has the bits that it has with a division.
+
+// x / (a + b), but for its last bits where x is below 2^-100. y is just below 1 / (a + b), and u just above.
+static double ieee_quotient_quick(double x, double a, double b, double y, double u) {
+    double q = x * y;
+    double left = x - x * (y * a) - x * (y * b);
+    return q + left * u;
+}
+
 // ==== math_exp
 //
 // exp as document 01's section 2 gives it, for every f64.
@@ -1742,8 +1754,9 @@ static math_trig_SinCos math_trig_sin_cos(double x) {
 
 // ==== math_waves
 //
-// Sines and cosines of up to 16 angles at once, each with the bits of math_trig's. The loop has neither a call that stays
-// nor a branch, so that a compiler can take two angles at a time through both series.
+// Sines and cosines of up to 16 angles at once, each with the bits of math_trig's. The loops have neither a call that stays
+// nor a branch, so that a compiler can take two angles at a time. A few angles go through both series in one loop. Of
+// sixteen each step of a series is a loop of its own, so that many quotients are under way, and six of them are no divisions.
 
 // cos of the folded angle r from c, that of sin's second fold of it: beyond π/2 it changes its sign.
 static double math_waves_turned(double r, double c) {
@@ -1779,6 +1792,124 @@ static bool math_waves_at_once(const f64_x16 *x, uint64_t n, f64_x16 *sin, f64_x
     return all;
 }
 
+// The first lines of the first n angles, sin's second folds of them, and the squares; and whether all are near.
+static bool math_waves_folds(const f64_x16 *x, uint64_t n, f64_x16 *r, f64_x16 *a, f64_x16 *z) {
+    bool all = true;
+    uint64_t i = 0;
+    while (i < n) {
+        double angle = x->at[i];
+        double rest = math_trig_near_line(angle);
+        all = all & math_waves_near(angle, rest);
+        double folded = math_trig_second_fold(rest);
+        r->at[i] = rest;
+        a->at[i] = folded;
+        z->at[i] = folded * folded;
+        i = i + 1;
+    }
+    return all;
+}
+
+// One step of a series for the first n squares.
+static void math_waves_step(const f64_x16 *z, uint64_t n, double c, f64_x16 *p) {
+    uint64_t i = 0;
+    while (i < n) {
+        p->at[i] = 1.0 - p->at[i] * z->at[i] / c;
+        i = i + 1;
+    }
+}
+
+// The same by c = a + b without a division; y is just below 1/c, and u just above.
+static void math_waves_quick_step(const f64_x16 *z, uint64_t n, double a, double b, double y, double u, f64_x16 *p) {
+    uint64_t i = 0;
+    while (i < n) {
+        p->at[i] = 1.0 - ieee_quotient_quick(p->at[i] * z->at[i], a, b, y, u);
+        i = i + 1;
+    }
+}
+
+// From -1 to 1.
+static double math_waves_to_one(double x) {
+    double least;
+    if (x < -1.0) {
+        least = -1.0;
+    } else {
+        least = x;
+    }
+    if (1.0 < least) {
+        return 1.0;
+    }
+    return least;
+}
+
+// The sines and cosines of the first n angles, from both series.
+static void math_waves_ends(const f64_x16 *r, const f64_x16 *a, const f64_x16 *s, const f64_x16 *c, uint64_t n,
+        f64_x16 *sin, f64_x16 *cos) {
+    uint64_t i = 0;
+    while (i < n) {
+        sin->at[i] = math_waves_to_one(a->at[i] * s->at[i]);
+        cos->at[i] = math_waves_turned(r->at[i], math_waves_to_one(c->at[i]));
+        i = i + 1;
+    }
+}
+
+// The steps of both series down to a divisor of 156, for the first n squares.
+static void math_waves_first_steps(const f64_x16 *z, uint64_t n, f64_x16 *s, f64_x16 *c) {
+    math_waves_step(z, n, 462.0, c);
+    math_waves_step(z, n, 420.0, s);
+    math_waves_step(z, n, 380.0, c);
+    math_waves_step(z, n, 342.0, s);
+    math_waves_step(z, n, 306.0, c);
+    math_waves_quick_step(z, n, 256.0, 16.0, 0.0036764705882352936, 0.003676470588235295, s);
+    math_waves_step(z, n, 240.0, c);
+    math_waves_step(z, n, 210.0, s);
+    math_waves_step(z, n, 182.0, c);
+    math_waves_step(z, n, 156.0, s);
+}
+
+// The other steps.
+static void math_waves_last_steps(const f64_x16 *z, uint64_t n, f64_x16 *s, f64_x16 *c) {
+    math_waves_quick_step(z, n, 128.0, 4.0, 0.007575757575757574, 0.007575757575757577, c);
+    math_waves_step(z, n, 110.0, s);
+    math_waves_step(z, n, 90.0, c);
+    math_waves_quick_step(z, n, 64.0, 8.0, 0.013888888888888886, 0.013888888888888892, s);
+    math_waves_step(z, n, 56.0, c);
+    math_waves_step(z, n, 42.0, s);
+    math_waves_step(z, n, 30.0, c);
+    math_waves_quick_step(z, n, 16.0, 4.0, 0.04999999999999999, 0.05000000000000001, s);
+    math_waves_quick_step(z, n, 8.0, 4.0, 0.08333333333333331, 0.08333333333333336, c);
+    math_waves_quick_step(z, n, 4.0, 2.0, 0.16666666666666663, 0.1666666666666667, s);
+    math_waves_step(z, n, 2.0, c);
+}
+
+// As at_once, but step by step, each for all angles.
+static bool math_waves_in_steps(const f64_x16 *x, uint64_t n, f64_x16 *sin, f64_x16 *cos) {
+    f64_x16 r;
+    for (size_t each = 0; each < 16; each++) {
+        r.at[each] = 1.0;
+    }
+    f64_x16 a;
+    for (size_t each = 0; each < 16; each++) {
+        a.at[each] = 1.0;
+    }
+    f64_x16 z;
+    for (size_t each = 0; each < 16; each++) {
+        z.at[each] = 1.0;
+    }
+    f64_x16 s;
+    for (size_t each = 0; each < 16; each++) {
+        s.at[each] = 1.0;
+    }
+    f64_x16 c;
+    for (size_t each = 0; each < 16; each++) {
+        c.at[each] = 1.0;
+    }
+    bool all = math_waves_folds(x, n, &r, &a, &z);
+    math_waves_first_steps(&z, n, &s, &c);
+    math_waves_last_steps(&z, n, &s, &c);
+    math_waves_ends(&r, &a, &s, &c, n, sin, cos);
+    return all;
+}
+
 // The first n angles one by one, of any size.
 static void math_waves_one_by_one(const f64_x16 *x, uint64_t n, f64_x16 *sin, f64_x16 *cos) {
     uint64_t i = 0;
@@ -1798,9 +1929,16 @@ static void math_waves_sin_cos(const f64_x16 *x, uint64_t n, f64_x16 *sin, f64_x
     } else {
         few = 16;
     }
-    bool value = math_waves_at_once(x, few, sin, cos);
-    if (!value) {
-        math_waves_one_by_one(x, few, sin, cos);
+    if (few % 16 == 0) {
+        bool value = math_waves_in_steps(x, few, sin, cos);
+        if (!value) {
+            math_waves_one_by_one(x, few, sin, cos);
+        }
+    } else {
+        bool value_2 = math_waves_at_once(x, few, sin, cos);
+        if (!value_2) {
+            math_waves_one_by_one(x, few, sin, cos);
+        }
     }
 }
 
@@ -2623,23 +2761,27 @@ static double math_sqrt_sqrt(double x) {
     return 0.0 / 0.0;
 }
 
-// The square root of x. It is quick for an x from 1 to 2 whose root is near s.
-static double math_sqrt_sqrt_near(double x, double s) {
-    if (1.0 <= x) {
+// The square root of x. It is quick for an x from 1/2 to 2 whose root is n.
+static double math_sqrt_sqrt_guessed(double x, double n) {
+    if (0.5 <= x) {
         uint64_t bits = to_bits(x);
         if (bits < 0x4000000000000000u) {
-            double n = math_sqrt_second_guess(x, s);
-            if (1.0 <= n) {
+            if (0.5 <= n) {
                 uint64_t root = to_bits(n);
-                if (root < 0x4000000000000000u) {
+                if (root / 0x10000000000000u == bits / 0x10000000000000u) {
                     if (math_sqrt_is_root(bits, root)) {
-                        return from_bits(root);
+                        return n;
                     }
                 }
             }
         }
     }
     return math_sqrt_sqrt(x);
+}
+
+// The square root of x. It is quick for an x from 1/2 to 2 whose root is near s.
+static double math_sqrt_sqrt_near(double x, double s) {
+    return math_sqrt_sqrt_guessed(x, math_sqrt_second_guess(x, s));
 }
 
 // ==== math_atan
@@ -4323,30 +4465,55 @@ static void surface_real_films_radicands(double snell, const f64_x16 *n, uint64_
     }
 }
 
-// The root of a number from 2^-10 to 2^10, as Complex::sqrt takes it.
-static double surface_real_root(double x) {
+// A guess at the root of h from 1/2 to 1, of which nothing is proved: a quartic for 1 over the root, and two better ones
+// from it.
+static double surface_real_films_guess(double h) {
+    double square = h * h;
+    double first = 2.9228837662011293 - 5.4349775452710505 * h + square
+            * (6.719651141032791 - 4.331924622358352 * h + 1.1244305836496429 * square);
+    double left = 1.0 - h * first * first;
+    double r = first + first * left * (0.5 + 0.375 * left);
+    double s = h * r;
+    double high = s + 201326592.0 - 201326592.0;
+    double over = h - high * high - (s + high) * (s - high);
+    return s + over * (0.5 * r);
+}
+
+// Guesses at the roots of the first. The compiler packs them two by two.
+static void surface_real_films_guesses(const f64_x16 *h, uint64_t count, f64_x16 *g) {
+    uint64_t i = 0;
+    while (i < count) {
+        g->at[i] = surface_real_films_guess(h->at[i]);
+        i = i + 1;
+    }
+}
+
+// The root of a number from 2^-10 to 2^10, as Complex::sqrt takes it. It is quick for a number from 1/2 to 2 whose root
+// is n.
+static double surface_real_root_guessed(double x, double n) {
     if (0.0009765625 <= x) {
         if (x <= 1024.0) {
-            return math_sqrt_sqrt(ieee_max((x + x) / 2.0, 0.0));
+            return math_sqrt_sqrt_guessed(ieee_max((x + x) / 2.0, 0.0), n);
         }
         return 0.0 / 0.0;
     }
     return 0.0 / 0.0;
 }
 
-// The cosine in a film that does not absorb.
-static double surface_real_films_root_of(double h, double k) {
+// The cosine in a film that does not absorb. It is quick if g is that.
+static double surface_real_films_root_of(double h, double k, double g) {
     if (k == 0.0) {
-        return surface_real_root(h);
+        return surface_real_root_guessed(h, g);
     }
     return 0.0 / 0.0;
 }
 
-// Those of the first films.
-static void surface_real_films_roots(const f64_x16 *h, const f64_x16 *k, uint64_t count, f64_x16 *c) {
+// Those of the first films, from the guesses g.
+static void surface_real_films_roots(const f64_x16 *h, const f64_x16 *k, const f64_x16 *g, uint64_t count,
+        f64_x16 *c) {
     uint64_t i = 0;
     while (i < count) {
-        c->at[i] = surface_real_films_root_of(h->at[i], k->at[i]);
+        c->at[i] = surface_real_films_root_of(h->at[i], k->at[i], g->at[i]);
         i = i + 1;
     }
 }
@@ -4364,10 +4531,14 @@ static void surface_real_films_media(double wavelength_nm, const f64_x16 *n, con
     }
 }
 
-// As many angles as so many films take: four go at once, so that fewer are no quicker.
+// As many angles as so many films take: four go at once, and sixteen in another, quicker way, so that fewer are no
+// quicker.
 static uint64_t surface_real_films_angle_count(uint64_t films) {
     if (films < 4) {
         return 4;
+    }
+    if (8 < films) {
+        return 16;
     }
     return films;
 }
@@ -4477,6 +4648,10 @@ static surface_real_Stack surface_real_films_join_all(thin_film_solver_Incidence
     for (size_t each = 0; each < 16; each++) {
         h.at[each] = 1.0;
     }
+    f64_x16 g;
+    for (size_t each = 0; each < 16; each++) {
+        g.at[each] = 1.0;
+    }
     f64_x16 c;
     for (size_t each = 0; each < 16; each++) {
         c.at[each] = 1.0;
@@ -4510,7 +4685,8 @@ static surface_real_Stack surface_real_films_join_all(thin_film_solver_Incidence
         y_p.at[each] = 1.0;
     }
     surface_real_films_radicands(light.snell, n, films, &h);
-    surface_real_films_roots(&h, k, films, &c);
+    surface_real_films_guesses(&h, films, &g);
+    surface_real_films_roots(&h, k, &g, films, &c);
     surface_real_films_media(light.wavelength_nm, n, d, &c, films, &eta_s, &eta_p, &delta);
     math_waves_sin_cos(&delta, surface_real_films_angle_count(films), &sin, &cos);
     surface_real_films_quotients(&sin, &eta_s, &eta_p, films, &y_s, &y_p);
@@ -4523,6 +4699,11 @@ static double surface_real_real_part(thin_film_complex_Complex z) {
         return z.re;
     }
     return 0.0 / 0.0;
+}
+
+// The same without a guess.
+static double surface_real_root(double x) {
+    return surface_real_root_guessed(x, 0.0);
 }
 
 // cos(theta) in a film that does not absorb.
@@ -4911,19 +5092,18 @@ static thin_film_solver_ThinFilmLayer c_layers_layer_at(slice_f64 flat, uint64_t
 // Whether there are layers, none absorbs, and light goes on in each: the quick way takes no others. Nothing but time hangs on this.
 static bool c_layers_promising(slice_f64 flat, thin_film_solver_Incidence light) {
     uint64_t n = flat.count / 3;
-    double most = ieee_abs(light.snell);
+    bool lossless = 0 < n;
+    double least = 1e+300;
     uint64_t i = 0;
     while (i < n) {
         thin_film_solver_ThinFilmLayer layer = c_layers_layer_at(flat, i);
-        if (!(layer.k == 0.0)) {
-            return false;
-        }
-        if (!(most <= 0.9995 * layer.n)) {
-            return false;
+        lossless = lossless & (layer.k == 0.0);
+        if (layer.n < least) {
+            least = layer.n;
         }
         i = i + 1;
     }
-    return 0 < n;
+    return lossless & (ieee_abs(light.snell) <= 0.9995 * least);
 }
 
 // As many layers as there are places for, of those that are left.
