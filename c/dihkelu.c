@@ -5092,18 +5092,18 @@ static thin_film_solver_ThinFilmLayer c_layers_layer_at(slice_f64 flat, uint64_t
 // Whether there are layers, none absorbs, and light goes on in each: the quick way takes no others. Nothing but time hangs on this.
 static bool c_layers_promising(slice_f64 flat, thin_film_solver_Incidence light) {
     uint64_t n = flat.count / 3;
-    bool lossless = 0 < n;
+    double sum = 0.0;
     double least = 1e+300;
     uint64_t i = 0;
     while (i < n) {
         thin_film_solver_ThinFilmLayer layer = c_layers_layer_at(flat, i);
-        lossless = lossless & (layer.k == 0.0);
+        sum = sum + layer.k;
         if (layer.n < least) {
             least = layer.n;
         }
         i = i + 1;
     }
-    return lossless & (ieee_abs(light.snell) <= 0.9995 * least);
+    return (0 < n) & (sum == 0.0) & (ieee_abs(light.snell) <= 0.9995 * least);
 }
 
 // As many layers as there are places for, of those that are left.

@@ -38,16 +38,16 @@ fn layer_at(flat: &[f64], j: usize) -> ThinFilmLayer
 // Whether there are layers, none absorbs, and light goes on in each: the quick way takes no others. Nothing but time hangs on this.
 fn promising(flat: &[f64], light: Incidence) -> bool {
     let n = flat.len() / 3;
-    let mut lossless = 0 < n;
+    let mut sum = 0.0;
     let mut least = 1e300;
     let mut i = 0;
     while i < n {
         let layer = layer_at(flat, i);
-        lossless = lossless & (layer.k == 0.0);
+        sum = sum + layer.k;
         least = if layer.n < least { layer.n } else { least };
         i += 1;
     }
-    lossless & (ieee::abs(light.snell) <= 0.9995 * least)
+    ((0 < n) & (sum == 0.0)) & (ieee::abs(light.snell) <= 0.9995 * least)
 }
 
 // As many layers as there are places for, of those that are left.

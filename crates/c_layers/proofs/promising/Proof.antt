@@ -7,10 +7,10 @@ use Rattle.c_layers.proofs.promising.Statement.{statement}
 use Rattle.c_layers.proofs.promising.Tie as tie
 
 abbrev Inv-loop : tie.InvT-loop
-Inv-loop flat light n lossless₀ least₀ i₀ lossless least i = i ≤ n
+Inv-loop flat light n sum₀ least₀ i₀ sum least i = i ≤ n
 
 abbrev μ-loop : tie.MeasureT-loop
-μ-loop flat light n lossless₀ least₀ i₀ lossless least i = n - i
+μ-loop flat light n sum₀ least₀ i₀ sum least i = n - i
 
 layer-at-requires : tie.Need-layer-at-requires Inv-loop μ-loop
 layer-at-requires c κs = let n : ℕ = length (c .before .before .before .args .flat .now) / 3 in omega (arith, c .loop-test .taken)
