@@ -3,4 +3,4 @@ pub mod Known
 pub mod Alike
 pub mod InTheGlass
 pub mod Decimals
-mod Mirror
+pub mod Own

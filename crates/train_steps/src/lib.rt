@@ -13,7 +13,7 @@ ghost use Rattle.sheet.specs.Internal.{layer-run, onto};
 ghost use Rattle.sheet_index.specs.Internal.{Indexed};
 ghost use Rattle.sheet_answers.specs.Outcome.{outcome-of};
 ghost use Rattle.train_steps.specs.Train.{chosen, chosen-of, fresh, start, outcome, step, retune, after-each, run, sum};
-ghost use Rattle.train_steps.specs.Internal.{chosen-at, moved, moved-at};
+ghost use Rattle.train_steps.specs.Internal.{chosen-at, moved, moved-from, moved-at, run-at};
 use gate::Gated;
 use math_trig::SinCos;
 use refusal::Refusal;
@@ -59,7 +59,7 @@ fn chosen_of(reflected: bool, reply: PowersReply) -> Chosen
 }
 
 // Of the surface at a place with the n layers after it.
-pub fn chosen_at(src: &[u8], at: usize, n: usize, wavelength_nm: f64) -> Chosen
+fn chosen_at(src: &[u8], at: usize, n: usize, wavelength_nm: f64) -> Chosen
     ensures { λ r. ⌜ r ≡ chosen-at (now (src .entry)) at n «wavelength_nm» ⌝ }
 {
     let surface = sheet_values::surface_at(src, at);
@@ -128,6 +128,14 @@ fn moved(c: Chosen, wavelength_nm: f64, state: State) -> State
         p: state.p * c.p,
         wavelength_nm,
     }
+}
+
+// The state after the surface at a place with the n layers after it, met with a wavelength.
+fn moved_from(src: &[u8], at: usize, n: usize, wavelength_nm: f64, state: State) -> State
+    requires { ⌜ state .done < 0xFFFF_FFFF ⌝ }
+    ensures { λ r. ⌜ r ≡ moved-from (now (src .entry)) at n «wavelength_nm» state ⌝ }
+{
+    moved(chosen_at(src, at, n, wavelength_nm), wavelength_nm, state)
 }
 
 // The state after the surface that begins at a place with its n layers, which is met with its own kind 7's wavelength or the one held.
@@ -236,6 +244,30 @@ fn write_each(
         list[2 * i + 1] = p;
         i += 1;
     }
+}
+
+// The state after count surfaces from the start, with a wavelength in place of the BEAM's; it gates nothing.
+pub fn run_at(src: &[u8], count: u32, wavelength_nm: f64) -> State
+    ensures { λ r. ⌜ r ≡ run-at (now (src .entry)) count «wavelength_nm» ⌝ }
+{
+    let beam = sheet_values::beam_of(src);
+    let mut state = State {
+        done: 0,
+        s: beam.s,
+        p: beam.p,
+        wavelength_nm,
+    };
+    let mut begin = sheet::begin_of(src, 0);
+    let mut i = 0;
+    while i < count {
+        let met_nm = sheet_values::met_with(src, begin, state.wavelength_nm);
+        let at = sheet::onto(src, begin);
+        let run = sheet::layers_on(src, at);
+        state = moved_from(src, at, run.count, met_nm, state);
+        begin = run.next;
+        i += 1;
+    }
+    state
 }
 
 // A run over the whole sheet from its start: s, p after each surface go to the lent list.
