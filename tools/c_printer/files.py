@@ -1,7 +1,7 @@
 """The files of the release that are made."""
 import pathlib
 
-from . import emit, fold, header as headers, program, source
+from . import emit, environment, fold, header as headers, program, source
 
 BANNER = """// Made by tools/c_source from the checked program; a change is made in crates/ and this file written anew.
 // SPDX-License-Identifier: MIT OR Apache-2.0
@@ -12,8 +12,8 @@ PRELUDE = """//
 // have their crate's name in front, and those that are called stand before those that call.
 //
 // The answers are those of the proved library, bit for bit, only where each operation on doubles is rounded once, to
-// nearest, as IEEE 754 has it. What can be known when this is compiled is tested here; the rest is the caller's
-// (dihkelu_environment_ok of the header).
+// nearest, as IEEE 754 has it. What can be known when this is compiled is tested here; the environment of the caller is
+// set for each call and given back.
 #include "dihkelu.h"
 
 #include <float.h>
@@ -131,12 +131,14 @@ class Unit:
 
     def print(self, types, exported):
         out, crate, names = [], None, set()
+        working = environment.working(self.functions, called)
         for name, f in self.functions.items():
             c = emit.identifier(name)
             if c in names:
                 raise program.Unknown(f"two functions are called {c}")
             names.add(c)
-            text = emit.Printer(f, types, self.items.get(name), exported(name), self.writers).printed()
+            guarded = exported(name) and name in working
+            text = emit.Printer(f, types, self.items.get(name), exported(name), self.writers, guarded).printed()
             if name.split("::")[0] != crate:
                 crate = name.split("::")[0]
                 out.append("\n".join([f"// ==== {crate}", "//"] + self.heads[crate]) if self.heads.get(crate) else f"// ==== {crate}")
@@ -156,7 +158,7 @@ def made(root, library, text):
     body = unit.print(types, lambda name: name in unit.entries)
     first = len(types.definitions)
     zeros = LEADING_ZEROS if "leading_zeros(" in body else ""
-    c = BANNER + PRELUDE + zeros + "// ==== types\n\n" + "\n\n".join(types.definitions) + "\n\n" + body
+    c = BANNER + PRELUDE + zeros + environment.PRELUDE + "// ==== types\n\n" + "\n\n".join(types.definitions) + "\n\n" + body
     train = Unit(text, items, heads, lambda functions: ["train_text::train_text"], unit.functions)
     types.named = {**types.named, **train.named}
     body = train.print(types, lambda name: False)
