@@ -1,6 +1,36 @@
 // Made by tools/c_source from the checked program; a change is made in crates/ and this file written anew.
 // SPDX-License-Identifier: MIT OR Apache-2.0
 //
+// This project translates parts of OpticsLab (optics-core: thin_film.rs, fresnel.rs,
+// polarization.rs, error.rs), whose notice and licence text follow.
+//
+// OpticsLab
+// Copyright (c) 2026 Alexandru Crisan and the OpticsLab contributors.
+// Licensed under the MIT License or the Apache License, Version 2.0, at your option
+// (LICENSE-MIT, LICENSE-APACHE).
+//
+// MIT License
+//
+// Copyright (c) 2026 OpticsLab Contributors
+//
+// Permission is hereby granted, free of charge, to any person obtaining a copy
+// of this software and associated documentation files (the "Software"), to deal
+// in the Software without restriction, including without limitation the rights
+// to use, copy, modify, merge, publish, distribute, sublicense, and/or sell
+// copies of the Software, and to permit persons to whom the Software is
+// furnished to do so, subject to the following conditions:
+//
+// The above copyright notice and this permission notice shall be included in all
+// copies or substantial portions of the Software.
+//
+// THE SOFTWARE IS PROVIDED "AS IS", WITHOUT WARRANTY OF ANY KIND, EXPRESS OR
+// IMPLIED, INCLUDING BUT NOT LIMITED TO THE WARRANTIES OF MERCHANTABILITY,
+// FITNESS FOR A PARTICULAR PURPOSE AND NONINFRINGEMENT. IN NO EVENT SHALL THE
+// AUTHORS OR COPYRIGHT HOLDERS BE LIABLE FOR ANY CLAIM, DAMAGES OR OTHER
+// LIABILITY, WHETHER IN AN ACTION OF CONTRACT, TORT OR OTHERWISE, ARISING FROM,
+// OUT OF OR IN CONNECTION WITH THE SOFTWARE OR THE USE OR OTHER DEALINGS IN THE
+// SOFTWARE.
+//
 // Light through a train of coated windows: the whole library in one file. dihkelu.h says what each call does. Functions
 // have their crate's name in front, and those that are called stand before those that call.
 //
@@ -7606,7 +7636,7 @@ static band_BandReply band_band(slice_u8 src, slice_f64 wavelengths, slice_u32 w
 
 // Its version: major times 2^16 plus minor.
 uint32_t dihkelu_version(void) {
-    return 3;
+    return 4;
 }
 
 // SurfaceCoating::evaluate: the coating by its code, its layers as n, k, thickness one after the
@@ -8000,20 +8030,11 @@ uint64_t dihkelu_mueller_apply(const double *matrix_at, size_t matrix_count, con
 }
 
 // JonesMatrix::diattenuator of two amplitudes, each re, im: writes the matrix and returns 8.
-static uint64_t dihkelu_diattenuator_body(const double *amplitudes_at, size_t amplitudes_count, double *list_at,
+uint64_t dihkelu_diattenuator(const double *amplitudes_at, size_t amplitudes_count, double *list_at,
         size_t list_count) {
     slice_f64 amplitudes = {amplitudes_at, amplitudes_count};
     slice_mut_f64 list = {list_at, list_count};
     return c_polarization_diattenuator(amplitudes, list);
-}
-
-uint64_t dihkelu_diattenuator(const double *amplitudes_at, size_t amplitudes_count, double *list_at,
-        size_t list_count) {
-    uint64_t (*LOOKED_UP body)(const double *, size_t, double *, size_t) = dihkelu_diattenuator_body;
-    environment caller = environment_enter();
-    uint64_t returned = body(amplitudes_at, amplitudes_count, list_at, list_count);
-    environment_leave(caller);
-    return returned;
 }
 
 // JonesMatrix::linear_polarizer: writes the matrix and returns 8; or 8.

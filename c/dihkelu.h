@@ -109,7 +109,8 @@ extern "C" {
 
 /* ---- the version: major × 2^16 + minor. A program can hold the header it was compiled with against the library */
 
-#define DIHKELU_VERSION 0x00000003u
+#define DIHKELU_VERSION 0x00000004u
+#define DIHKELU_VERSION_TEXT "0.4.0"
 DIHKELU_MUST_USE uint32_t dihkelu_version(void);
 
 /* ---- what a call returned, taken apart */
@@ -158,9 +159,10 @@ DIHKELU_MUST_USE static inline int dihkelu_environment_ok(void) {
 #define DIHKELU_BARE 53
 #define DIHKELU_COATED 69
 
-/* The gate. A sheet is of edition 1, or of edition 2, in which a layer may be of kind 6, a glass whose index changes with
- * colour, and a kind 7 may stand before a surface: the wavelength from there on. In either edition the 1 to 4 layers of a
- * custom surface at angle zero may be metal films. Returns the count of surfaces; refuses with 4, 5, 6. */
+/* The gate. The words of a sheet stand in dihkelu-sheet(5); dihkelu_sheet.h writes one from numbers. It is of edition
+ * 1, or of edition 2, in which a layer may be of kind 6, a glass whose index changes with colour, and a kind 7 may
+ * stand before a surface: the wavelength from there on. In either edition the 1 to 4 layers of a custom surface at
+ * angle zero may be metal films. Returns the count of surfaces; refuses with 4, 5, 6. */
 DIHKELU_MUST_USE uint64_t dihkelu_gate(const uint8_t *sheet, size_t sheet_count);
 
 /* A train's state is four numbers: surfaces done, s, p and the wavelength held in nm. The calls take any state, also one

@@ -6,7 +6,7 @@ from setuptools import Extension, setup
 from setuptools.command.build_ext import build_ext
 
 HERE = pathlib.Path(__file__).resolve().parent
-NUMBER = int(re.search(r"^#define DIHKELU_VERSION (0x[0-9A-Fa-f]+)u$", (HERE / "source/dihkelu.h").read_text(), re.M).group(1), 16)
+VERSION = re.search(r'^#define DIHKELU_VERSION_TEXT "(.*)"$', (HERE / "source/dihkelu.h").read_text(), re.M).group(1)
 
 
 class Library(build_ext):
@@ -17,9 +17,9 @@ class Library(build_ext):
 
 
 setup(
-    version=f"{NUMBER >> 16}.{NUMBER & 0xFFFF}",
+    version=VERSION,
     cmdclass={"build_ext": Library},
     ext_modules=[
-        Extension("dihkelu._library", ["source/dihkelu.c"], depends=["source/dihkelu.h"], libraries=["m"], extra_compile_args=["-std=c11", "-ffp-contract=off"])
+        Extension("dihkelu._library", ["source/dihkelu.c"], depends=["source/dihkelu.h"], libraries=["m"], extra_compile_args=["-std=c11", "-O3", "-ffp-contract=off"])
     ],
 )

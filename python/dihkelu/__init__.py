@@ -7,6 +7,8 @@
 
 Each call gives its answer or raises one of the documents' refusals, a subclass of Refused, with its number, place and a sentence.
 """
+__version__ = "0.4.0"
+
 from .calls import (
     BROADBAND_AR,
     CUSTOM_IDEAL_AR,

@@ -11,7 +11,7 @@ import os
 import pathlib
 import subprocess
 
-VERSION = 0x00000003  # of the header that these calls are of: major times 2^16 plus minor
+VERSION = 0x00000004  # of the header that these calls are of: major times 2^16 plus minor
 HERE = pathlib.Path(__file__).resolve().parent
 
 Bytes, Numbers = ctypes.c_char_p, ctypes.POINTER(ctypes.c_double)

@@ -574,7 +574,9 @@ class Printer:
         return [f"    {self.types.name(t)} {name} = {{{name}_at, {name}_count}};" for t, name in named if t[0] == "slice"]
 
     def printed(self):
-        name, given = identifier(self.f.name), self.lists_given()
+        name = identifier(self.f.name)
+        head = self.head(name + "_body" if self.guarded else name, self.guarded or not self.exported)
+        given = self.lists_given()
         body = list(self.body)
         while body and body[-1] == ["return", None]:
             body.pop()
@@ -589,8 +591,7 @@ class Printer:
             if n not in used and not (self.exported and self.f.types[n][0] == "slice"):
                 given.append(f"    (void){self.names[n]};")
         comment = list(self.item.comment) if self.item else [f"// {self.f.name}, of the language's own library."]
-        first = self.head(name + "_body" if self.guarded else name, self.guarded or not self.exported)
-        lines = comment + first + given + inner + ["}"]
+        lines = comment + head + given + inner + ["}"]
         if self.guarded:
             around = environment.around(self.types.name(self.f.types[0]), name, self.parameters())
             lines += [""] + self.head(name, False) + [part for line in around for part in wrapped(line)] + ["}"]

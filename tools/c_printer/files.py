@@ -6,6 +6,8 @@ from . import emit, environment, fold, header as headers, program, source
 BANNER = """// Made by tools/c_source from the checked program; a change is made in crates/ and this file written anew.
 // SPDX-License-Identifier: MIT OR Apache-2.0
 """
+LICENCES = ("LICENSE-MIT", "LICENSE-APACHE", "NOTICE")
+PACKAGES = ("c", "fortran", "python", "rust/dihkelu-sys")
 
 PRELUDE = """//
 // Light through a train of coated windows: the whole library in one file. dihkelu.h says what each call does. Functions
@@ -146,6 +148,17 @@ class Unit:
         return "\n\n".join(out) + "\n"
 
 
+def notice(root):
+    """The notice as a comment, up to where it speaks of other files: the C may be taken alone."""
+    text = (pathlib.Path(root) / "NOTICE").read_text().split("\nThe whole notice")[0]
+    return "\n".join(f"// {line}".rstrip() for line in ["", *text.strip().split("\n")]) + "\n"
+
+
+def licences(root):
+    """Each package's copies of the licences."""
+    return {f"{package}/{name}": (pathlib.Path(root) / name).read_text() for package in PACKAGES for name in LICENCES}
+
+
 def made(root, library, text):
     """Each file's path and what is in it."""
     items, heads = source.sources(root)
@@ -158,7 +171,7 @@ def made(root, library, text):
     body = unit.print(types, lambda name: name in unit.entries)
     first = len(types.definitions)
     zeros = LEADING_ZEROS if "leading_zeros(" in body else ""
-    c = BANNER + PRELUDE + zeros + environment.PRELUDE + "// ==== types\n\n" + "\n\n".join(types.definitions) + "\n\n" + body
+    c = BANNER + notice(root) + PRELUDE + zeros + environment.PRELUDE + "// ==== types\n\n" + "\n\n".join(types.definitions) + "\n\n" + body
     train = Unit(text, items, heads, lambda functions: ["train_text::train_text"], unit.functions)
     types.named = {**types.named, **train.named}
     body = train.print(types, lambda name: False)
@@ -172,4 +185,5 @@ def made(root, library, text):
         "fortran/dihkelu.f90": headers.fortran(header),
         "rust/dihkelu-sys/src/raw.rs": headers.rust(header),
         "rust/dihkelu-sys/Cargo.toml": headers.cargo(header),
+        **licences(root),
     }
