@@ -21,14 +21,17 @@ let fileName = "train";
 
 let history = [];
 let place = -1;
+let warned = false;
 
 function commit() {
   const now = JSON.stringify(model);
   if (history[place] === now) return;
   history = [...history.slice(Math.max(0, place - 199), place + 1), now];
   place = history.length - 1;
-  const works = keep(model);
-  by("made").dataset.kept = works ? "" : "no";
+  if (!keep(model) && !warned) {
+    warned = true;
+    say("This browser keeps nothing of a page that was opened as a file: save the text before you close it.");
+  }
   buttons();
 }
 
@@ -75,6 +78,7 @@ function show(focus = focused()) {
 // A change of a cell: results, marks and the picture, with the cells left as they are.
 function update() {
   result = resultsOf(model);
+  document.title = `${fileName}: light through a train of coated windows`;
   by("indices").replaceChildren(...indexChoices(model));
   showLosses();
   showProblems();
