@@ -12,7 +12,7 @@ from pathlib import Path
 ROOT = Path(__file__).resolve().parent.parent
 sys.path.insert(0, str(ROOT / "python"))
 try:
-    from dihkelu import explain, files, reports, text
+    from dihkelu import LibraryMissing, explain, files, reports, text
     from dihkelu.refusals import BY_NUMBER, Refused
     from dihkelu.words import Wrong, counted
 except (ImportError, OSError) as error:
@@ -159,7 +159,7 @@ def main(words):
                 print(f"{given.file}: {kind}: {sentence}", file=sys.stderr)
         files.emit(printed)
         return 0
-    except Wrong as wrong:
+    except (Wrong, LibraryMissing) as wrong:
         print(f"{given.file}: {wrong}", file=sys.stderr)
         return 1
 

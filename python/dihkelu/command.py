@@ -15,6 +15,7 @@ from typing import Any, Iterable, Sequence
 from . import batch, explain, files, glasses, plots, reports, text
 from .calls import version
 from .files import Failed
+from .library import LibraryMissing, WrongEnvironment
 from .plans import Index, Made, Plan, index_at
 from .words import Wrong, counted, in_line, written
 
@@ -343,9 +344,20 @@ def whole(word: str) -> int:
     return int(word)
 
 
+class Version(argparse.Action):
+    """Prints the library's version, for which it is loaded."""
+
+    def __init__(self, **more: Any):
+        super().__init__(nargs=0, help="print the version of the library", **more)
+
+    def __call__(self, parser: argparse.ArgumentParser, *_: Any) -> None:
+        print("{} {}.{}".format(parser.prog, *version()))
+        parser.exit()
+
+
 def arguments() -> argparse.ArgumentParser:
     parser = argparse.ArgumentParser(prog="dihkelu", description=__doc__, epilog=STATUSES)
-    parser.add_argument("--version", action="version", version="%(prog)s {}.{}".format(*version()))
+    parser.add_argument("--version", action=Version)
     commands = parser.add_subparsers(dest="command", required=True, metavar="COMMAND")
 
     def add(name: str, run: Any, about: str, file: bool = True, formats: Sequence[str] = (), plot: bool = False, nm: bool = True) -> argparse.ArgumentParser:
@@ -400,9 +412,10 @@ def subcommands(parser: argparse.ArgumentParser) -> dict[str, argparse.ArgumentP
 
 
 def main(words: Iterable[str] | None = None) -> int:
-    given = arguments().parse_args(None if words is None else list(words))
-    named = f"{given.file}: " if hasattr(given, "file") else "dihkelu: "
+    named = "dihkelu: "
     try:
+        given = arguments().parse_args(None if words is None else list(words))
+        named = f"{given.file}: " if hasattr(given, "file") else named
         if given.plot:
             plots.check(given.plot)
         return given.run(given)
@@ -412,5 +425,8 @@ def main(words: Iterable[str] | None = None) -> int:
     except Wrong as wrong:
         print(f"{named}{wrong}", file=sys.stderr)
         return 1
+    except (LibraryMissing, WrongEnvironment) as missing:
+        print(f"dihkelu: {missing}", file=sys.stderr)
+        return 2
     except KeyboardInterrupt:
         return 130
