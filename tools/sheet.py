@@ -154,7 +154,7 @@ def main(words):
     given = arguments().parse_args(words)
     try:
         printed, made = execute(given)
-        for kind, sentences in [("note", made.notes), ("hint", explain.hints(made))]:
+        for kind, sentences in [("note", made.notes), ("hint", reports.hints(made))]:
             for sentence in sentences:
                 print(f"{given.file}: {kind}: {sentence}", file=sys.stderr)
         files.emit(printed)

@@ -46,6 +46,7 @@ from .calls import (
     reflectance_range,
     retarder,
     run,
+    run_each,
     schlick_approx,
     stack,
     stokes_figures,

@@ -10,7 +10,7 @@ from dataclasses import dataclass, fields
 from typing import Any, Iterable, Iterator, Sequence, Union
 
 from .library import Library
-from .refusals import BY_NUMBER, InvalidParameter, answered
+from .refusals import BY_NUMBER, InvalidParameter, Refused, answered
 from .sheet import Coating, Layer, Sheet
 
 _library = Library()
@@ -107,10 +107,33 @@ class Train:
 
 def run(sheet: SheetLike) -> list[tuple[float, float]]:
     """s and p after each surface."""
-    data = _bytes(sheet)
-    out = _numbers(count=128)
-    count = answered(_library.dihkelu_run(data, len(data), out, len(out)), "run")
-    return [(out[2 * i], out[2 * i + 1]) for i in range(count)]
+    return _run(_bytes(sheet), _Powers())
+
+
+def run_each(sheets: Iterable[SheetLike]) -> list[list[tuple[float, float]] | Refused]:
+    """What `run` gives of each sheet; of one that is refused, its refusal."""
+    out, found = _Powers(), []
+    for sheet in sheets:
+        try:
+            found.append(_run(_bytes(sheet), out))
+        except Refused as refused:
+            found.append(refused)
+    return found
+
+
+def last_powers(sheet: SheetLike) -> tuple[float, float]:
+    """s and p after the last surface of a sheet that has one."""
+    data, out = _bytes(sheet), _Powers()
+    count = 2 * answered(_library.dihkelu_run(data, len(data), out, 128), "run")
+    return out[count - 2], out[count - 1]
+
+
+_Powers = ctypes.c_double * 128
+
+
+def _run(data: bytes, out: Buffer) -> list[tuple[float, float]]:
+    count = 2 * answered(_library.dihkelu_run(data, len(data), out, 128), "run")
+    return list(zip(out[0:count:2], out[1:count:2]))
 
 
 def edition_1(sheet: SheetLike) -> bytes:

@@ -20,6 +20,7 @@ from .plans import Index, Made, Plan, index_at
 from .words import Wrong, counted, in_line, written
 
 MOST_POINTS = 100_000  # of a sweep
+MOST_HINTS = 20  # of a batch, on a terminal
 STATUSES = "The status is 0, 1 where a text, sheet or point was refused, or 2 where the input or output failed or the call is none."
 
 
@@ -38,7 +39,7 @@ def plan_of(name: str) -> Plan:
 def made_of(given: argparse.Namespace) -> Made:
     """The sheet of the file at the wavelength given; what was worked out for it is said."""
     made = plan_of(given.file).make(given.wavelength)
-    say(given, made.notes, explain.hints(made))
+    say(given, made.notes, reports.hints(made))
     return made
 
 
@@ -52,7 +53,7 @@ def say(given: argparse.Namespace, notes: list[str], hints: list[str]) -> None:
 
 
 def remarks(made: Made) -> dict[str, Any]:
-    return {"notes": made.notes, "hints": explain.hints(made)}
+    return {"notes": made.notes, "hints": reports.hints(made)}
 
 
 # ---- output
@@ -122,7 +123,7 @@ def write(given: argparse.Namespace) -> int:
 def show(given: argparse.Namespace) -> int:
     """The notes stand in the text, as comments."""
     made = plan_of(given.file).make(given.wavelength)
-    say(given, [], explain.hints(made))
+    say(given, [], reports.hints(made))
     if given.format == "json":
         put(given, made.sheet.to_json() + "\n")
     else:
@@ -181,7 +182,7 @@ def sweep(given: argparse.Namespace) -> int:
         points = reports.sweep_wavelength(plan, steps(*given.wavelength))
         ends = [plan.make(x) for x in _ends(points)]
     notes = list(dict.fromkeys(note for made in ends for note in made.notes))
-    hints = list(dict.fromkeys(hint for made in ends for hint in explain.hints(made)))
+    hints = list(dict.fromkeys(hint for made in ends for hint in reports.hints(made)))
     if given.wavelength and (kept := kept_by_retune(plan)):
         hints.append(kept)
     say(given, notes, hints)
@@ -237,7 +238,7 @@ def judged(given: argparse.Namespace, data: bytes) -> dict[str, Any]:
     missed: list[tuple[int, str]] = []
     try:
         made = plan_from(data).make(given.wavelength)
-        say(given, made.notes, explain.hints(made))
+        say(given, made.notes, reports.hints(made))
         missed = [(place, f"{name}{in_line(line)}: {why}") for place, name, line, why in explain.blocks(made) if why]
         reports.powers(made)
     except explain.Turned as turned:
@@ -258,15 +259,26 @@ def wrong_line(wrong: Wrong, data: bytes) -> dict[str, Any]:
 def many(given: argparse.Namespace) -> int:
     names = batch.files(given.files)
     results = batch.run(names, given.jobs, (lambda count: None) if given.quiet else batch.bar(len(names)))
-    rows = [dataclasses.asdict(one) for one in results]
+    rows = [one._asdict() | {"hints": list(one.hints)} for one in results]
     table = [["file", "surfaces", "s", "p", "sum", "lost %", ""]]
     for one in results:
         powers = ["-"] * 4 if one.sum is None else [f"{one.s:.6f}", f"{one.p:.6f}", f"{one.sum:.6f}", reports.percent(one.lost_percent)]
         table.append([one.file, "-" if one.surfaces is None else str(one.surfaces), *powers, one.refused])
     refused = sum(bool(one.status) for one in results)
     last = f"{counted(len(results), 'sheet')}, {refused} refused or unread\n"
-    put_rows(given, reports.aligned(table, (0, 6)) + last, rows, {"sheets": rows})
+    say_of_many(given, results)
+    flat = [row | {"hints": "; ".join(row["hints"])} for row in rows] if given.format == "csv" else rows
+    put_rows(given, reports.aligned(table, (0, 6)) + last, flat, {"sheets": rows})
     return max((one.status for one in results), default=0)
+
+
+def say_of_many(given: argparse.Namespace, results: list[batch.Result]) -> None:
+    """The hints of a batch on standard error, those of the first files where there are many."""
+    hints = [f"{one.file}: hint: {hint}" for one in results for hint in one.hints]
+    more = [f"dihkelu: {len(hints) - MOST_HINTS} more hints: --format json or csv has them all"] if len(hints) > MOST_HINTS else []
+    in_output = given.format in ("json", "csv")
+    for line in [] if given.quiet else batch.left_out(given.files) + ([] if in_output else hints[:MOST_HINTS] + more):
+        print(line, file=sys.stderr)
 
 
 def list_glasses(given: argparse.Namespace) -> int:

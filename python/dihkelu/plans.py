@@ -112,6 +112,7 @@ class Plan:
     p: float = math.nan
     beam_line: int | None = None
     faces: list[Face] = field(default_factory=list)
+    hints: list[str] = field(default_factory=list)  # what is hardly meant in the text itself
 
     def make(self, wavelength_nm: float | None = None, angles: dict[int, float] | None = None) -> Made:
         """The sheet at a wavelength, the beam's own unless given, with other angles in radians by the faces' numbers from 0."""

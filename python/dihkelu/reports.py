@@ -23,6 +23,14 @@ def powers(made: Made) -> list[tuple[float, float]]:
         raise explain.Turned(refused, explain.sentence(refused, data, made)) from None
 
 
+def hints(made: Made) -> list[str]:
+    """Where a sheet is hardly what was meant, with what its run says where it is admitted."""
+    try:
+        return explain.hints(made, powers(made))
+    except explain.Turned:
+        return explain.hints(made)
+
+
 def percent_of(part: float, whole: float) -> float | None:
     """None of nothing."""
     return 100 * part / whole if whole else None

@@ -282,14 +282,19 @@ def without_mark(data: bytes) -> bytes:
 
 def is_text(data: bytes) -> bool:
     """A text is UTF-8 with hardly a control byte; a sheet begins with OPEN's byte 0x10 and is full of them."""
+    if data[:1] == b"\x10":
+        return False
     if is_utf_16(data):
         return True
-    controls = sum(byte < 32 and byte not in (9, 10, 13) for byte in data)
+    controls = len(data) - len(data.translate(None, CONTROLS))
     try:
         without_mark(data).decode("utf-8")
     except UnicodeDecodeError:
         return not controls
-    return data[:1] != b"\x10" and 8 * controls <= len(data)
+    return 8 * controls <= len(data)
+
+
+CONTROLS = bytes(byte for byte in range(32) if byte not in (9, 10, 13))
 
 
 def lines_of(data: bytes) -> Iterator[tuple[int, str]]:

@@ -1,11 +1,13 @@
 """Tests of the command `dihkelu`: its answers in every format, its statuses, its pictures."""
 import csv
+import ctypes.util
 import io
 import json
 import math
 import os
 import pathlib
 import re
+import shutil
 import struct
 import subprocess
 import sys
@@ -72,7 +74,7 @@ class Losses(Folder):
         status, _, said = run("losses", "-", given=SCANNER)
         self.assertEqual((status, said.count("-: note: "), said.count("hint")), (0, 4, 0))
         self.assertEqual(run("losses", "-", "--quiet", given=SCANNER)[2], "")
-        said = run("losses", "-", given="beam 1064 nm s 1 p 1\nsurface mgf2 transmitted from 1 to 1.5 at 0 deg\n")[2]
+        said = run("losses", "-", given="beam 1064 nm s 1 p 0\nsurface mgf2 transmitted from 1 to 1.5 at 0 deg\n")[2]
         self.assertEqual(said, "-: hint: surface 1 (line 2) has the preset mgf2, designed for 550 nm; the light has 1064 nm\n")
 
     def test_another_wavelength(self):
@@ -93,7 +95,7 @@ class Losses(Folder):
         self.assertIsNone(whole["scale_factor"])
 
     def test_refused(self):
-        status, out, said = run("losses", "-", given="beam 99 nm s 1 p 1\n")
+        status, out, said = run("losses", "-", given="beam 99 nm s 1 p 0\n")
         self.assertEqual((status, out, said), (1, b"", "-: refused 6 1: the beam (line 1) is outside the gate: the wavelength is 99, not from 100 to 10000\n"))
 
 
@@ -293,9 +295,50 @@ class Batch(Folder):
 
     def test_many_processes(self):
         names = [str(self.file(f"{i:03}.txt", KNOWN.replace("0 rad", f"{i / 300} rad"))) for i in range(300)]
-        self.assertGreater(len(names), batch.FEW)
-        self.assertEqual(batch.run(names, 2), batch.run(names, 1))
+        with mock.patch.object(batch, "ALONE_S", 0.0):
+            self.assertEqual(batch.run(names, 2), batch.run(names, 1))
         self.assertEqual(batch.files([str(self.folder)]), names)
+
+    def test_sheets_are_texts(self):
+        """A sheet's bytes, which go past the plan, have the answer, the refusal and the hints of what is shown of it."""
+        compared = 0
+        for path in sorted(EXAMPLES.glob("*.sheet")):
+            found = batch.one(str(path))
+            shown = run("show", path)
+            if found.status or shown[0]:
+                self.assertEqual((found.status, found.refused), (run("losses", path)[0], run("losses", path, "-q")[2].split(": ", 1)[1].strip()))
+                continue
+            same = batch.one(str(self.file("shown.txt", shown[1])))
+            self.assertEqual(found[1:-1], same[1:-1])
+            self.assertEqual(list(found.hints), [re.sub(r" \(line [0-9]+\)", "", hint) for hint in same.hints], path.name)
+            compared += 1
+        self.assertGreater(compared, 30)
+
+    def test_hints(self):
+        """The preset mirror at 1064 nm lost 93 % without a word."""
+        path = self.file("mirror.txt", "beam 1064 nm s 0.5 p 0.5\nsurface mirror reflected from 1 to 1.52 at 45 deg\n")
+        hint = "surface 1 (line 2) has the preset mirror, designed for 550 nm; the light has 1064 nm"
+        status, out, said = run("batch", path)
+        self.assertEqual((status, said), (0, f"{path}: hint: {hint}\n"))
+        self.assertEqual(json.loads(run("batch", path, "-f", "json")[1])["sheets"][0]["hints"], [hint])
+        self.assertEqual(list(csv.DictReader(io.StringIO(run("batch", path, "-f", "csv")[1].decode())))[0]["hints"], hint)
+        self.assertEqual(run("batch", path, "-q")[2], "")
+        many = run("batch", *[path] * 25)[2].splitlines()
+        self.assertEqual((len(many), many[-1]), (21, "dihkelu: 5 more hints: --format json or csv has them all"))
+
+    def test_folders(self):
+        """Endings of either size and folders in folders; what is left out is said, and nothing at all is no success."""
+        (self.folder / "in").mkdir()
+        names = [str(self.file(name, KNOWN)) for name in ("a.TXT", "b.text", "in/c.txt")]
+        self.file("notes.md", "x")
+        self.assertEqual(batch.files([str(self.folder)]), names)
+        status, out, said = run("batch", self.folder)
+        self.assertEqual((status, out.endswith(b"3 sheets, 0 refused or unread\n")), (0, True))
+        self.assertEqual(said, f"{self.folder}: files that end with none of .txt, .text, .sheet are left out: .md\n")
+        (self.folder / "empty").mkdir()
+        status, out, said = run("batch", self.folder / "empty")
+        self.assertEqual((status, out), (2, b""))
+        self.assertIn("has no text and no sheet", said)
 
     def test_progress(self):
         with mock.patch.object(sys, "stderr", io.StringIO()) as said:
@@ -384,6 +427,46 @@ class Ends(Folder):
             self.assertEqual((done.returncode, b"cannot be written: No space left on device" in done.stderr), (2, True))
         done = subprocess.run(["sh", "-c", '"$@" losses - <&-', "sh", *module], capture_output=True, env=environment, check=False)
         self.assertEqual((done.returncode, b"Traceback" in done.stderr), (2, False), done.stderr)
+
+
+class Libraries(Folder):
+    """Without a library there is one sentence and the status 2, which no refusal has."""
+
+    def checkout(self):
+        """A copy of what is needed to build it."""
+        for name in ("python/dihkelu", "c"):
+            shutil.copytree(ROOT / name, self.folder / name, ignore=shutil.ignore_patterns("build", "__pycache__", "_library*"))
+        return self.folder / "c" / "build"
+
+    def said(self, *words, **more):
+        environment = {key: x for key, x in os.environ.items() if key != "DIHKELU_LIBRARY"} | {"PYTHONPATH": str(self.folder / "python"), **more}
+        done = subprocess.run([sys.executable, "-m", "dihkelu", *map(str, words)], capture_output=True, text=True, env=environment, check=False)
+        return done.returncode, done.stdout, done.stderr
+
+    def test_missing(self):
+        build = self.checkout()
+        window = EXAMPLES / "window.txt"
+        self.assertEqual(self.said("--help", PATH="")[0], 0)
+        status, out, said = self.said("losses", window, PATH="/nowhere")
+        self.assertEqual((status, out, said.count("\n")), (2, "", 2))
+        self.assertIn("dihkelu: the library cannot be built: there is no make; install make and a C compiler, or build", said)
+        self.assertEqual(self.said("--version", PATH="/nowhere")[0], 2)
+        build.write_text("this is no folder: nothing can be built in it")
+        status, out, said = self.said("losses", window)
+        self.assertEqual((status, out, said.count("\n"), "Traceback" in said), (2, "", 2, False))
+        self.assertIn(f"the library cannot be built in {build} (", said)
+        build.unlink()
+        for wrong, why in [("/nowhere.so", "No such file"), (str(window), "invalid ELF header"), (ctypes.util.find_library("m"), "undefined symbol")]:
+            status, out, said = self.said("losses", window, DIHKELU_LIBRARY=wrong)
+            self.assertEqual((status, out, said.count("\n")), (2, "", 1))
+            self.assertIn(f"dihkelu: {wrong} cannot be loaded as the library (", said)
+            self.assertIn(why, said)
+
+    def test_built_at_first_use(self):
+        build = self.checkout()
+        status, out, said = self.said("losses", EXAMPLES / "window.txt")
+        self.assertEqual((status, said), (0, f"dihkelu: building {build}/libdihkelu.so from its C source; this is done once and takes some seconds\n"))
+        self.assertEqual(self.said("losses", EXAMPLES / "window.txt"), (0, out, ""))
 
 
 class Pages(unittest.TestCase):
