@@ -9,6 +9,7 @@ from dataclasses import dataclass, field, replace
 from typing import Union
 
 from . import glasses
+from .angles import arcsine, sine
 from .sheet import Coating, Glass, Layer, Sheet, Surface
 from .words import Wrong, counted, where, written
 
@@ -188,10 +189,10 @@ def _surface(face: Face, nm: float, angle: float, before: list[Surface], made: M
 
 def inside(angle_rad: float, n0: float, n1: float, line: int | None = None) -> float:
     """The angle in index n1 of light that comes in index n0 at an angle, by Snell's law."""
-    sine = n0 * math.sin(angle_rad) / n1 if math.isfinite(angle_rad) and n1 else math.nan
-    if not abs(sine) <= 1:
+    ratio = n0 * sine(angle_rad) / n1 if math.isfinite(angle_rad) and n1 else math.nan
+    if not abs(ratio) <= 1:
         raise Wrong(f"{where(line)}no light at {math.degrees(angle_rad):.2f} deg in index {written(n0)} comes into index {written(n1)}")
-    return math.asin(sine)
+    return arcsine(ratio)
 
 
 def of_sheet(sheet: Sheet) -> Plan:

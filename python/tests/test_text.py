@@ -5,7 +5,7 @@ import struct
 import unittest
 
 from common import ROOT, build_train, train
-from dihkelu import Coating, Glass, Layer, Sheet, Surface, explain, glasses, plans, reports, run, stack, text
+from dihkelu import Coating, Glass, Layer, Sheet, Surface, angles, explain, glasses, plans, reports, run, stack, text
 
 BEAM = "beam 1064 nm s 0.5 p 0.5\n"
 
@@ -57,6 +57,17 @@ class Glasses(unittest.TestCase):
                 glasses.glass(name)
 
 
+class Angles(unittest.TestCase):
+    def test_beside_the_system(self):
+        """The library's sine and arcsine, which the angle inside a window is worked out with, beside the system's."""
+        rng = random.Random(5)
+        for x in [0.0, 1.0, -1.0, *(rng.uniform(-1.3, 1.3) for _ in range(1000))]:
+            self.assertAlmostEqual(angles.sine(x), math.sin(x), delta=3e-16)
+            self.assertAlmostEqual(angles.arcsine(0.75 * x), math.asin(0.75 * x), delta=2e-15)
+        self.assertEqual(angles.sine(5e-324), 5e-324)
+        self.assertTrue(math.isnan(angles.sine(1e308)))
+
+
 class Windows(unittest.TestCase):
     def test_two_faces_by_hand(self):
         inner = math.asin(math.sin(math.radians(30)) / 1.5)
@@ -84,7 +95,7 @@ class Windows(unittest.TestCase):
         n = glasses.glass("fused-silica").index(532)
         self.assertEqual(other.sheet.wavelength_nm, 532.0)
         self.assertEqual(other.sheet.surfaces[0].n_substrate, n)
-        self.assertEqual(other.sheet.surfaces[1].angle_rad, math.asin(math.sin(0.25) / n))
+        self.assertAlmostEqual(other.sheet.surfaces[1].angle_rad, math.asin(math.sin(0.25) / n), delta=1e-15)
         # the layer was made at 1064 nm: its thickness stays, its index follows
         thickness = 1064 / (4 * glasses.glass("fused-silica").index(1064))
         self.assertEqual(other.sheet.surfaces[0].layers, (Layer(n, 0.0, thickness),))
