@@ -105,10 +105,10 @@ STACK_FORM = "stack TEXT with H INDEX L INDEX [M INDEX] at NUMBER nm|um"
 
 # a stack, and what is said of it
 BAD_STACKS = [
-    ("stack H^32H with H 2.3 L 1.46 at 550 nm", "refused 9 3: 'H^32H' is no stack: '2' cannot stand at its byte 3, counted from 0"),
+    ("stack H^32H with H 2.3 L 1.46 at 550 nm", "refused 9 3: 'H^32H' is no stack: a power is from 1 to 31, and 32 is none, at its byte 3, counted from 0"),
     ("stack (HL with H 2.3 L 1.46 at 550 nm", "refused 9 3: '(HL' stops early"),
     ("stack " + 256 * "H" + " with H 2.3 L 1.46 at 550 nm", "refused 9 255: the stack has 256 bytes; a stack has 255 at most"),
-    ("stack H\u00e9 with H 2.3 L 1.46 at 550 nm", "refused 9 1: 'H\u00e9' is no stack: '\u00e9' cannot stand at its byte 1, counted from 0"),
+    ("stack H\u00e9 with H 2.3 L 1.46 at 550 nm", "refused 9 1: 'H\u00e9' is no stack: '\u00e9' cannot stand at its byte 1, counted from 0; its letters are H, L and M"),
     ("stack (H^31)^3 with H 2.3 L 1.46 at 550 nm", "refused 10 0: '(H^31)^3' has more than 64 layers"),
     ("stack H with H 0 L 1.46 at 550 nm", "refused 1 0: an index or the design wavelength is not positive and finite"),
     ("stack HM with H 2.3 L 1.46 at 550 nm", f"M stands in 'HM' and has no index: {STACK_FORM}"),
@@ -528,7 +528,7 @@ class Texts(unittest.TestCase):
             self.assertEqual(tool("write", "-", given=KNOWN_TEXT.decode() + comment), (0, KNOWN_SHEET, ""))
 
     def test_other_digits(self):
-        for digits in ["\u0665\u0660\u0660", "\uff15\uff10\uff10", "5\u0660\u0660", "1_000", "nan", "inf", "0x1p3", "5,5"]:
+        for digits in ["\u0665\u0660\u0660", "\uff15\uff10\uff10", "5\u0660\u0660", "1_000", "nan", "inf", "0x1p3", "5,5,5", "5,5.5"]:
             self.wrong(f"beam {digits} nm s 0.5 p 0.5\n", f"line 1: '{digits}' is no number")
 
 

@@ -10,14 +10,14 @@ import json
 import math
 import sys
 from pathlib import Path
-from typing import Any, Iterable, Sequence
+from typing import Any, Iterable, NoReturn, Sequence
 
 from . import batch, explain, files, glasses, plots, reports, text
 from .calls import version
 from .files import Failed
 from .library import LibraryMissing, WrongEnvironment
 from .plans import Index, Made, Plan, index_at
-from .words import Wrong, counted, in_line, written
+from .words import Wrong, apart, counted, decimal_text, in_line, printable, quoted, unit, written
 
 MOST_POINTS = 100_000  # of a sweep
 MOST_HINTS = 20  # of a batch, on a terminal
@@ -49,7 +49,7 @@ def say(given: argparse.Namespace, notes: list[str], hints: list[str]) -> None:
         return
     for kind, sentences in [("note", notes), ("hint", hints)]:
         for sentence in sentences:
-            print(f"{given.file}: {kind}: {sentence}", file=sys.stderr)
+            print(printable(f"{getattr(given, 'file', 'dihkelu')}: {kind}: {sentence}"), file=sys.stderr)
 
 
 def remarks(made: Made) -> dict[str, Any]:
@@ -208,16 +208,17 @@ def _ends(points: list[reports.Point]) -> list[float]:
 
 
 def stack(given: argparse.Namespace) -> int:
-    letters = [given.H, given.L, given.M or given.H]
+    letters, given.text = [given.H, given.L, given.M or given.H], text.plain_stack(given.text)
     if "M" in given.text and given.M is None:
-        raise Wrong(f"M stands in '{given.text}' and has no index: say --M")
+        raise Wrong(f"M stands in {quoted(given.text)} and has no index: say --M")
     layers = [film.at(given.at) for film in text.stack_films(given.text, letters, given.at, None)]
+    say(given, [], text.stack_hints(given.text))
     rows = [{"layer": count, "n": index_at(layer, given.at), "thickness_nm": layer.thickness_nm} for count, layer in enumerate(layers, 1)]
     if given.format == "text":
         put(given, "".join(text.layer_text(layer, given.at) + "\n" for layer in layers))
     else:
         table = [["layer", "n", "thickness nm"]] + [[written(float(x)) for x in row.values()] for row in rows]
-        put_rows(given, reports.aligned(table), rows, {"text": given.text, "design_nm": given.at, "layers": rows})
+        put_rows(given, reports.aligned(table), rows, {"text": given.text, "design_nm": given.at, "layers": rows, "hints": text.stack_hints(given.text)})
     return 0
 
 
@@ -325,21 +326,38 @@ def completion_script(parser: argparse.ArgumentParser) -> str:
 # ---- arguments
 
 
-def decimal_number(word: str) -> decimal.Decimal:
-    number(word)
+def quantity(word: str, units: dict[str, int]) -> decimal.Decimal:
+    """A decimal number, with its unit or in the first of these."""
+    number_, *named = apart(word)
+    found = unit(named[0]) if named else next(iter(units))
+    if found not in units:
+        raise argparse.ArgumentTypeError(f"{quoted(word)} is in {found}; it is wanted in {' or '.join(units)}")
     try:
-        return decimal.Decimal(word)
-    except decimal.InvalidOperation:
-        raise argparse.ArgumentTypeError(f"'{word}' is no decimal number") from None
+        return decimal.Decimal(decimal_text(number_)) * units[found]
+    except (Wrong, decimal.DecimalException) as wrong:
+        raise argparse.ArgumentTypeError(str(wrong) if isinstance(wrong, Wrong) else f"{quoted(word)} is no decimal number") from None
 
 
-def number(word: str) -> float:
+def nanometres(word: str) -> decimal.Decimal:
+    return quantity(word, {"nm": 1, "um": 1000})
+
+
+def degrees(word: str) -> decimal.Decimal:
+    return quantity(word, {"deg": 1})
+
+
+def length(word: str) -> float:
+    """In nm, as a text has it."""
+    number_, *named = apart(word)
     try:
-        found = text.number(word)
+        found = text.number(number_)
     except Wrong as wrong:
         raise argparse.ArgumentTypeError(str(wrong)) from None
+    if named:
+        nanometres(word)
+        found = text.in_unit(found, unit(named[0]))
     if not math.isfinite(found):
-        raise argparse.ArgumentTypeError(f"'{word}' is no finite number")
+        raise argparse.ArgumentTypeError(f"{quoted(word)} is no finite number")
     return found
 
 
@@ -351,9 +369,16 @@ def index(word: str) -> Index:
 
 
 def whole(word: str) -> int:
-    if not word.isascii() or not word.isdigit() or int(word) == 0:
-        raise argparse.ArgumentTypeError(f"'{word}' is no whole number from 1 on")
+    if not word.isascii() or not word.isdigit() or len(word) > 9 or int(word) == 0:
+        raise argparse.ArgumentTypeError(f"{quoted(word)} is no whole number from 1 on")
     return int(word)
+
+
+class Parser(argparse.ArgumentParser):
+    """One whose errors are a line, whatever was given."""
+
+    def error(self, message: str) -> NoReturn:
+        super().error(printable(message if len(message) <= 400 else message[:398] + ".."))
 
 
 class Version(argparse.Action):
@@ -368,7 +393,7 @@ class Version(argparse.Action):
 
 
 def arguments() -> argparse.ArgumentParser:
-    parser = argparse.ArgumentParser(prog="dihkelu", description=__doc__, epilog=STATUSES)
+    parser = Parser(prog="dihkelu", description=__doc__, epilog=STATUSES)
     parser.add_argument("--version", action=Version)
     commands = parser.add_subparsers(dest="command", required=True, metavar="COMMAND")
 
@@ -378,7 +403,7 @@ def arguments() -> argparse.ArgumentParser:
         if file:
             one.add_argument("file", metavar="FILE", help="a text or a sheet; - is standard input")
         if file and nm:
-            one.add_argument("--wavelength", type=number, metavar="NM", help="in the place of the beam's wavelength")
+            one.add_argument("--wavelength", type=length, metavar="NM", help="in the place of the beam's wavelength")
         if formats:
             one.add_argument("-f", "--format", choices=formats, default=formats[0], help="of the output, %(default)s unless given")
         if plot:
@@ -392,9 +417,9 @@ def arguments() -> argparse.ArgumentParser:
     add("losses", losses, "show what each surface loses", formats=rows, plot=True)
     one = add("sweep", sweep, "run the train over a range of angles or wavelengths", formats=rows, plot=True, nm=False)
     over = one.add_mutually_exclusive_group(required=True)
-    range_: dict[str, Any] = {"nargs": 3, "type": decimal_number, "metavar": ("FROM", "TO", "STEP")}
-    over.add_argument("--angle", help="in degrees", **range_)
-    over.add_argument("--wavelength", help="of the beam, in nm", **range_)
+    range_: dict[str, Any] = {"nargs": 3, "metavar": ("FROM", "TO", "STEP")}
+    over.add_argument("--angle", type=degrees, help="in degrees", **range_)
+    over.add_argument("--wavelength", type=nanometres, help="of the beam, in nm", **range_)
     one.add_argument("--surface", type=whole, nargs="+", metavar="N", help="whose angle is swept, counted from 1; the first unless given")
     one.add_argument("--each", action="store_true", help="s and p after each surface, in columns of their own")
     one = add("band", band, "show s and p at each line of a band, and their weighed means", formats=rows, plot=True)
@@ -411,9 +436,9 @@ def arguments() -> argparse.ArgumentParser:
     one.add_argument("text", metavar="TEXT", help="such as '(HL)^7 H'")
     for letter in "HLM":
         one.add_argument(f"--{letter}", type=index, required=letter != "M", metavar="INDEX", help=f"of {letter}: a number or a glass")
-    one.add_argument("--at", type=number, required=True, metavar="NM", help="the design wavelength")
+    one.add_argument("--at", type=length, required=True, metavar="NM", help="the design wavelength")
     one = add("glasses", list_glasses, "list the glasses that have a name", file=False, formats=rows)
-    one.add_argument("--at", type=number, default=587.6, metavar="NM", help="the wavelength of the index shown, %(default)s unless given")
+    one.add_argument("--at", type=length, default=587.6, metavar="NM", help="the wavelength of the index shown, %(default)s unless given")
     add("completion", completion, "print a script that completes this command in bash", file=False)
     return parser
 
@@ -432,13 +457,13 @@ def main(words: Iterable[str] | None = None) -> int:
             plots.check(given.plot)
         return given.run(given)
     except Failed as failed:
-        print(f"{named}{failed}", file=sys.stderr)
+        print(printable(f"{named}{failed}"), file=sys.stderr)
         return 2
     except Wrong as wrong:
-        print(f"{named}{wrong}", file=sys.stderr)
+        print(printable(f"{named}{wrong}"), file=sys.stderr)
         return 1
     except (LibraryMissing, WrongEnvironment) as missing:
-        print(f"dihkelu: {missing}", file=sys.stderr)
+        print(printable(f"dihkelu: {missing}"), file=sys.stderr)
         return 2
     except KeyboardInterrupt:
         return 130

@@ -15,7 +15,7 @@ from .plans import MOST_LAYERS, MOST_SURFACES, Made, cauchy, index_at, met, of_s
 from .refusals import Refused
 from .sheet import Coating, Glass, Layer, Sheet, Surface
 from .text import without_mark
-from .words import Wrong, counted, in_line, written
+from .words import Wrong, counted, in_line, printable, written
 
 PRESET_INDICES = {Coating.MGF2: [1.38], Coating.BROADBAND_AR: [1.46, 2.3], Coating.MIRROR: [2.3, 1.46]}  # which the gate tests too
 PRESET_NM = 550.0
@@ -228,14 +228,15 @@ def line_of(said: str) -> int | None:
 def content(data: bytes, line: int) -> str:
     """A line of a text, as far as it can be read."""
     lines = re.split(rb"\r\n|\n|\r", without_mark(data))
-    return lines[line - 1].decode("utf-8", "replace").strip() if line <= len(lines) else ""
+    found = lines[line - 1].decode("utf-8", "replace").strip() if line <= len(lines) else ""
+    return printable(found if len(found) <= 140 else found[:138] + "..")
 
 
 # ---- hints
 
 STEEP = math.pi / 2
 FAR = 2.0**20  # radians: beyond it the documents' sine and cosine fold with the f64 next to 2 pi
-SEEN = 0.005  # of s or p: light to and fro in a plate is said from here on
+SEEN = 0.01  # of s or p: light to and fro in a plate is said from here on
 NUDGE = 2.0**-40  # of the wavelength, for a stack's resonance
 ROUNDED = 4 * 2.0**-53  # of a phase
 FEW_FILMS = 3  # on a surface: fewer do not resonate
@@ -405,7 +406,7 @@ def resonance_hints(data: bytes, walked: Walk, after: Sequence[tuple[float, floa
     change = max(abs(s - after[-1][0]), abs(p - after[-1][1])) / NUDGE
     if not change * ROUNDED > SHOWS:
         return []
-    return [f"the films are so resonant that one part in 10^12 of the wavelength changes a power by {change * 1e-12:.1g}: rounding may show from {change * ROUNDED:.0e} on"]
+    return [f"the films are so resonant that one part in 10^12 of the wavelength changes a power by {change * 1e-12:.2g}: rounding may show from {change * ROUNDED:.0e} on"]
 
 
 def metal_hints(made: Made) -> list[str]:

@@ -133,7 +133,16 @@ class Sheets(Folder):
         self.assertEqual(lines.splitlines()[0], f"layer 2.3 thickness {1064 / (4 * 2.3)!r} nm")
         self.assertEqual(len(json.loads(run(*words, "-f", "json")[1])["layers"]), 5)
         self.assertEqual(run("stack", "HM", "--H", "2", "--L", "1.5", "--at", "1064")[0], 1)
-        self.assertEqual(run("stack", "H^32H", "--H", "2", "--L", "1.5", "--at", "1064")[2], "dihkelu: refused 9 3: 'H^32H' is no stack: '2' cannot stand at its byte 3, counted from 0\n")
+        self.assertEqual(run("stack", "H^32H", "--H", "2", "--L", "1.5", "--at", "1064")[2], "dihkelu: refused 9 3: 'H^32H' is no stack: a power is from 1 to 31, and 32 is none, at its byte 3, counted from 0\n")
+
+    def test_lengths_as_people_write(self):
+        wanted = run("stack", "HL", "--H", "2.3", "--L", "1.46", "--at", "1064")
+        for at in ("1064nm", "1,064e3", "1.064um", "1.064\u00b5m"):
+            self.assertEqual(run("stack", "HL", "--H", "2,3", "--L", "1.46", "--at", at), wanted)
+        self.assertEqual(run("stack", "(HL)7 H", "--H", "2.3", "--L", "1.46", "--at", "1064")[2][:29], "dihkelu: hint: in '(HL)7 H' t")
+        for wrong, said in [("1,064", "'1,064' may be 1.064 or 1064"), ("8deg", "'8deg' is in deg; it is wanted in nm or um"), ("9" * 5000 + "x", "9' is no number")]:
+            status, _, found = run("stack", "HL", "--H", "2.3", "--L", "1.46", "--at", wrong)
+            self.assertEqual((status, said.split("9'")[-1] in found, max(map(len, found.splitlines())) < 500), (2, True, True), found)
 
     def test_glasses(self):
         status, out, _ = run("glasses", "--at", "300")
