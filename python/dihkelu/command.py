@@ -16,7 +16,7 @@ from . import batch, explain, files, glasses, plots, reports, text
 from .calls import version
 from .files import Failed
 from .library import LibraryMissing, WrongEnvironment
-from .plans import Index, Made, Plan, index_at
+from .plans import MOST_ALONE, Index, Made, Plan, index_at
 from .words import Wrong, apart, counted, decimal_text, in_line, printable, quoted, unit, written
 
 MOST_POINTS = 100_000  # of a sweep
@@ -112,6 +112,17 @@ def losses(given: argparse.Namespace) -> int:
     scaled = "" if found.scale_factor is None else f"scale factor {found.scale_factor:.6f}: the beam over what is left\n"
     rows = [dataclasses.asdict(one) for one in found.surfaces]
     put_rows(given, reports.losses_table(found) + scaled, rows, {"file": given.file, **dataclasses.asdict(found), **remarks(made)})
+    return 0
+
+
+def evaluate(given: argparse.Namespace) -> int:
+    data = files.load(given.file)
+    plan = text.read(data, MOST_ALONE) if text.is_text(data) else plan_from(data)
+    made = plan.make(given.wavelength)
+    found = reports.alone(made)
+    say(given, made.notes, reports.hints(made))
+    rows = [dataclasses.asdict(one) for one in found]
+    put_rows(given, reports.alone_table(found), rows, {"file": given.file, "surfaces": rows, **remarks(made)})
     return 0
 
 
@@ -424,6 +435,7 @@ def arguments() -> argparse.ArgumentParser:
     one.add_argument("--each", action="store_true", help="s and p after each surface, in columns of their own")
     one = add("band", band, "show s and p at each line of a band, and their weighed means", formats=rows, plot=True)
     one.add_argument("lines", metavar="LINES", help=f"a file of lines, each {text.BAND_FORM}")
+    add("evaluate", evaluate, f"show what each surface alone reflects and transmits, at any angle and with up to {MOST_ALONE} layers", formats=rows)
     add("check", check, "say whether a sheet is admitted, and if not why", formats=rows)
     one = add("batch", many, "run many texts and sheets, on all cores", file=False, formats=rows)
     one.add_argument("files", metavar="FILE", nargs="+", help="texts and sheets, or folders of .txt and .sheet")

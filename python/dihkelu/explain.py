@@ -7,7 +7,7 @@ from __future__ import annotations
 import math
 import re
 import struct
-from dataclasses import dataclass
+from dataclasses import dataclass, replace
 from typing import Iterator, NamedTuple, Sequence, Union
 
 from .calls import gate, last_powers
@@ -98,34 +98,48 @@ def surface_missed(surface: Surface) -> str:
 
 
 def layer_missed(layer: Union[Layer, Glass], surface: Surface, wavelength: float) -> str:
-    n = index_at(layer, wavelength)
-    if isinstance(layer, Glass):
-        said = [f"{name} is not finite" for name, x in zip("ABC", (layer.a, layer.b, layer.c)) if not math.isfinite(x)]
-        said.append(within(f"its index at {written(wavelength)} nm", n, 1, 4))
-    else:
-        said = [within("n", n, 1, 4), "" if layer.k == 0 else f"k is {written(layer.k)}, not zero"]
-    said += [within("the thickness", layer.thickness_nm, 0, 100000), bends(surface, "n", n)]
+    n, k = index_at(layer, wavelength), 0.0 if isinstance(layer, Glass) else layer.k
     metal = metal_missed(surface, wavelength)
-    absorbs = n < 1 or isinstance(layer, Layer) and layer.k != 0
-    return joined(said + (["of metal films, " + ", ".join(metal)] if absorbs else [])) if metal else ""
+    if not metal:
+        return ""
+    if (n < 1 or k != 0) and not isinstance(layer, Glass):
+        return f"with n {written(n)} and k {written(k)} it is a metal film, and {joined(metal)}"
+    said = [f"{name} is not finite" for name, x in zip("ABC", (layer.a, layer.b, layer.c)) if not math.isfinite(x)] if isinstance(layer, Glass) else []
+    said.append(within(f"its index at {written(wavelength)} nm" if isinstance(layer, Glass) else "n", n, 1, 4))
+    return joined(said + [within("the thickness", layer.thickness_nm, 0, 100000), bends(surface, "n", n)])
 
 
 def metal_missed(surface: Surface, wavelength: float) -> list[str]:
-    """Which limits of metal films (document 02, slip 12) a surface with its layers misses."""
-    if surface.angle_rad != 0:
-        return ["they are met at angle 0 only"]
-    if len(surface.layers) > MOST_METAL:
-        return [f"at most {MOST_METAL} layers are with them, not {len(surface.layers)}"]
+    """Which limits of metal films (document 02, slip 12) a surface with its layers misses, all of them."""
     said, total = [], 0.0
+    if surface.angle_rad != 0:
+        said.append(f"these are met at angle 0 only, not at {math.degrees(surface.angle_rad):.6g} deg")
+    if len(surface.layers) > MOST_METAL:
+        said.append(f"these stand on surfaces of at most {MOST_METAL} layers, not of {len(surface.layers)}")
     for number, layer in enumerate(surface.layers, 1):
         k = 0.0 if isinstance(layer, Glass) else layer.k
         of = f"of layer {number}"
         limits = [(f"n {of}", index_at(layer, wavelength), 0.0625, 4), (f"k {of}", k, 0, 8), (f"the thickness {of}", layer.thickness_nm, 0, 100000)]
         said += [one for one in (within(*limit) for limit in limits) if one]
         total += 2 * math.pi * layer.thickness_nm / wavelength * k if wavelength else math.nan
-    if not said and not total <= 16:
+    if not total <= 16:
         said.append(f"2 pi thickness / wavelength times k adds up to {written(total)}, more than 16")
     return said
+
+
+def no_sheet(made: Made, count: int, wavelength: float) -> str:
+    """Why a sheet admits no such surface, counted from 0; empty where it does."""
+    surface = replace(made.sheet.surfaces[count], retune_nm=None)
+    if len(surface.layers) > MOST_LAYERS:
+        return f"a surface of a sheet has at most {MOST_LAYERS} layers, and this has {len(surface.layers)}"
+    plan = replace(made.plan, faces=[made.plan.faces[count]])
+    one = Made(plan, replace(made.sheet, wavelength_nm=wavelength, surfaces=(surface,)))
+    try:
+        gate(one.sheet)
+        return ""
+    except Refused:
+        missed = [(name, why) for _, name, _, why in blocks(one) if why]
+    return joined([why if name == "surface 1" else f"{name.replace(' of surface 1', '')}: {why}" for name, why in missed])
 
 
 # ---- sentences

@@ -16,6 +16,7 @@ from .words import Wrong, counted, where, written
 COATINGS = [coating.name.lower().replace("_", "-") for coating in Coating]
 DIRECTIONS = ["transmitted", "reflected"]
 MOST_SURFACES, MOST_LAYERS = 64, 16
+MOST_ALONE = 64  # layers of a surface that is evaluated alone
 STEEPEST = math.asin(0.875)  # of a window in its medium: the gate takes n_incident times sin up to 0.875 of the second index
 
 

@@ -10,7 +10,7 @@ from typing import Iterator, Union
 
 from . import glasses
 from .calls import stack
-from .plans import COATINGS, DIRECTIONS, MOST_LAYERS, MOST_SURFACES, Face, Film, Index, Material, Plan, Tabled, film, index_at, met
+from .plans import COATINGS, DIRECTIONS, MOST_ALONE, MOST_LAYERS, MOST_SURFACES, Face, Film, Index, Material, Plan, Tabled, film, index_at, met
 from .refusals import NoStack, Refused, StackTooLong
 from .sheet import Coating, Glass, Layer, Sheet
 from .words import UNITS, Wrong, apart, number, quoted, suggested, unit, written
@@ -197,8 +197,8 @@ def layer_line(tokens: list[str], line: int, materials: Materials) -> Film:
 class Reader:
     """Takes one line after the other."""
 
-    def __init__(self) -> None:
-        self.plan = Plan()
+    def __init__(self, most_layers: int = MOST_LAYERS) -> None:
+        self.plan, self.most_layers = Plan(), most_layers
         self.materials: Materials = {}
         self.waiting: tuple[float, int] | None = None  # a retune's wavelength and line, until its surface comes
         self.under: list[Face] = []  # the faces that a layer belongs to
@@ -299,9 +299,12 @@ class Reader:
             raise Wrong("a layer stands only under a surface whose coating is custom")
         for face in self.under:
             total = len(face.films) + len(films)
-            if total > MOST_LAYERS:
-                raise Wrong(f"a surface has at most {MOST_LAYERS} layers" + (f"; with this stack it has {total}" if len(films) > 1 else ""))
+            if total > self.most_layers:
+                raise Wrong(f"a surface has at most {self.most_layers} layers" + (f"; with this stack it has {total}" if len(films) > 1 else "") + self.alone())
             face.films.extend(films)
+
+    def alone(self) -> str:
+        return "" if self.most_layers > MOST_LAYERS else f"; dihkelu evaluate takes {MOST_ALONE}, of a surface alone"
 
     def end(self) -> Plan:
         if self.plan.beam_line is None:
@@ -355,9 +358,9 @@ def lines_of(data: bytes) -> Iterator[tuple[int, str]]:
             raise Wrong(f"line {line}: the byte 0x{content[error.start]:02X} is not UTF-8; save the text as UTF-8") from None
 
 
-def read(data: Union[str, bytes]) -> Plan:
-    """The plan of a text."""
-    reader, line = Reader(), 0
+def read(data: Union[str, bytes], most_layers: int = MOST_LAYERS) -> Plan:
+    """The plan of a text; its surfaces have at most so many layers."""
+    reader, line = Reader(most_layers), 0
     for line, content in lines_of(data.encode() if isinstance(data, str) else data):
         content = content.split("#")[0]
         try:

@@ -15,7 +15,7 @@ import tempfile
 import unittest
 from unittest import mock
 
-from common import PACKAGE, ROOT, build_train, run, train
+from common import PACKAGE, ROOT, build_train, dihkelu, run, train
 from dihkelu import batch, command, plots, reports, text
 
 EXAMPLES = ROOT / "examples"
@@ -149,6 +149,43 @@ class Sheets(Folder):
         self.assertEqual((status, b"sapphire" in out, b"Malitson" in out), (0, True, True))
         rows = json.loads(run("glasses", "--at", "5000", "-f", "json")[1])["glasses"]
         self.assertEqual([one["name"] for one in rows if one["n"] is None], ["fused-silica", "n-bk7"])
+
+
+class Evaluate(Folder):
+    """A surface alone, also where no sheet has it."""
+
+    def rows(self, given):
+        status, out, _ = run("evaluate", "-", "-f", "json", given=given)
+        self.assertEqual(status, 0)
+        return json.loads(out)["surfaces"]
+
+    def test_gold_at_an_angle(self):
+        """Against Fresnel's formulas of a metal so thick that nothing passes."""
+        n, angle = complex(0.26, 6.97), math.radians(45)
+        inside = (n * n - math.sin(angle) ** 2) ** 0.5
+        rs = abs((math.cos(angle) - inside) / (math.cos(angle) + inside)) ** 2
+        rp = abs((n * n * math.cos(angle) - inside) / (n * n * math.cos(angle) + inside)) ** 2
+        (one,) = self.rows("beam 1064 nm s 0.5 p 0.5\nsurface custom reflected from 1 to 1.5 at 45 deg\nlayer 0.26 thickness 500 nm k 6.97\n")
+        self.assertAlmostEqual(one["reflectance_s"], rs, places=12)
+        self.assertAlmostEqual(one["reflectance_p"], rp, places=12)
+        self.assertTrue(one["no_sheet"].startswith("layer 1: with n 0.26 and k 6.97 it is a metal film, and these are met at angle 0 only, not at 45 deg; 2 pi thickness"))
+
+    def test_many_layers(self):
+        """(HL)^10 H in closed form: R of the admittance (H/L)^20 H^2 / n."""
+        text_ = "beam 1064 nm s 1 p 0\nsurface custom reflected from 1 to 1.5 at 0 deg\nstack (HL)^10 H with H 2.3 L 1.46 at 1064 nm\n"
+        y = (2.3 / 1.46) ** 20 * 2.3**2 / 1.5
+        (one,) = self.rows(text_)
+        self.assertAlmostEqual(one["reflectance_s"], ((1 - y) / (1 + y)) ** 2, places=12)
+        self.assertEqual(one["no_sheet"], "a surface of a sheet has at most 16 layers, and this has 21")
+        self.assertIn("surface 1 (line 2) stands in no sheet: a surface of a sheet has at most 16 layers", run("evaluate", "-", given=text_)[1].decode())
+        self.assertEqual(run("losses", "-", given=text_)[2], "-: line 3: a surface has at most 16 layers; with this stack it has 21; dihkelu evaluate takes 64, of a surface alone\n")
+        self.assertEqual(run("evaluate", "-", given=text_.replace("^10", "^31") + "layer 1.5 thickness 9 nm\nlayer 1.5 thickness 9 nm\n")[0], 1)
+
+    def test_admitted_ones_are_the_answers(self):
+        made = text.read(SCANNER).make()
+        for count, one in enumerate(reports.alone(made)):
+            found = dihkelu.answers(made.sheet, count)
+            self.assertEqual((one.reflectance_s, one.transmittance_p, one.no_sheet), (found.reflectance_s, found.transmittance_p, ""))
 
 
 class Sweeps(Folder):
