@@ -20,7 +20,6 @@ from .calls import (
     Response,
     StokesFigures,
     Train,
-    WrongEnvironment,
     answers,
     band,
     bragg_mirror,
@@ -28,7 +27,6 @@ from .calls import (
     coating_name,
     diattenuator,
     edition_1,
-    environment_ok,
     evaluate,
     fresnel_dielectric,
     fresnel_unpolarized,
@@ -48,6 +46,7 @@ from .calls import (
     reflectance_range,
     retarder,
     run,
+    run_each,
     schlick_approx,
     stack,
     stokes_figures,
@@ -56,7 +55,7 @@ from .calls import (
     to_stokes,
     version,
 )
-from .library import LibraryMissing
+from .library import LibraryMissing, WrongEnvironment, environment_ok
 from .refusals import (
     InvalidParameter,
     LineRefused,

@@ -9,9 +9,12 @@ from __future__ import annotations
 
 import json
 import math
+import re
 from dataclasses import dataclass
 from pathlib import Path
 from typing import Any
+
+from .words import quoted, suggested
 
 
 class UnknownGlass(ValueError):
@@ -72,12 +75,25 @@ OTHER_NAMES: dict[str, str] = _FILE["other_names"]
 LEFT_OUT: list[str] = _FILE["left_out"]
 
 
+def key(name: str) -> str:
+    """A name without what people write in different ways: small letters, no hyphens, spaces or points."""
+    return re.sub(r"[-_. ]", "", name.lower())
+
+
+_BY_KEY = {key(name): of for name, of in [*zip(TABLE, TABLE), *OTHER_NAMES.items()]}
+
+
+def is_named(name: str) -> bool:
+    """Whether a glass has this name."""
+    return key(name) in _BY_KEY
+
+
 def glass(name: str) -> Glass:
-    """The glass of a name, in letters of either size."""
-    key = OTHER_NAMES.get(name.lower(), name.lower())
-    if key in LEFT_OUT:
+    """The glass of a name, in letters of either size, with hyphens or without."""
+    if key(name) in LEFT_OUT:
         made = "a film's index depends on how it was made"
-        raise UnknownGlass(f"'{name}' has no index by its name: {made}; give the maker's coefficients, material {name} a .. b .. c .., or a number")
-    if key not in TABLE:
-        raise UnknownGlass(f"there is no glass '{name}'; there are {', '.join([*TABLE, *OTHER_NAMES])}")
-    return TABLE[key]
+        raise UnknownGlass(f"{quoted(name)} has no index by its name: {made}; give the maker's coefficients, material {name} a .. b .. c .., or a number")
+    if key(name) not in _BY_KEY:
+        names = [*TABLE, *OTHER_NAMES]
+        raise UnknownGlass(f"there is no glass {quoted(name)}{suggested(name, names)}; there are {', '.join(names)}")
+    return TABLE[_BY_KEY[key(name)]]
