@@ -64,7 +64,9 @@
 _Static_assert(FLT_RADIX == 2 && DBL_MANT_DIG == 53, "double is no binary64");
 _Static_assert(DBL_MAX_EXP == 1024 && DBL_MIN_EXP == -1021, "double is no binary64");
 _Static_assert(sizeof(double) == 8 && sizeof(uint64_t) == 8, "a byte has another size");
-_Static_assert(sizeof(size_t) == 8 && sizeof(void *) == 8, "this is for machines of 64 bits");
+// A count is a size_t in dihkelu.h and a uint64_t inside: widened there, and never cut. An index is below its list's count.
+_Static_assert(sizeof(size_t) <= sizeof(uint64_t), "a count would be cut");
+_Static_assert(sizeof(int) >= 4 && sizeof(size_t) >= 4, "this is for machines of 32 bits or more");
 
 // The bits of a double, and the double of bits.
 static inline uint64_t to_bits(double x) {

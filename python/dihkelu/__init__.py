@@ -22,7 +22,6 @@ from .calls import (
     Response,
     StokesFigures,
     Train,
-    WrongEnvironment,
     answers,
     band,
     bragg_mirror,
@@ -30,7 +29,6 @@ from .calls import (
     coating_name,
     diattenuator,
     edition_1,
-    environment_ok,
     evaluate,
     fresnel_dielectric,
     fresnel_unpolarized,
@@ -50,6 +48,7 @@ from .calls import (
     reflectance_range,
     retarder,
     run,
+    run_each,
     schlick_approx,
     stack,
     stokes_figures,
@@ -58,7 +57,7 @@ from .calls import (
     to_stokes,
     version,
 )
-from .library import LibraryMissing
+from .library import LibraryMissing, WrongEnvironment, environment_ok
 from .refusals import (
     InvalidParameter,
     LineRefused,
