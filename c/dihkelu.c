@@ -1,12 +1,42 @@
 // Made by tools/c_source from the checked program; a change is made in crates/ and this file written anew.
 // SPDX-License-Identifier: MIT OR Apache-2.0
 //
+// This project translates parts of OpticsLab (optics-core: thin_film.rs, fresnel.rs,
+// polarization.rs, error.rs), whose notice and licence text follow.
+//
+// OpticsLab
+// Copyright (c) 2026 Alexandru Crisan and the OpticsLab contributors.
+// Licensed under the MIT License or the Apache License, Version 2.0, at your option
+// (LICENSE-MIT, LICENSE-APACHE).
+//
+// MIT License
+//
+// Copyright (c) 2026 OpticsLab Contributors
+//
+// Permission is hereby granted, free of charge, to any person obtaining a copy
+// of this software and associated documentation files (the "Software"), to deal
+// in the Software without restriction, including without limitation the rights
+// to use, copy, modify, merge, publish, distribute, sublicense, and/or sell
+// copies of the Software, and to permit persons to whom the Software is
+// furnished to do so, subject to the following conditions:
+//
+// The above copyright notice and this permission notice shall be included in all
+// copies or substantial portions of the Software.
+//
+// THE SOFTWARE IS PROVIDED "AS IS", WITHOUT WARRANTY OF ANY KIND, EXPRESS OR
+// IMPLIED, INCLUDING BUT NOT LIMITED TO THE WARRANTIES OF MERCHANTABILITY,
+// FITNESS FOR A PARTICULAR PURPOSE AND NONINFRINGEMENT. IN NO EVENT SHALL THE
+// AUTHORS OR COPYRIGHT HOLDERS BE LIABLE FOR ANY CLAIM, DAMAGES OR OTHER
+// LIABILITY, WHETHER IN AN ACTION OF CONTRACT, TORT OR OTHERWISE, ARISING FROM,
+// OUT OF OR IN CONNECTION WITH THE SOFTWARE OR THE USE OR OTHER DEALINGS IN THE
+// SOFTWARE.
+//
 // Light through a train of coated windows: the whole library in one file. dihkelu.h says what each call does. Functions
 // have their crate's name in front, and those that are called stand before those that call.
 //
 // The answers are those of the proved library, bit for bit, only where each operation on doubles is rounded once, to
-// nearest, as IEEE 754 has it. What can be known when this is compiled is tested here; the rest is the caller's
-// (dihkelu_environment_ok of the header).
+// nearest, as IEEE 754 has it. What can be known when this is compiled is tested here; the environment of the caller is
+// set for each call and given back.
 #include "dihkelu.h"
 
 #include <float.h>
@@ -34,7 +64,9 @@
 _Static_assert(FLT_RADIX == 2 && DBL_MANT_DIG == 53, "double is no binary64");
 _Static_assert(DBL_MAX_EXP == 1024 && DBL_MIN_EXP == -1021, "double is no binary64");
 _Static_assert(sizeof(double) == 8 && sizeof(uint64_t) == 8, "a byte has another size");
-_Static_assert(sizeof(size_t) == 8 && sizeof(void *) == 8, "this is for machines of 64 bits");
+// A count is a size_t in dihkelu.h and a uint64_t inside: widened there, and never cut. An index is below its list's count.
+_Static_assert(sizeof(size_t) <= sizeof(uint64_t), "a count would be cut");
+_Static_assert(sizeof(int) >= 4 && sizeof(size_t) >= 4, "this is for machines of 32 bits or more");
 
 // The bits of a double, and the double of bits.
 static inline uint64_t to_bits(double x) {
@@ -57,6 +89,86 @@ static inline uint32_t leading_zeros(uint64_t x) {
     }
     return zeros;
 }
+
+// ==== the floating-point environment
+//
+// A call that works with doubles does so in the environment that its answers are proved for: rounding to nearest,
+// subnormals kept, no exception trapped. It gives the caller's environment back with the caller's flags. Such a call
+// is two functions: NAME_body works, and NAME sets the environment around it. A call without such work is one.
+// DIHKELU_TRUST_ENVIRONMENT leaves all of this out; the caller then owes the environment.
+//
+// Compilers take operations on doubles for independent of the environment, and may move them, or a call of a function
+// that they have looked into, to where it is another. They know nothing of what a volatile pointer points to: such a
+// call stays between the two changes.
+#if defined(DIHKELU_TRUST_ENVIRONMENT) || defined(__wasm__)
+#define LOOKED_UP
+typedef int environment;
+
+static inline environment environment_enter(void) {
+    return 0;
+}
+
+static inline void environment_leave(environment caller) {
+    (void)caller;
+}
+#elif defined(__GNUC__) && defined(__SSE2__)
+#define LOOKED_UP volatile
+typedef uint32_t environment; // MXCSR
+
+static inline environment environment_enter(void) {
+    static const environment proved = 0x1F80;
+    environment caller;
+    __asm__ volatile("stmxcsr %0" : "=m"(caller) : : "memory");
+    __asm__ volatile("ldmxcsr %0" : : "m"(proved) : "memory");
+    return caller;
+}
+
+static inline void environment_leave(environment caller) {
+    __asm__ volatile("ldmxcsr %0" : : "m"(caller) : "memory");
+}
+#elif defined(__GNUC__) && defined(__aarch64__)
+#define LOOKED_UP volatile
+typedef struct {
+    uint64_t control; // FPCR; 0 is what the answers are proved for
+    uint64_t flags;   // FPSR
+} environment;
+
+static inline void environment_control(uint64_t control) {
+    __asm__ volatile("msr fpcr, %0" : : "r"(control) : "memory");
+}
+
+static inline environment environment_enter(void) {
+    environment caller;
+    __asm__ volatile("mrs %0, fpcr" : "=r"(caller.control) : : "memory");
+    __asm__ volatile("mrs %0, fpsr" : "=r"(caller.flags) : : "memory");
+    if (caller.control != 0) { // the register is slow to write
+        environment_control(0);
+    }
+    return caller;
+}
+
+static inline void environment_leave(environment caller) {
+    if (caller.control != 0) {
+        environment_control(caller.control);
+    }
+    __asm__ volatile("msr fpsr, %0" : : "r"(caller.flags) : "memory");
+}
+#else
+#include <fenv.h>
+#define LOOKED_UP volatile
+typedef fenv_t environment;
+
+static inline environment environment_enter(void) {
+    environment caller;
+    fegetenv(&caller);
+    fesetenv(FE_DFL_ENV);
+    return caller;
+}
+
+static inline void environment_leave(environment caller) {
+    fesetenv(&caller);
+}
+#endif
 
 // ==== types
 
@@ -6936,15 +7048,15 @@ static band_BandReply band_band(slice_u8 src, slice_f64 wavelengths, slice_u32 w
 
 // Its version: major times 2^16 plus minor.
 uint32_t dihkelu_version(void) {
-    return 3;
+    return 4;
 }
 
 // SurfaceCoating::evaluate: the coating by its code, its layers as n, k, thickness one after the
 // other. Writes the response to the front of list and returns the count of its numbers; or returns
 // a refusal: 1, then 3, then 8 for a list that is too short.
-uint64_t dihkelu_evaluate(uint32_t code, double design_wavelength_nm, double n_incident, double n_substrate,
-        double angle_incident_rad, double wavelength_nm, const double *layers_at, size_t layers_count,
-        double *list_at, size_t list_count) {
+static uint64_t dihkelu_evaluate_body(uint32_t code, double design_wavelength_nm, double n_incident,
+        double n_substrate, double angle_incident_rad, double wavelength_nm, const double *layers_at,
+        size_t layers_count, double *list_at, size_t list_count) {
     slice_f64 layers = {layers_at, layers_count};
     slice_mut_f64 list = {list_at, list_count};
     thin_film_layers_Evaluation evaluation = c_layers_evaluate(code, design_wavelength_nm, n_incident, n_substrate,
@@ -6957,11 +7069,23 @@ uint64_t dihkelu_evaluate(uint32_t code, double design_wavelength_nm, double n_i
     return c_call_packed(r_2);
 }
 
+uint64_t dihkelu_evaluate(uint32_t code, double design_wavelength_nm, double n_incident, double n_substrate,
+        double angle_incident_rad, double wavelength_nm, const double *layers_at, size_t layers_count,
+        double *list_at, size_t list_count) {
+    uint64_t (*LOOKED_UP body)(uint32_t, double, double, double, double, double, const double *, size_t, double *,
+            size_t) = dihkelu_evaluate_body;
+    environment caller = environment_enter();
+    uint64_t returned = body(code, design_wavelength_nm, n_incident, n_substrate, angle_incident_rad, wavelength_nm,
+            layers_at, layers_count, list_at, list_count);
+    environment_leave(caller);
+    return returned;
+}
+
 // The same at many angles and wavelengths, angles_rad[i] and wavelengths_nm[i] being case i: writes the responses one
 // after the other and returns the count of their numbers; or a refusal: 1 for lists of unequal length, that of the first
 // case that is refused, 1 or 3, with its index as the place, then 8.
-uint64_t dihkelu_evaluate_list(uint32_t code, double design_wavelength_nm, double n_incident, double n_substrate,
-        const double *angles_rad_at, size_t angles_rad_count, const double *wavelengths_nm_at,
+static uint64_t dihkelu_evaluate_list_body(uint32_t code, double design_wavelength_nm, double n_incident,
+        double n_substrate, const double *angles_rad_at, size_t angles_rad_count, const double *wavelengths_nm_at,
         size_t wavelengths_nm_count, const double *layers_at, size_t layers_count, double *list_at,
         size_t list_count) {
     slice_f64 angles_rad = {angles_rad_at, angles_rad_count};
@@ -6972,90 +7096,212 @@ uint64_t dihkelu_evaluate_list(uint32_t code, double design_wavelength_nm, doubl
             layers, list);
 }
 
+uint64_t dihkelu_evaluate_list(uint32_t code, double design_wavelength_nm, double n_incident, double n_substrate,
+        const double *angles_rad_at, size_t angles_rad_count, const double *wavelengths_nm_at,
+        size_t wavelengths_nm_count, const double *layers_at, size_t layers_count, double *list_at,
+        size_t list_count) {
+    uint64_t (*LOOKED_UP body)(uint32_t, double, double, double, const double *, size_t, const double *, size_t,
+            const double *, size_t, double *, size_t) = dihkelu_evaluate_list_body;
+    environment caller = environment_enter();
+    uint64_t returned = body(code, design_wavelength_nm, n_incident, n_substrate, angles_rad_at, angles_rad_count,
+            wavelengths_nm_at, wavelengths_nm_count, layers_at, layers_count, list_at, list_count);
+    environment_leave(caller);
+    return returned;
+}
+
 // Which argument earned evaluate's refusal 1: 1 n_incident, 2 n_substrate, 3 the angle, 4 the wavelength, the first
 // of them that fails; 0 where none does.
-uint64_t dihkelu_invalid_argument(double n_incident, double n_substrate, double angle_incident_rad,
+static uint64_t dihkelu_invalid_argument_body(double n_incident, double n_substrate, double angle_incident_rad,
         double wavelength_nm) {
     return c_scan_invalid_argument(n_incident, n_substrate, angle_incident_rad, wavelength_nm);
+}
+
+uint64_t dihkelu_invalid_argument(double n_incident, double n_substrate, double angle_incident_rad,
+        double wavelength_nm) {
+    uint64_t (*LOOKED_UP body)(double, double, double, double) = dihkelu_invalid_argument_body;
+    environment caller = environment_enter();
+    uint64_t returned = body(n_incident, n_substrate, angle_incident_rad, wavelength_nm);
+    environment_leave(caller);
+    return returned;
 }
 
 // The layers that a text of the stack shorthand stands for, H, L and M being quarter waves of three
 // indices at the design wavelength: writes n, k, thickness of one after the other, as dihkelu_evaluate
 // takes them, and returns the count of these numbers; or a refusal: 1, 9, 10, then 8.
-uint64_t dihkelu_stack(const uint8_t *text_at, size_t text_count, double n_h, double n_l, double n_m,
+static uint64_t dihkelu_stack_body(const uint8_t *text_at, size_t text_count, double n_h, double n_l, double n_m,
         double design_wavelength_nm, double *list_at, size_t list_count) {
     slice_u8 text = {text_at, text_count};
     slice_mut_f64 list = {list_at, list_count};
     return c_stack_stack(text, n_h, n_l, n_m, design_wavelength_nm, list);
 }
 
+uint64_t dihkelu_stack(const uint8_t *text_at, size_t text_count, double n_h, double n_l, double n_m,
+        double design_wavelength_nm, double *list_at, size_t list_count) {
+    uint64_t (*LOOKED_UP body)(const uint8_t *, size_t, double, double, double, double, double *,
+            size_t) = dihkelu_stack_body;
+    environment caller = environment_enter();
+    uint64_t returned = body(text_at, text_count, n_h, n_l, n_m, design_wavelength_nm, list_at, list_count);
+    environment_leave(caller);
+    return returned;
+}
+
 // JonesMatrix::to_mueller of a Jones matrix by its 8 numbers, m00, m01, m10, m11, each as re, im: writes
 // the matrix row after row and returns 16; or a refusal: 1 where there are not 8 numbers, then 8.
-uint64_t dihkelu_to_mueller(const double *jones_at, size_t jones_count, double *list_at, size_t list_count) {
+static uint64_t dihkelu_to_mueller_body(const double *jones_at, size_t jones_count, double *list_at,
+        size_t list_count) {
     slice_f64 jones = {jones_at, jones_count};
     slice_mut_f64 list = {list_at, list_count};
     return c_mueller_to_mueller(jones, list);
 }
 
+uint64_t dihkelu_to_mueller(const double *jones_at, size_t jones_count, double *list_at, size_t list_count) {
+    uint64_t (*LOOKED_UP body)(const double *, size_t, double *, size_t) = dihkelu_to_mueller_body;
+    environment caller = environment_enter();
+    uint64_t returned = body(jones_at, jones_count, list_at, list_count);
+    environment_leave(caller);
+    return returned;
+}
+
 // The same over Stokes vectors with S3 = 2 Im(Ex* Ey), after Born and Wolf: to_mueller_born_wolf.
-uint64_t dihkelu_mueller_born_wolf(const double *jones_at, size_t jones_count, double *list_at, size_t list_count) {
+static uint64_t dihkelu_mueller_born_wolf_body(const double *jones_at, size_t jones_count, double *list_at,
+        size_t list_count) {
     slice_f64 jones = {jones_at, jones_count};
     slice_mut_f64 list = {list_at, list_count};
     return c_mueller_mueller_born_wolf(jones, list);
 }
 
+uint64_t dihkelu_mueller_born_wolf(const double *jones_at, size_t jones_count, double *list_at, size_t list_count) {
+    uint64_t (*LOOKED_UP body)(const double *, size_t, double *, size_t) = dihkelu_mueller_born_wolf_body;
+    environment caller = environment_enter();
+    uint64_t returned = body(jones_at, jones_count, list_at, list_count);
+    environment_leave(caller);
+    return returned;
+}
+
 // Met head-on, both indices known as ranges within 1 to 4: writes a low and a high reflectance, between
 // which every pair of indices within the ranges reflects, and returns 2; or a refusal: 13, then 8.
-uint64_t dihkelu_reflectance_range(double n1_low, double n1_high, double n2_low, double n2_high, double *list_at,
-        size_t list_count) {
+static uint64_t dihkelu_reflectance_range_body(double n1_low, double n1_high, double n2_low, double n2_high,
+        double *list_at, size_t list_count) {
     slice_mut_f64 list = {list_at, list_count};
     return c_range_reflectance_range(n1_low, n1_high, n2_low, n2_high, list);
 }
 
+uint64_t dihkelu_reflectance_range(double n1_low, double n1_high, double n2_low, double n2_high, double *list_at,
+        size_t list_count) {
+    uint64_t (*LOOKED_UP body)(double, double, double, double, double *, size_t) = dihkelu_reflectance_range_body;
+    environment caller = environment_enter();
+    uint64_t returned = body(n1_low, n1_high, n2_low, n2_high, list_at, list_count);
+    environment_leave(caller);
+    return returned;
+}
+
 // n * thickness in whole quarters of the wavelength: writes the length that is over and returns the
 // count; or a refusal: 14.
-uint64_t dihkelu_quarter_waves(double n, double thickness_nm, double wavelength_nm, double *remainder_nm) {
+static uint64_t dihkelu_quarter_waves_body(double n, double thickness_nm, double wavelength_nm,
+        double *remainder_nm) {
     return c_quarter_waves_quarter_waves(n, thickness_nm, wavelength_nm, remainder_nm);
 }
 
+uint64_t dihkelu_quarter_waves(double n, double thickness_nm, double wavelength_nm, double *remainder_nm) {
+    uint64_t (*LOOKED_UP body)(double, double, double, double *) = dihkelu_quarter_waves_body;
+    environment caller = environment_enter();
+    uint64_t returned = body(n, thickness_nm, wavelength_nm, remainder_nm);
+    environment_leave(caller);
+    return returned;
+}
+
 // Rs and Rp of a dielectric interface: writes both and returns 2; or 8.
-uint64_t dihkelu_fresnel_dielectric(double cos_theta_i, double n1, double n2, double *list_at, size_t list_count) {
+static uint64_t dihkelu_fresnel_dielectric_body(double cos_theta_i, double n1, double n2, double *list_at,
+        size_t list_count) {
     slice_mut_f64 list = {list_at, list_count};
     return c_fresnel_fresnel_dielectric(cos_theta_i, n1, n2, list);
 }
 
+uint64_t dihkelu_fresnel_dielectric(double cos_theta_i, double n1, double n2, double *list_at, size_t list_count) {
+    uint64_t (*LOOKED_UP body)(double, double, double, double *, size_t) = dihkelu_fresnel_dielectric_body;
+    environment caller = environment_enter();
+    uint64_t returned = body(cos_theta_i, n1, n2, list_at, list_count);
+    environment_leave(caller);
+    return returned;
+}
+
 // R and T of unpolarized light: writes both and returns 2; or 8.
-uint64_t dihkelu_fresnel_unpolarized(double cos_theta_i, double n1, double n2, double *list_at, size_t list_count) {
+static uint64_t dihkelu_fresnel_unpolarized_body(double cos_theta_i, double n1, double n2, double *list_at,
+        size_t list_count) {
     slice_mut_f64 list = {list_at, list_count};
     return c_fresnel_fresnel_unpolarized(cos_theta_i, n1, n2, list);
 }
 
+uint64_t dihkelu_fresnel_unpolarized(double cos_theta_i, double n1, double n2, double *list_at, size_t list_count) {
+    uint64_t (*LOOKED_UP body)(double, double, double, double *, size_t) = dihkelu_fresnel_unpolarized_body;
+    environment caller = environment_enter();
+    uint64_t returned = body(cos_theta_i, n1, n2, list_at, list_count);
+    environment_leave(caller);
+    return returned;
+}
+
 // Schlick's approximation: writes it and returns 1; or 8.
-uint64_t dihkelu_schlick_approx(double cos_theta_i, double n1, double n2, double *list_at, size_t list_count) {
+static uint64_t dihkelu_schlick_approx_body(double cos_theta_i, double n1, double n2, double *list_at,
+        size_t list_count) {
     slice_mut_f64 list = {list_at, list_count};
     return c_fresnel_schlick_approx(cos_theta_i, n1, n2, list);
 }
 
+uint64_t dihkelu_schlick_approx(double cos_theta_i, double n1, double n2, double *list_at, size_t list_count) {
+    uint64_t (*LOOKED_UP body)(double, double, double, double *, size_t) = dihkelu_schlick_approx_body;
+    environment caller = environment_enter();
+    uint64_t returned = body(cos_theta_i, n1, n2, list_at, list_count);
+    environment_leave(caller);
+    return returned;
+}
+
 // The Jones matrices of a bare surface, of the reflected light and of the transmitted: writes them and returns 16; or
 // a refusal: 1, then 8.
-uint64_t dihkelu_surface_fresnel_jones(double n1, double n2, double angle_i_rad, double *list_at, size_t list_count) {
+static uint64_t dihkelu_surface_fresnel_jones_body(double n1, double n2, double angle_i_rad, double *list_at,
+        size_t list_count) {
     slice_mut_f64 list = {list_at, list_count};
     return c_fresnel_surface_fresnel_jones(n1, n2, angle_i_rad, list);
 }
 
+uint64_t dihkelu_surface_fresnel_jones(double n1, double n2, double angle_i_rad, double *list_at, size_t list_count) {
+    uint64_t (*LOOKED_UP body)(double, double, double, double *, size_t) = dihkelu_surface_fresnel_jones_body;
+    environment caller = environment_enter();
+    uint64_t returned = body(n1, n2, angle_i_rad, list_at, list_count);
+    environment_leave(caller);
+    return returned;
+}
+
 // Coating::quarter_wave_ar: writes n, k, thickness of its layer and returns 3; or 8.
-uint64_t dihkelu_quarter_wave_ar(double n_ambient, double n_substrate, double design_wavelength_nm, double *list_at,
-        size_t list_count) {
+static uint64_t dihkelu_quarter_wave_ar_body(double n_ambient, double n_substrate, double design_wavelength_nm,
+        double *list_at, size_t list_count) {
     slice_mut_f64 list = {list_at, list_count};
     return c_presets_quarter_wave_ar(n_ambient, n_substrate, design_wavelength_nm, list);
 }
 
+uint64_t dihkelu_quarter_wave_ar(double n_ambient, double n_substrate, double design_wavelength_nm, double *list_at,
+        size_t list_count) {
+    uint64_t (*LOOKED_UP body)(double, double, double, double *, size_t) = dihkelu_quarter_wave_ar_body;
+    environment caller = environment_enter();
+    uint64_t returned = body(n_ambient, n_substrate, design_wavelength_nm, list_at, list_count);
+    environment_leave(caller);
+    return returned;
+}
+
 // Coating::bragg_mirror: writes n, k, thickness of one layer after the other and returns the count of these numbers; or
 // a refusal: 3 for more than 31 pairs, then 8.
-uint64_t dihkelu_bragg_mirror(double n_high, double n_low, uint32_t pairs, double design_wavelength_nm,
+static uint64_t dihkelu_bragg_mirror_body(double n_high, double n_low, uint32_t pairs, double design_wavelength_nm,
         double *list_at, size_t list_count) {
     slice_mut_f64 list = {list_at, list_count};
     return c_presets_bragg_mirror(n_high, n_low, pairs, design_wavelength_nm, list);
+}
+
+uint64_t dihkelu_bragg_mirror(double n_high, double n_low, uint32_t pairs, double design_wavelength_nm,
+        double *list_at, size_t list_count) {
+    uint64_t (*LOOKED_UP body)(double, double, uint32_t, double, double *, size_t) = dihkelu_bragg_mirror_body;
+    environment caller = environment_enter();
+    uint64_t returned = body(n_high, n_low, pairs, design_wavelength_nm, list_at, list_count);
+    environment_leave(caller);
+    return returned;
 }
 
 // SurfaceCoating::from_format_name: returns the code that dihkelu_evaluate has the coating by, 0 for none; or a
@@ -7074,59 +7320,125 @@ uint64_t dihkelu_coating_name(uint32_t code, uint8_t *output_at, size_t output_c
 }
 
 // JonesVector::to_stokes: writes S0 to S3 and returns 4.
-uint64_t dihkelu_to_stokes(const double *field_at, size_t field_count, double *list_at, size_t list_count) {
+static uint64_t dihkelu_to_stokes_body(const double *field_at, size_t field_count, double *list_at,
+        size_t list_count) {
     slice_f64 field = {field_at, field_count};
     slice_mut_f64 list = {list_at, list_count};
     return c_polarization_to_stokes(field, list);
 }
 
+uint64_t dihkelu_to_stokes(const double *field_at, size_t field_count, double *list_at, size_t list_count) {
+    uint64_t (*LOOKED_UP body)(const double *, size_t, double *, size_t) = dihkelu_to_stokes_body;
+    environment caller = environment_enter();
+    uint64_t returned = body(field_at, field_count, list_at, list_count);
+    environment_leave(caller);
+    return returned;
+}
+
 // JonesVector::normalize: writes the vector and returns 4.
-uint64_t dihkelu_jones_normalize(const double *field_at, size_t field_count, double *list_at, size_t list_count) {
+static uint64_t dihkelu_jones_normalize_body(const double *field_at, size_t field_count, double *list_at,
+        size_t list_count) {
     slice_f64 field = {field_at, field_count};
     slice_mut_f64 list = {list_at, list_count};
     return c_polarization_jones_normalize(field, list);
 }
 
+uint64_t dihkelu_jones_normalize(const double *field_at, size_t field_count, double *list_at, size_t list_count) {
+    uint64_t (*LOOKED_UP body)(const double *, size_t, double *, size_t) = dihkelu_jones_normalize_body;
+    environment caller = environment_enter();
+    uint64_t returned = body(field_at, field_count, list_at, list_count);
+    environment_leave(caller);
+    return returned;
+}
+
 // JonesVector::intensity: writes it and returns 1.
-uint64_t dihkelu_jones_intensity(const double *field_at, size_t field_count, double *list_at, size_t list_count) {
+static uint64_t dihkelu_jones_intensity_body(const double *field_at, size_t field_count, double *list_at,
+        size_t list_count) {
     slice_f64 field = {field_at, field_count};
     slice_mut_f64 list = {list_at, list_count};
     return c_polarization_jones_intensity(field, list);
 }
 
+uint64_t dihkelu_jones_intensity(const double *field_at, size_t field_count, double *list_at, size_t list_count) {
+    uint64_t (*LOOKED_UP body)(const double *, size_t, double *, size_t) = dihkelu_jones_intensity_body;
+    environment caller = environment_enter();
+    uint64_t returned = body(field_at, field_count, list_at, list_count);
+    environment_leave(caller);
+    return returned;
+}
+
 // The degrees of polarization, of linear and of circular polarization, the orientation and the ellipticity: writes
 // them and returns 5.
-uint64_t dihkelu_stokes_figures(const double *beam_at, size_t beam_count, double *list_at, size_t list_count) {
+static uint64_t dihkelu_stokes_figures_body(const double *beam_at, size_t beam_count, double *list_at,
+        size_t list_count) {
     slice_f64 beam = {beam_at, beam_count};
     slice_mut_f64 list = {list_at, list_count};
     return c_polarization_stokes_figures(beam, list);
 }
 
+uint64_t dihkelu_stokes_figures(const double *beam_at, size_t beam_count, double *list_at, size_t list_count) {
+    uint64_t (*LOOKED_UP body)(const double *, size_t, double *, size_t) = dihkelu_stokes_figures_body;
+    environment caller = environment_enter();
+    uint64_t returned = body(beam_at, beam_count, list_at, list_count);
+    environment_leave(caller);
+    return returned;
+}
+
 // JonesMatrix::apply: writes the vector and returns 4.
-uint64_t dihkelu_jones_apply(const double *matrix_at, size_t matrix_count, const double *field_at, size_t field_count,
-        double *list_at, size_t list_count) {
+static uint64_t dihkelu_jones_apply_body(const double *matrix_at, size_t matrix_count, const double *field_at,
+        size_t field_count, double *list_at, size_t list_count) {
     slice_f64 matrix = {matrix_at, matrix_count};
     slice_f64 field = {field_at, field_count};
     slice_mut_f64 list = {list_at, list_count};
     return c_polarization_jones_apply(matrix, field, list);
 }
 
-// JonesMatrix::mul: writes the product and returns 8.
-uint64_t dihkelu_jones_mul(const double *left_at, size_t left_count, const double *right_at, size_t right_count,
+uint64_t dihkelu_jones_apply(const double *matrix_at, size_t matrix_count, const double *field_at, size_t field_count,
         double *list_at, size_t list_count) {
+    uint64_t (*LOOKED_UP body)(const double *, size_t, const double *, size_t, double *,
+            size_t) = dihkelu_jones_apply_body;
+    environment caller = environment_enter();
+    uint64_t returned = body(matrix_at, matrix_count, field_at, field_count, list_at, list_count);
+    environment_leave(caller);
+    return returned;
+}
+
+// JonesMatrix::mul: writes the product and returns 8.
+static uint64_t dihkelu_jones_mul_body(const double *left_at, size_t left_count, const double *right_at,
+        size_t right_count, double *list_at, size_t list_count) {
     slice_f64 left = {left_at, left_count};
     slice_f64 right = {right_at, right_count};
     slice_mut_f64 list = {list_at, list_count};
     return c_polarization_jones_mul(left, right, list);
 }
 
-// MuellerMatrix::apply: writes the Stokes vector and returns 4.
-uint64_t dihkelu_mueller_apply(const double *matrix_at, size_t matrix_count, const double *beam_at, size_t beam_count,
+uint64_t dihkelu_jones_mul(const double *left_at, size_t left_count, const double *right_at, size_t right_count,
         double *list_at, size_t list_count) {
+    uint64_t (*LOOKED_UP body)(const double *, size_t, const double *, size_t, double *,
+            size_t) = dihkelu_jones_mul_body;
+    environment caller = environment_enter();
+    uint64_t returned = body(left_at, left_count, right_at, right_count, list_at, list_count);
+    environment_leave(caller);
+    return returned;
+}
+
+// MuellerMatrix::apply: writes the Stokes vector and returns 4.
+static uint64_t dihkelu_mueller_apply_body(const double *matrix_at, size_t matrix_count, const double *beam_at,
+        size_t beam_count, double *list_at, size_t list_count) {
     slice_f64 matrix = {matrix_at, matrix_count};
     slice_f64 beam = {beam_at, beam_count};
     slice_mut_f64 list = {list_at, list_count};
     return c_polarization_mueller_apply(matrix, beam, list);
+}
+
+uint64_t dihkelu_mueller_apply(const double *matrix_at, size_t matrix_count, const double *beam_at, size_t beam_count,
+        double *list_at, size_t list_count) {
+    uint64_t (*LOOKED_UP body)(const double *, size_t, const double *, size_t, double *,
+            size_t) = dihkelu_mueller_apply_body;
+    environment caller = environment_enter();
+    uint64_t returned = body(matrix_at, matrix_count, beam_at, beam_count, list_at, list_count);
+    environment_leave(caller);
+    return returned;
 }
 
 // JonesMatrix::diattenuator of two amplitudes, each re, im: writes the matrix and returns 8.
@@ -7138,27 +7450,60 @@ uint64_t dihkelu_diattenuator(const double *amplitudes_at, size_t amplitudes_cou
 }
 
 // JonesMatrix::linear_polarizer: writes the matrix and returns 8; or 8.
-uint64_t dihkelu_linear_polarizer(double angle_rad, double *list_at, size_t list_count) {
+static uint64_t dihkelu_linear_polarizer_body(double angle_rad, double *list_at, size_t list_count) {
     slice_mut_f64 list = {list_at, list_count};
     return c_polarization_linear_polarizer(angle_rad, list);
 }
 
+uint64_t dihkelu_linear_polarizer(double angle_rad, double *list_at, size_t list_count) {
+    uint64_t (*LOOKED_UP body)(double, double *, size_t) = dihkelu_linear_polarizer_body;
+    environment caller = environment_enter();
+    uint64_t returned = body(angle_rad, list_at, list_count);
+    environment_leave(caller);
+    return returned;
+}
+
 // JonesMatrix::retarder.
-uint64_t dihkelu_retarder(double retardance_rad, double fast_axis_rad, double *list_at, size_t list_count) {
+static uint64_t dihkelu_retarder_body(double retardance_rad, double fast_axis_rad, double *list_at,
+        size_t list_count) {
     slice_mut_f64 list = {list_at, list_count};
     return c_polarization_retarder(retardance_rad, fast_axis_rad, list);
 }
 
+uint64_t dihkelu_retarder(double retardance_rad, double fast_axis_rad, double *list_at, size_t list_count) {
+    uint64_t (*LOOKED_UP body)(double, double, double *, size_t) = dihkelu_retarder_body;
+    environment caller = environment_enter();
+    uint64_t returned = body(retardance_rad, fast_axis_rad, list_at, list_count);
+    environment_leave(caller);
+    return returned;
+}
+
 // JonesMatrix::quarter_wave_plate.
-uint64_t dihkelu_quarter_wave_plate(double fast_axis_rad, double *list_at, size_t list_count) {
+static uint64_t dihkelu_quarter_wave_plate_body(double fast_axis_rad, double *list_at, size_t list_count) {
     slice_mut_f64 list = {list_at, list_count};
     return c_polarization_quarter_wave_plate(fast_axis_rad, list);
 }
 
+uint64_t dihkelu_quarter_wave_plate(double fast_axis_rad, double *list_at, size_t list_count) {
+    uint64_t (*LOOKED_UP body)(double, double *, size_t) = dihkelu_quarter_wave_plate_body;
+    environment caller = environment_enter();
+    uint64_t returned = body(fast_axis_rad, list_at, list_count);
+    environment_leave(caller);
+    return returned;
+}
+
 // JonesMatrix::half_wave_plate.
-uint64_t dihkelu_half_wave_plate(double fast_axis_rad, double *list_at, size_t list_count) {
+static uint64_t dihkelu_half_wave_plate_body(double fast_axis_rad, double *list_at, size_t list_count) {
     slice_mut_f64 list = {list_at, list_count};
     return c_polarization_half_wave_plate(fast_axis_rad, list);
+}
+
+uint64_t dihkelu_half_wave_plate(double fast_axis_rad, double *list_at, size_t list_count) {
+    uint64_t (*LOOKED_UP body)(double, double *, size_t) = dihkelu_half_wave_plate_body;
+    environment caller = environment_enter();
+    uint64_t returned = body(fast_axis_rad, list_at, list_count);
+    environment_leave(caller);
+    return returned;
 }
 
 // An answer of the gate as one number.
@@ -7172,15 +7517,23 @@ static uint64_t dihkelu_number_of(gate_Gated g) {
 }
 
 // The gate: the count of surfaces, or a refusal: 4, 5 or 6.
-uint64_t dihkelu_gate(const uint8_t *sheet_at, size_t sheet_count) {
+static uint64_t dihkelu_gate_body(const uint8_t *sheet_at, size_t sheet_count) {
     slice_u8 sheet = {sheet_at, sheet_count};
     return dihkelu_number_of(gate_gate(sheet));
 }
 
+uint64_t dihkelu_gate(const uint8_t *sheet_at, size_t sheet_count) {
+    uint64_t (*LOOKED_UP body)(const uint8_t *, size_t) = dihkelu_gate_body;
+    environment caller = environment_enter();
+    uint64_t returned = body(sheet_at, sheet_count);
+    environment_leave(caller);
+    return returned;
+}
+
 // A fresh train: writes 0 surfaces done and the BEAM's s, p and wavelength, and returns the count of
 // surfaces; or a refusal: 4, 5 or 6.
-uint64_t dihkelu_start(const uint8_t *sheet_at, size_t sheet_count, uint32_t *surfaces_done, double *s, double *p,
-        double *wavelength_nm) {
+static uint64_t dihkelu_start_body(const uint8_t *sheet_at, size_t sheet_count, uint32_t *surfaces_done, double *s,
+        double *p, double *wavelength_nm) {
     slice_u8 sheet = {sheet_at, sheet_count};
     gate_Gated value = gate_gate(sheet);
     if (value.tag == gate_Gated_Admitted) {
@@ -7196,10 +7549,20 @@ uint64_t dihkelu_start(const uint8_t *sheet_at, size_t sheet_count, uint32_t *su
     return c_call_packed(r);
 }
 
+uint64_t dihkelu_start(const uint8_t *sheet_at, size_t sheet_count, uint32_t *surfaces_done, double *s, double *p,
+        double *wavelength_nm) {
+    uint64_t (*LOOKED_UP body)(const uint8_t *, size_t, uint32_t *, double *, double *,
+            double *) = dihkelu_start_body;
+    environment caller = environment_enter();
+    uint64_t returned = body(sheet_at, sheet_count, surfaces_done, s, p, wavelength_nm);
+    environment_leave(caller);
+    return returned;
+}
+
 // One surface on from any state: writes the next one and returns its surfaces done; or a refusal: 4, 5,
 // 6, 7 or 11.
-uint64_t dihkelu_step(const uint8_t *sheet_at, size_t sheet_count, uint32_t *surfaces_done, double *s, double *p,
-        double *wavelength_nm) {
+static uint64_t dihkelu_step_body(const uint8_t *sheet_at, size_t sheet_count, uint32_t *surfaces_done, double *s,
+        double *p, double *wavelength_nm) {
     slice_u8 sheet = {sheet_at, sheet_count};
     train_steps_State state = {.done = *surfaces_done, .s = *s, .p = *p, .wavelength_nm = *wavelength_nm};
     train_steps_TrainReply value = train_steps_step(sheet, state);
@@ -7215,10 +7578,19 @@ uint64_t dihkelu_step(const uint8_t *sheet_at, size_t sheet_count, uint32_t *sur
     return c_call_packed(r);
 }
 
+uint64_t dihkelu_step(const uint8_t *sheet_at, size_t sheet_count, uint32_t *surfaces_done, double *s, double *p,
+        double *wavelength_nm) {
+    uint64_t (*LOOKED_UP body)(const uint8_t *, size_t, uint32_t *, double *, double *, double *) = dihkelu_step_body;
+    environment caller = environment_enter();
+    uint64_t returned = body(sheet_at, sheet_count, surfaces_done, s, p, wavelength_nm);
+    environment_leave(caller);
+    return returned;
+}
+
 // A new wavelength for the surfaces not yet done, from any state: writes it and returns the surfaces
 // done; or a refusal: 4, 5, 6 or 11. A state's s and p do not count.
-uint64_t dihkelu_retune(const uint8_t *sheet_at, size_t sheet_count, uint32_t surfaces_done, double *wavelength_nm,
-        double new_wavelength_nm) {
+static uint64_t dihkelu_retune_body(const uint8_t *sheet_at, size_t sheet_count, uint32_t surfaces_done,
+        double *wavelength_nm, double new_wavelength_nm) {
     slice_u8 sheet = {sheet_at, sheet_count};
     train_steps_State state = {.done = surfaces_done, .s = 0.0, .p = 0.0, .wavelength_nm = *wavelength_nm};
     train_steps_TrainReply value = train_steps_retune(sheet, state, new_wavelength_nm);
@@ -7231,19 +7603,37 @@ uint64_t dihkelu_retune(const uint8_t *sheet_at, size_t sheet_count, uint32_t su
     return c_call_packed(r);
 }
 
+uint64_t dihkelu_retune(const uint8_t *sheet_at, size_t sheet_count, uint32_t surfaces_done, double *wavelength_nm,
+        double new_wavelength_nm) {
+    uint64_t (*LOOKED_UP body)(const uint8_t *, size_t, uint32_t, double *, double) = dihkelu_retune_body;
+    environment caller = environment_enter();
+    uint64_t returned = body(sheet_at, sheet_count, surfaces_done, wavelength_nm, new_wavelength_nm);
+    environment_leave(caller);
+    return returned;
+}
+
 // A whole run: writes s, p after each surface and returns the count of surfaces; or a refusal: 4, 5,
 // 6, then 8 for a list shorter than 2 numbers for each surface.
-uint64_t dihkelu_run(const uint8_t *sheet_at, size_t sheet_count, double *list_at, size_t list_count) {
+static uint64_t dihkelu_run_body(const uint8_t *sheet_at, size_t sheet_count, double *list_at, size_t list_count) {
     slice_u8 sheet = {sheet_at, sheet_count};
     slice_mut_f64 list = {list_at, list_count};
     gate_Gated value = train_steps_run(sheet, list);
     return dihkelu_number_of(value);
 }
 
+uint64_t dihkelu_run(const uint8_t *sheet_at, size_t sheet_count, double *list_at, size_t list_count) {
+    uint64_t (*LOOKED_UP body)(const uint8_t *, size_t, double *, size_t) = dihkelu_run_body;
+    environment caller = environment_enter();
+    uint64_t returned = body(sheet_at, sheet_count, list_at, list_count);
+    environment_leave(caller);
+    return returned;
+}
+
 // An edition 1 sheet for a sheet of either edition, which runs alike: writes it to the front of the output
 // and returns its length in bytes; or a refusal: 4, 5, 6, 12 at the first kind 7, then 8 for an output that
 // is too short.
-uint64_t dihkelu_edition_1(const uint8_t *sheet_at, size_t sheet_count, uint8_t *output_at, size_t output_count) {
+static uint64_t dihkelu_edition_1_body(const uint8_t *sheet_at, size_t sheet_count, uint8_t *output_at,
+        size_t output_count) {
     slice_u8 sheet = {sheet_at, sheet_count};
     slice_mut_u8 output = {output_at, output_count};
     sheet_edition_1_Rewritten value = sheet_edition_1_to_edition_1(sheet, output);
@@ -7255,9 +7645,17 @@ uint64_t dihkelu_edition_1(const uint8_t *sheet_at, size_t sheet_count, uint8_t 
     return c_call_packed(r);
 }
 
+uint64_t dihkelu_edition_1(const uint8_t *sheet_at, size_t sheet_count, uint8_t *output_at, size_t output_count) {
+    uint64_t (*LOOKED_UP body)(const uint8_t *, size_t, uint8_t *, size_t) = dihkelu_edition_1_body;
+    environment caller = environment_enter();
+    uint64_t returned = body(sheet_at, sheet_count, output_at, output_count);
+    environment_leave(caller);
+    return returned;
+}
+
 // The means of s and of p over the lines of a band, each a wavelength and a weight: writes s, p and returns
 // the count of lines; or a refusal: 4, 5, 6, 12, 15, 16, then 8.
-uint64_t dihkelu_band(const uint8_t *sheet_at, size_t sheet_count, const double *wavelengths_nm_at,
+static uint64_t dihkelu_band_body(const uint8_t *sheet_at, size_t sheet_count, const double *wavelengths_nm_at,
         size_t wavelengths_nm_count, const uint32_t *weights_at, size_t weights_count, double *list_at,
         size_t list_count) {
     slice_u8 sheet = {sheet_at, sheet_count};
@@ -7273,9 +7671,21 @@ uint64_t dihkelu_band(const uint8_t *sheet_at, size_t sheet_count, const double 
     return c_call_packed(r);
 }
 
+uint64_t dihkelu_band(const uint8_t *sheet_at, size_t sheet_count, const double *wavelengths_nm_at,
+        size_t wavelengths_nm_count, const uint32_t *weights_at, size_t weights_count, double *list_at,
+        size_t list_count) {
+    uint64_t (*LOOKED_UP body)(const uint8_t *, size_t, const double *, size_t, const uint32_t *, size_t, double *,
+            size_t) = dihkelu_band_body;
+    environment caller = environment_enter();
+    uint64_t returned = body(sheet_at, sheet_count, wavelengths_nm_at, wavelengths_nm_count, weights_at,
+            weights_count, list_at, list_count);
+    environment_leave(caller);
+    return returned;
+}
+
 // Of a sheet's surface, counted from 0: writes its answers and returns the count of their numbers; or
 // a refusal: 4, 5, 6, 7 where there is no such surface, then 8.
-uint64_t dihkelu_answers(const uint8_t *sheet_at, size_t sheet_count, uint32_t surface, double *list_at,
+static uint64_t dihkelu_answers_body(const uint8_t *sheet_at, size_t sheet_count, uint32_t surface, double *list_at,
         size_t list_count) {
     slice_u8 sheet = {sheet_at, sheet_count};
     slice_mut_f64 list = {list_at, list_count};
@@ -7286,4 +7696,13 @@ uint64_t dihkelu_answers(const uint8_t *sheet_at, size_t sheet_count, uint32_t s
     }
     surface_Answers answers = reply.answers;
     return c_call_put_answers(answers, list);
+}
+
+uint64_t dihkelu_answers(const uint8_t *sheet_at, size_t sheet_count, uint32_t surface, double *list_at,
+        size_t list_count) {
+    uint64_t (*LOOKED_UP body)(const uint8_t *, size_t, uint32_t, double *, size_t) = dihkelu_answers_body;
+    environment caller = environment_enter();
+    uint64_t returned = body(sheet_at, sheet_count, surface, list_at, list_count);
+    environment_leave(caller);
+    return returned;
 }

@@ -8,7 +8,7 @@ module dihkelu
     implicit none
     private
 
-    integer(c_int32_t), parameter, public :: dihkelu_header_version = 3
+    integer(c_int32_t), parameter, public :: dihkelu_header_version = 4
     integer(c_int32_t), parameter, public :: dihkelu_response_count = 16
     integer(c_int32_t), parameter, public :: dihkelu_bare_count = 53
     integer(c_int32_t), parameter, public :: dihkelu_coated_count = 69
@@ -35,9 +35,10 @@ module dihkelu
             integer(c_int32_t) :: returned
         end function dihkelu_version
 
-        ! The gate. A sheet is of edition 1, or of edition 2, in which a layer may be of kind 6, a glass whose index changes with
-        ! colour, and a kind 7 may stand before a surface: the wavelength from there on. In either edition the 1 to 4 layers of a
-        ! custom surface at angle zero may be metal films. Returns the count of surfaces; refuses with 4, 5, 6.
+        ! The gate. The words of a sheet stand in dihkelu-sheet(5); dihkelu_sheet.h writes one from numbers. It is of edition
+        ! 1, or of edition 2, in which a layer may be of kind 6, a glass whose index changes with colour, and a kind 7 may
+        ! stand before a surface: the wavelength from there on. In either edition the 1 to 4 layers of a custom surface at
+        ! angle zero may be metal films. Returns the count of surfaces; refuses with 4, 5, 6.
         function dihkelu_gate(sheet, sheet_count) bind(c, name='dihkelu_gate') result(returned)
             import :: c_int64_t, c_int8_t, c_size_t
             integer(c_int8_t), intent(in) :: sheet(*)

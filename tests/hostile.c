@@ -601,6 +601,7 @@ int main(int count, char **words) {
     calls += 9;
 
     for (uint64_t k = 0; k < times; k++) {
+        if (dihkelu_version() != DIHKELU_VERSION) wrong("version", "another version than the header's", dihkelu_version());
         size_t size = build(bytes, below(4) ? (int)below(4) : (int)below(65), -1);
         sheet_calls(bytes, size);
         sheet_calls(bytes, below(size + 1));

@@ -207,7 +207,7 @@ static size_t call(unsigned function) {
 }
 
 int main(void) {
-    if (!dihkelu_environment_ok() || dihkelu_version() != DIHKELU_VERSION) return puts("replay: another environment or version"), 1;
+    if (dihkelu_version() != DIHKELU_VERSION) return puts("replay: another version"), 1;
     uint64_t agree = 0, differ = 0, passed = 0;
     uint8_t head[8];
     size_t read;

@@ -7,6 +7,8 @@
 
 Each call gives its answer or raises one of the documents' refusals, a subclass of Refused, with its number, place and a sentence.
 """
+__version__ = "0.4.0"
+
 from .calls import (
     BROADBAND_AR,
     CUSTOM_IDEAL_AR,
@@ -20,7 +22,6 @@ from .calls import (
     Response,
     StokesFigures,
     Train,
-    WrongEnvironment,
     answers,
     band,
     bragg_mirror,
@@ -28,7 +29,6 @@ from .calls import (
     coating_name,
     diattenuator,
     edition_1,
-    environment_ok,
     evaluate,
     fresnel_dielectric,
     fresnel_unpolarized,
@@ -48,6 +48,7 @@ from .calls import (
     reflectance_range,
     retarder,
     run,
+    run_each,
     schlick_approx,
     stack,
     stokes_figures,
@@ -56,7 +57,7 @@ from .calls import (
     to_stokes,
     version,
 )
-from .library import LibraryMissing
+from .library import LibraryMissing, WrongEnvironment, environment_ok
 from .refusals import (
     InvalidParameter,
     LineRefused,

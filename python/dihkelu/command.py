@@ -10,15 +10,17 @@ import json
 import math
 import sys
 from pathlib import Path
-from typing import Any, Iterable, Sequence
+from typing import Any, Iterable, NoReturn, Sequence
 
 from . import batch, explain, files, glasses, plots, reports, text
 from .calls import version
 from .files import Failed
-from .plans import Index, Made, Plan, index_at
-from .words import Wrong, counted, in_line, written
+from .library import LibraryMissing, WrongEnvironment
+from .plans import MOST_ALONE, Index, Made, Plan, index_at
+from .words import Wrong, apart, counted, decimal_text, in_line, printable, quoted, unit, written
 
 MOST_POINTS = 100_000  # of a sweep
+MOST_HINTS = 20  # of a batch, on a terminal
 STATUSES = "The status is 0, 1 where a text, sheet or point was refused, or 2 where the input or output failed or the call is none."
 
 
@@ -37,7 +39,7 @@ def plan_of(name: str) -> Plan:
 def made_of(given: argparse.Namespace) -> Made:
     """The sheet of the file at the wavelength given; what was worked out for it is said."""
     made = plan_of(given.file).make(given.wavelength)
-    say(given, made.notes, explain.hints(made))
+    say(given, made.notes, reports.hints(made))
     return made
 
 
@@ -47,11 +49,11 @@ def say(given: argparse.Namespace, notes: list[str], hints: list[str]) -> None:
         return
     for kind, sentences in [("note", notes), ("hint", hints)]:
         for sentence in sentences:
-            print(f"{given.file}: {kind}: {sentence}", file=sys.stderr)
+            print(printable(f"{getattr(given, 'file', 'dihkelu')}: {kind}: {sentence}"), file=sys.stderr)
 
 
 def remarks(made: Made) -> dict[str, Any]:
-    return {"notes": made.notes, "hints": explain.hints(made)}
+    return {"notes": made.notes, "hints": reports.hints(made)}
 
 
 # ---- output
@@ -113,6 +115,17 @@ def losses(given: argparse.Namespace) -> int:
     return 0
 
 
+def evaluate(given: argparse.Namespace) -> int:
+    data = files.load(given.file)
+    plan = text.read(data, MOST_ALONE) if text.is_text(data) else plan_from(data)
+    made = plan.make(given.wavelength)
+    found = reports.alone(made)
+    say(given, made.notes, reports.hints(made))
+    rows = [dataclasses.asdict(one) for one in found]
+    put_rows(given, reports.alone_table(found), rows, {"file": given.file, "surfaces": rows, **remarks(made)})
+    return 0
+
+
 def write(given: argparse.Namespace) -> int:
     put_sheet(given, made_of(given).sheet.to_bytes())
     return 0
@@ -121,7 +134,7 @@ def write(given: argparse.Namespace) -> int:
 def show(given: argparse.Namespace) -> int:
     """The notes stand in the text, as comments."""
     made = plan_of(given.file).make(given.wavelength)
-    say(given, [], explain.hints(made))
+    say(given, [], reports.hints(made))
     if given.format == "json":
         put(given, made.sheet.to_json() + "\n")
     else:
@@ -180,7 +193,7 @@ def sweep(given: argparse.Namespace) -> int:
         points = reports.sweep_wavelength(plan, steps(*given.wavelength))
         ends = [plan.make(x) for x in _ends(points)]
     notes = list(dict.fromkeys(note for made in ends for note in made.notes))
-    hints = list(dict.fromkeys(hint for made in ends for hint in explain.hints(made)))
+    hints = list(dict.fromkeys(hint for made in ends for hint in reports.hints(made)))
     if given.wavelength and (kept := kept_by_retune(plan)):
         hints.append(kept)
     say(given, notes, hints)
@@ -206,16 +219,17 @@ def _ends(points: list[reports.Point]) -> list[float]:
 
 
 def stack(given: argparse.Namespace) -> int:
-    letters = [given.H, given.L, given.M or given.H]
+    letters, given.text = [given.H, given.L, given.M or given.H], text.plain_stack(given.text)
     if "M" in given.text and given.M is None:
-        raise Wrong(f"M stands in '{given.text}' and has no index: say --M")
+        raise Wrong(f"M stands in {quoted(given.text)} and has no index: say --M")
     layers = [film.at(given.at) for film in text.stack_films(given.text, letters, given.at, None)]
+    say(given, [], text.stack_hints(given.text))
     rows = [{"layer": count, "n": index_at(layer, given.at), "thickness_nm": layer.thickness_nm} for count, layer in enumerate(layers, 1)]
     if given.format == "text":
         put(given, "".join(text.layer_text(layer, given.at) + "\n" for layer in layers))
     else:
         table = [["layer", "n", "thickness nm"]] + [[written(float(x)) for x in row.values()] for row in rows]
-        put_rows(given, reports.aligned(table), rows, {"text": given.text, "design_nm": given.at, "layers": rows})
+        put_rows(given, reports.aligned(table), rows, {"text": given.text, "design_nm": given.at, "layers": rows, "hints": text.stack_hints(given.text)})
     return 0
 
 
@@ -236,7 +250,7 @@ def judged(given: argparse.Namespace, data: bytes) -> dict[str, Any]:
     missed: list[tuple[int, str]] = []
     try:
         made = plan_from(data).make(given.wavelength)
-        say(given, made.notes, explain.hints(made))
+        say(given, made.notes, reports.hints(made))
         missed = [(place, f"{name}{in_line(line)}: {why}") for place, name, line, why in explain.blocks(made) if why]
         reports.powers(made)
     except explain.Turned as turned:
@@ -257,15 +271,26 @@ def wrong_line(wrong: Wrong, data: bytes) -> dict[str, Any]:
 def many(given: argparse.Namespace) -> int:
     names = batch.files(given.files)
     results = batch.run(names, given.jobs, (lambda count: None) if given.quiet else batch.bar(len(names)))
-    rows = [dataclasses.asdict(one) for one in results]
+    rows = [one._asdict() | {"hints": list(one.hints)} for one in results]
     table = [["file", "surfaces", "s", "p", "sum", "lost %", ""]]
     for one in results:
         powers = ["-"] * 4 if one.sum is None else [f"{one.s:.6f}", f"{one.p:.6f}", f"{one.sum:.6f}", reports.percent(one.lost_percent)]
         table.append([one.file, "-" if one.surfaces is None else str(one.surfaces), *powers, one.refused])
     refused = sum(bool(one.status) for one in results)
     last = f"{counted(len(results), 'sheet')}, {refused} refused or unread\n"
-    put_rows(given, reports.aligned(table, (0, 6)) + last, rows, {"sheets": rows})
+    say_of_many(given, results)
+    flat = [row | {"hints": "; ".join(row["hints"])} for row in rows] if given.format == "csv" else rows
+    put_rows(given, reports.aligned(table, (0, 6)) + last, flat, {"sheets": rows})
     return max((one.status for one in results), default=0)
+
+
+def say_of_many(given: argparse.Namespace, results: list[batch.Result]) -> None:
+    """The hints of a batch on standard error, those of the first files where there are many."""
+    hints = [f"{one.file}: hint: {hint}" for one in results for hint in one.hints]
+    more = [f"dihkelu: {len(hints) - MOST_HINTS} more hints: --format json or csv has them all"] if len(hints) > MOST_HINTS else []
+    in_output = given.format in ("json", "csv")
+    for line in [] if given.quiet else batch.left_out(given.files) + ([] if in_output else hints[:MOST_HINTS] + more):
+        print(line, file=sys.stderr)
 
 
 def list_glasses(given: argparse.Namespace) -> int:
@@ -312,21 +337,38 @@ def completion_script(parser: argparse.ArgumentParser) -> str:
 # ---- arguments
 
 
-def decimal_number(word: str) -> decimal.Decimal:
-    number(word)
+def quantity(word: str, units: dict[str, int]) -> decimal.Decimal:
+    """A decimal number, with its unit or in the first of these."""
+    number_, *named = apart(word)
+    found = unit(named[0]) if named else next(iter(units))
+    if found not in units:
+        raise argparse.ArgumentTypeError(f"{quoted(word)} is in {found}; it is wanted in {' or '.join(units)}")
     try:
-        return decimal.Decimal(word)
-    except decimal.InvalidOperation:
-        raise argparse.ArgumentTypeError(f"'{word}' is no decimal number") from None
+        return decimal.Decimal(decimal_text(number_)) * units[found]
+    except (Wrong, decimal.DecimalException) as wrong:
+        raise argparse.ArgumentTypeError(str(wrong) if isinstance(wrong, Wrong) else f"{quoted(word)} is no decimal number") from None
 
 
-def number(word: str) -> float:
+def nanometres(word: str) -> decimal.Decimal:
+    return quantity(word, {"nm": 1, "um": 1000})
+
+
+def degrees(word: str) -> decimal.Decimal:
+    return quantity(word, {"deg": 1})
+
+
+def length(word: str) -> float:
+    """In nm, as a text has it."""
+    number_, *named = apart(word)
     try:
-        found = text.number(word)
+        found = text.number(number_)
     except Wrong as wrong:
         raise argparse.ArgumentTypeError(str(wrong)) from None
+    if named:
+        nanometres(word)
+        found = text.in_unit(found, unit(named[0]))
     if not math.isfinite(found):
-        raise argparse.ArgumentTypeError(f"'{word}' is no finite number")
+        raise argparse.ArgumentTypeError(f"{quoted(word)} is no finite number")
     return found
 
 
@@ -338,14 +380,32 @@ def index(word: str) -> Index:
 
 
 def whole(word: str) -> int:
-    if not word.isascii() or not word.isdigit() or int(word) == 0:
-        raise argparse.ArgumentTypeError(f"'{word}' is no whole number from 1 on")
+    if not word.isascii() or not word.isdigit() or len(word) > 9 or int(word) == 0:
+        raise argparse.ArgumentTypeError(f"{quoted(word)} is no whole number from 1 on")
     return int(word)
 
 
+class Parser(argparse.ArgumentParser):
+    """One whose errors are a line, whatever was given."""
+
+    def error(self, message: str) -> NoReturn:
+        super().error(printable(message if len(message) <= 400 else message[:398] + ".."))
+
+
+class Version(argparse.Action):
+    """Prints the library's version, for which it is loaded."""
+
+    def __init__(self, **more: Any):
+        super().__init__(nargs=0, help="print the version of the library", **more)
+
+    def __call__(self, parser: argparse.ArgumentParser, *_: Any) -> None:
+        print("{} {}.{}".format(parser.prog, *version()))
+        parser.exit()
+
+
 def arguments() -> argparse.ArgumentParser:
-    parser = argparse.ArgumentParser(prog="dihkelu", description=__doc__, epilog=STATUSES)
-    parser.add_argument("--version", action="version", version="%(prog)s {}.{}".format(*version()))
+    parser = Parser(prog="dihkelu", description=__doc__, epilog=STATUSES)
+    parser.add_argument("--version", action=Version)
     commands = parser.add_subparsers(dest="command", required=True, metavar="COMMAND")
 
     def add(name: str, run: Any, about: str, file: bool = True, formats: Sequence[str] = (), plot: bool = False, nm: bool = True) -> argparse.ArgumentParser:
@@ -354,7 +414,7 @@ def arguments() -> argparse.ArgumentParser:
         if file:
             one.add_argument("file", metavar="FILE", help="a text or a sheet; - is standard input")
         if file and nm:
-            one.add_argument("--wavelength", type=number, metavar="NM", help="in the place of the beam's wavelength")
+            one.add_argument("--wavelength", type=length, metavar="NM", help="in the place of the beam's wavelength")
         if formats:
             one.add_argument("-f", "--format", choices=formats, default=formats[0], help="of the output, %(default)s unless given")
         if plot:
@@ -368,13 +428,14 @@ def arguments() -> argparse.ArgumentParser:
     add("losses", losses, "show what each surface loses", formats=rows, plot=True)
     one = add("sweep", sweep, "run the train over a range of angles or wavelengths", formats=rows, plot=True, nm=False)
     over = one.add_mutually_exclusive_group(required=True)
-    range_: dict[str, Any] = {"nargs": 3, "type": decimal_number, "metavar": ("FROM", "TO", "STEP")}
-    over.add_argument("--angle", help="in degrees", **range_)
-    over.add_argument("--wavelength", help="of the beam, in nm", **range_)
+    range_: dict[str, Any] = {"nargs": 3, "metavar": ("FROM", "TO", "STEP")}
+    over.add_argument("--angle", type=degrees, help="in degrees", **range_)
+    over.add_argument("--wavelength", type=nanometres, help="of the beam, in nm", **range_)
     one.add_argument("--surface", type=whole, nargs="+", metavar="N", help="whose angle is swept, counted from 1; the first unless given")
     one.add_argument("--each", action="store_true", help="s and p after each surface, in columns of their own")
     one = add("band", band, "show s and p at each line of a band, and their weighed means", formats=rows, plot=True)
     one.add_argument("lines", metavar="LINES", help=f"a file of lines, each {text.BAND_FORM}")
+    add("evaluate", evaluate, f"show what each surface alone reflects and transmits, at any angle and with up to {MOST_ALONE} layers", formats=rows)
     add("check", check, "say whether a sheet is admitted, and if not why", formats=rows)
     one = add("batch", many, "run many texts and sheets, on all cores", file=False, formats=rows)
     one.add_argument("files", metavar="FILE", nargs="+", help="texts and sheets, or folders of .txt and .sheet")
@@ -387,9 +448,9 @@ def arguments() -> argparse.ArgumentParser:
     one.add_argument("text", metavar="TEXT", help="such as '(HL)^7 H'")
     for letter in "HLM":
         one.add_argument(f"--{letter}", type=index, required=letter != "M", metavar="INDEX", help=f"of {letter}: a number or a glass")
-    one.add_argument("--at", type=number, required=True, metavar="NM", help="the design wavelength")
+    one.add_argument("--at", type=length, required=True, metavar="NM", help="the design wavelength")
     one = add("glasses", list_glasses, "list the glasses that have a name", file=False, formats=rows)
-    one.add_argument("--at", type=number, default=587.6, metavar="NM", help="the wavelength of the index shown, %(default)s unless given")
+    one.add_argument("--at", type=length, default=587.6, metavar="NM", help="the wavelength of the index shown, %(default)s unless given")
     add("completion", completion, "print a script that completes this command in bash", file=False)
     return parser
 
@@ -400,17 +461,21 @@ def subcommands(parser: argparse.ArgumentParser) -> dict[str, argparse.ArgumentP
 
 
 def main(words: Iterable[str] | None = None) -> int:
-    given = arguments().parse_args(None if words is None else list(words))
-    named = f"{given.file}: " if hasattr(given, "file") else "dihkelu: "
+    named = "dihkelu: "
     try:
+        given = arguments().parse_args(None if words is None else list(words))
+        named = f"{given.file}: " if hasattr(given, "file") else named
         if given.plot:
             plots.check(given.plot)
         return given.run(given)
     except Failed as failed:
-        print(f"{named}{failed}", file=sys.stderr)
+        print(printable(f"{named}{failed}"), file=sys.stderr)
         return 2
     except Wrong as wrong:
-        print(f"{named}{wrong}", file=sys.stderr)
+        print(printable(f"{named}{wrong}"), file=sys.stderr)
         return 1
+    except (LibraryMissing, WrongEnvironment) as missing:
+        print(printable(f"dihkelu: {missing}"), file=sys.stderr)
+        return 2
     except KeyboardInterrupt:
         return 130

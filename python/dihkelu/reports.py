@@ -6,10 +6,10 @@ from dataclasses import dataclass
 from typing import Any, Iterable, Sequence
 
 from . import explain
-from .calls import answers, band, edition_1, quarter_waves, run
+from .calls import LAYERS, answers, band, edition_1, evaluate, quarter_waves, run
 from .plans import COATINGS, DIRECTIONS, Made, Plan, index_at, met
 from .refusals import Refused
-from .sheet import Coating, Sheet, Surface
+from .sheet import Coating, Glass, Layer, Sheet, Surface
 from .text import edition
 from .words import Wrong, counted, in_line, written
 
@@ -21,6 +21,14 @@ def powers(made: Made) -> list[tuple[float, float]]:
         return run(data)
     except Refused as refused:
         raise explain.Turned(refused, explain.sentence(refused, data, made)) from None
+
+
+def hints(made: Made) -> list[str]:
+    """Where a sheet is hardly what was meant, with what its run says where it is admitted."""
+    try:
+        return explain.hints(made, powers(made))
+    except explain.Turned:
+        return explain.hints(made)
 
 
 def percent_of(part: float, whole: float) -> float | None:
@@ -98,6 +106,47 @@ def losses(made: Made, after: Sequence[tuple[float, float]] | None = None) -> Lo
     end = s + p
     scale = start / end if end else math.inf
     return Losses(found, s, p, end, percent_of(start - end, start), percent_of(end, start), scale if math.isfinite(scale) else None)
+
+
+# ---- a surface alone
+
+
+@dataclass(frozen=True)
+class Alone:
+    """What a surface alone reflects and transmits of s and of p and what stays in it, as shares; and why no sheet has it, where that is so."""
+
+    number: int
+    surface: str
+    line: int | None
+    wavelength_nm: float
+    reflectance_s: float
+    reflectance_p: float
+    transmittance_s: float
+    transmittance_p: float
+    absorptance_s: float
+    absorptance_p: float
+    phase_rs_rad: float
+    phase_rp_rad: float
+    no_sheet: str
+
+    def shares(self) -> list[float]:
+        return [self.reflectance_s, self.reflectance_p, self.transmittance_s, self.transmittance_p, self.absorptance_s, self.absorptance_p]
+
+
+def alone(made: Made) -> list[Alone]:
+    """Each surface by the library's `evaluate`, at any angle and with up to 64 layers; a bare one as a coating of no layers."""
+    found = []
+    for count, (surface, nm) in enumerate(zip(made.sheet.surfaces, met(made.sheet))):
+        layers = [Layer(index_at(x, nm), 0.0, x.thickness_nm) if isinstance(x, Glass) else x for x in surface.layers]
+        code = LAYERS if surface.coating == Coating.BARE else int(surface.coating)
+        line = made.plan.faces[count].line
+        try:
+            one = evaluate(code, surface.n_incident, surface.n_substrate, surface.angle_rad, nm, layers)
+        except Refused as refused:
+            raise explain.Turned(refused, f"surface {count + 1}{in_line(line)}: {refused.sentence}") from None
+        shares = [one.reflectance_s, one.reflectance_p, one.transmittance_s, one.transmittance_p, one.absorptance_s, one.absorptance_p]
+        found.append(Alone(count + 1, called(surface), line, nm, *shares, one.phase_rs_rad, one.phase_rp_rad, explain.no_sheet(made, count, nm)))
+    return found
 
 
 # ---- sweeps
@@ -222,6 +271,14 @@ def losses_table(found: Losses) -> str:
         rows.append([str(one.number), one.surface, f"{one.wavelength_nm:g}", one.follows, *map(percent, shares)])
     ends = f"s {found.s + 0.0:.6g}, p {found.p + 0.0:.6g}, sum {found.sum + 0.0:.6g}"  # + 0.0 takes the sign from a zero
     return aligned(rows, (1, 3)) + f"whole train: {percent(found.lost_percent)} % lost, {percent(found.left_percent)} % left ({ends})\n"
+
+
+def alone_table(found: list[Alone]) -> str:
+    rows = [["", "surface", "nm", "R s %", "R p %", "T s %", "T p %", "stays s %", "stays p %"]]
+    for one in found:
+        rows.append([str(one.number), one.surface, f"{one.wavelength_nm:g}", *(percent(100 * x) for x in one.shares())])
+    refused = [f"surface {one.number}{in_line(one.line)} stands in no sheet: {one.no_sheet}\n" for one in found if one.no_sheet]
+    return aligned(rows, (1,)) + "".join(refused)
 
 
 def quarters_table(found: list[Quarters], wavelength: float) -> str:

@@ -1,11 +1,13 @@
 """Tests of the command `dihkelu`: its answers in every format, its statuses, its pictures."""
 import csv
+import ctypes.util
 import io
 import json
 import math
 import os
 import pathlib
 import re
+import shutil
 import struct
 import subprocess
 import sys
@@ -13,7 +15,7 @@ import tempfile
 import unittest
 from unittest import mock
 
-from common import PACKAGE, ROOT, build_train, run, train
+from common import PACKAGE, ROOT, build_train, dihkelu, run, train
 from dihkelu import batch, command, plots, reports, text
 
 EXAMPLES = ROOT / "examples"
@@ -72,7 +74,7 @@ class Losses(Folder):
         status, _, said = run("losses", "-", given=SCANNER)
         self.assertEqual((status, said.count("-: note: "), said.count("hint")), (0, 4, 0))
         self.assertEqual(run("losses", "-", "--quiet", given=SCANNER)[2], "")
-        said = run("losses", "-", given="beam 1064 nm s 1 p 1\nsurface mgf2 transmitted from 1 to 1.5 at 0 deg\n")[2]
+        said = run("losses", "-", given="beam 1064 nm s 1 p 0\nsurface mgf2 transmitted from 1 to 1.5 at 0 deg\n")[2]
         self.assertEqual(said, "-: hint: surface 1 (line 2) has the preset mgf2, designed for 550 nm; the light has 1064 nm\n")
 
     def test_another_wavelength(self):
@@ -93,7 +95,7 @@ class Losses(Folder):
         self.assertIsNone(whole["scale_factor"])
 
     def test_refused(self):
-        status, out, said = run("losses", "-", given="beam 99 nm s 1 p 1\n")
+        status, out, said = run("losses", "-", given="beam 99 nm s 1 p 0\n")
         self.assertEqual((status, out, said), (1, b"", "-: refused 6 1: the beam (line 1) is outside the gate: the wavelength is 99, not from 100 to 10000\n"))
 
 
@@ -131,13 +133,59 @@ class Sheets(Folder):
         self.assertEqual(lines.splitlines()[0], f"layer 2.3 thickness {1064 / (4 * 2.3)!r} nm")
         self.assertEqual(len(json.loads(run(*words, "-f", "json")[1])["layers"]), 5)
         self.assertEqual(run("stack", "HM", "--H", "2", "--L", "1.5", "--at", "1064")[0], 1)
-        self.assertEqual(run("stack", "H^32H", "--H", "2", "--L", "1.5", "--at", "1064")[2], "dihkelu: refused 9 3: 'H^32H' is no stack: '2' cannot stand at its byte 3, counted from 0\n")
+        self.assertEqual(run("stack", "H^32H", "--H", "2", "--L", "1.5", "--at", "1064")[2], "dihkelu: refused 9 3: 'H^32H' is no stack: a power is from 1 to 31, and 32 is none, at its byte 3, counted from 0\n")
+
+    def test_lengths_as_people_write(self):
+        wanted = run("stack", "HL", "--H", "2.3", "--L", "1.46", "--at", "1064")
+        for at in ("1064nm", "1,064e3", "1.064um", "1.064\u00b5m"):
+            self.assertEqual(run("stack", "HL", "--H", "2,3", "--L", "1.46", "--at", at), wanted)
+        self.assertEqual(run("stack", "(HL)7 H", "--H", "2.3", "--L", "1.46", "--at", "1064")[2][:29], "dihkelu: hint: in '(HL)7 H' t")
+        for wrong, said in [("1,064", "'1,064' may be 1.064 or 1064"), ("8deg", "'8deg' is in deg; it is wanted in nm or um"), ("9" * 5000 + "x", "9' is no number")]:
+            status, _, found = run("stack", "HL", "--H", "2.3", "--L", "1.46", "--at", wrong)
+            self.assertEqual((status, said.split("9'")[-1] in found, max(map(len, found.splitlines())) < 500), (2, True, True), found)
 
     def test_glasses(self):
         status, out, _ = run("glasses", "--at", "300")
         self.assertEqual((status, b"sapphire" in out, b"Malitson" in out), (0, True, True))
         rows = json.loads(run("glasses", "--at", "5000", "-f", "json")[1])["glasses"]
         self.assertEqual([one["name"] for one in rows if one["n"] is None], ["fused-silica", "n-bk7"])
+
+
+class Evaluate(Folder):
+    """A surface alone, also where no sheet has it."""
+
+    def rows(self, given):
+        status, out, _ = run("evaluate", "-", "-f", "json", given=given)
+        self.assertEqual(status, 0)
+        return json.loads(out)["surfaces"]
+
+    def test_gold_at_an_angle(self):
+        """Against Fresnel's formulas of a metal so thick that nothing passes."""
+        n, angle = complex(0.26, 6.97), math.radians(45)
+        inside = (n * n - math.sin(angle) ** 2) ** 0.5
+        rs = abs((math.cos(angle) - inside) / (math.cos(angle) + inside)) ** 2
+        rp = abs((n * n * math.cos(angle) - inside) / (n * n * math.cos(angle) + inside)) ** 2
+        (one,) = self.rows("beam 1064 nm s 0.5 p 0.5\nsurface custom reflected from 1 to 1.5 at 45 deg\nlayer 0.26 thickness 500 nm k 6.97\n")
+        self.assertAlmostEqual(one["reflectance_s"], rs, places=12)
+        self.assertAlmostEqual(one["reflectance_p"], rp, places=12)
+        self.assertTrue(one["no_sheet"].startswith("layer 1: with n 0.26 and k 6.97 it is a metal film, and these are met at angle 0 only, not at 45 deg; 2 pi thickness"))
+
+    def test_many_layers(self):
+        """(HL)^10 H in closed form: R of the admittance (H/L)^20 H^2 / n."""
+        text_ = "beam 1064 nm s 1 p 0\nsurface custom reflected from 1 to 1.5 at 0 deg\nstack (HL)^10 H with H 2.3 L 1.46 at 1064 nm\n"
+        y = (2.3 / 1.46) ** 20 * 2.3**2 / 1.5
+        (one,) = self.rows(text_)
+        self.assertAlmostEqual(one["reflectance_s"], ((1 - y) / (1 + y)) ** 2, places=12)
+        self.assertEqual(one["no_sheet"], "a surface of a sheet has at most 16 layers, and this has 21")
+        self.assertIn("surface 1 (line 2) stands in no sheet: a surface of a sheet has at most 16 layers", run("evaluate", "-", given=text_)[1].decode())
+        self.assertEqual(run("losses", "-", given=text_)[2], "-: line 3: a surface has at most 16 layers; with this stack it has 21; dihkelu evaluate takes 64, of a surface alone\n")
+        self.assertEqual(run("evaluate", "-", given=text_.replace("^10", "^31") + "layer 1.5 thickness 9 nm\nlayer 1.5 thickness 9 nm\n")[0], 1)
+
+    def test_admitted_ones_are_the_answers(self):
+        made = text.read(SCANNER).make()
+        for count, one in enumerate(reports.alone(made)):
+            found = dihkelu.answers(made.sheet, count)
+            self.assertEqual((one.reflectance_s, one.transmittance_p, one.no_sheet), (found.reflectance_s, found.transmittance_p, ""))
 
 
 class Sweeps(Folder):
@@ -293,9 +341,50 @@ class Batch(Folder):
 
     def test_many_processes(self):
         names = [str(self.file(f"{i:03}.txt", KNOWN.replace("0 rad", f"{i / 300} rad"))) for i in range(300)]
-        self.assertGreater(len(names), batch.FEW)
-        self.assertEqual(batch.run(names, 2), batch.run(names, 1))
+        with mock.patch.object(batch, "ALONE_S", 0.0):
+            self.assertEqual(batch.run(names, 2), batch.run(names, 1))
         self.assertEqual(batch.files([str(self.folder)]), names)
+
+    def test_sheets_are_texts(self):
+        """A sheet's bytes, which go past the plan, have the answer, the refusal and the hints of what is shown of it."""
+        compared = 0
+        for path in sorted(EXAMPLES.glob("*.sheet")):
+            found = batch.one(str(path))
+            shown = run("show", path)
+            if found.status or shown[0]:
+                self.assertEqual((found.status, found.refused), (run("losses", path)[0], run("losses", path, "-q")[2].split(": ", 1)[1].strip()))
+                continue
+            same = batch.one(str(self.file("shown.txt", shown[1])))
+            self.assertEqual(found[1:-1], same[1:-1])
+            self.assertEqual(list(found.hints), [re.sub(r" \(line [0-9]+\)", "", hint) for hint in same.hints], path.name)
+            compared += 1
+        self.assertGreater(compared, 30)
+
+    def test_hints(self):
+        """The preset mirror at 1064 nm lost 93 % without a word."""
+        path = self.file("mirror.txt", "beam 1064 nm s 0.5 p 0.5\nsurface mirror reflected from 1 to 1.52 at 45 deg\n")
+        hint = "surface 1 (line 2) has the preset mirror, designed for 550 nm; the light has 1064 nm"
+        status, out, said = run("batch", path)
+        self.assertEqual((status, said), (0, f"{path}: hint: {hint}\n"))
+        self.assertEqual(json.loads(run("batch", path, "-f", "json")[1])["sheets"][0]["hints"], [hint])
+        self.assertEqual(list(csv.DictReader(io.StringIO(run("batch", path, "-f", "csv")[1].decode())))[0]["hints"], hint)
+        self.assertEqual(run("batch", path, "-q")[2], "")
+        many = run("batch", *[path] * 25)[2].splitlines()
+        self.assertEqual((len(many), many[-1]), (21, "dihkelu: 5 more hints: --format json or csv has them all"))
+
+    def test_folders(self):
+        """Endings of either size and folders in folders; what is left out is said, and nothing at all is no success."""
+        (self.folder / "in").mkdir()
+        names = [str(self.file(name, KNOWN)) for name in ("a.TXT", "b.text", "in/c.txt")]
+        self.file("notes.md", "x")
+        self.assertEqual(batch.files([str(self.folder)]), names)
+        status, out, said = run("batch", self.folder)
+        self.assertEqual((status, out.endswith(b"3 sheets, 0 refused or unread\n")), (0, True))
+        self.assertEqual(said, f"{self.folder}: files that end with none of .txt, .text, .sheet are left out: .md\n")
+        (self.folder / "empty").mkdir()
+        status, out, said = run("batch", self.folder / "empty")
+        self.assertEqual((status, out), (2, b""))
+        self.assertIn("has no text and no sheet", said)
 
     def test_progress(self):
         with mock.patch.object(sys, "stderr", io.StringIO()) as said:
@@ -384,6 +473,46 @@ class Ends(Folder):
             self.assertEqual((done.returncode, b"cannot be written: No space left on device" in done.stderr), (2, True))
         done = subprocess.run(["sh", "-c", '"$@" losses - <&-', "sh", *module], capture_output=True, env=environment, check=False)
         self.assertEqual((done.returncode, b"Traceback" in done.stderr), (2, False), done.stderr)
+
+
+class Libraries(Folder):
+    """Without a library there is one sentence and the status 2, which no refusal has."""
+
+    def checkout(self):
+        """A copy of what is needed to build it."""
+        for name in ("python/dihkelu", "c"):
+            shutil.copytree(ROOT / name, self.folder / name, ignore=shutil.ignore_patterns("build", "__pycache__", "_library*"))
+        return self.folder / "c" / "build"
+
+    def said(self, *words, **more):
+        environment = {key: x for key, x in os.environ.items() if key != "DIHKELU_LIBRARY"} | {"PYTHONPATH": str(self.folder / "python"), **more}
+        done = subprocess.run([sys.executable, "-m", "dihkelu", *map(str, words)], capture_output=True, text=True, env=environment, check=False)
+        return done.returncode, done.stdout, done.stderr
+
+    def test_missing(self):
+        build = self.checkout()
+        window = EXAMPLES / "window.txt"
+        self.assertEqual(self.said("--help", PATH="")[0], 0)
+        status, out, said = self.said("losses", window, PATH="/nowhere")
+        self.assertEqual((status, out, said.count("\n")), (2, "", 2))
+        self.assertIn("dihkelu: the library cannot be built: there is no make; install make and a C compiler, or build", said)
+        self.assertEqual(self.said("--version", PATH="/nowhere")[0], 2)
+        build.write_text("this is no folder: nothing can be built in it")
+        status, out, said = self.said("losses", window)
+        self.assertEqual((status, out, said.count("\n"), "Traceback" in said), (2, "", 2, False))
+        self.assertIn(f"the library cannot be built in {build} (", said)
+        build.unlink()
+        for wrong, why in [("/nowhere.so", "No such file"), (str(window), "invalid ELF header"), (ctypes.util.find_library("m"), "undefined symbol")]:
+            status, out, said = self.said("losses", window, DIHKELU_LIBRARY=wrong)
+            self.assertEqual((status, out, said.count("\n")), (2, "", 1))
+            self.assertIn(f"dihkelu: {wrong} cannot be loaded as the library (", said)
+            self.assertIn(why, said)
+
+    def test_built_at_first_use(self):
+        build = self.checkout()
+        status, out, said = self.said("losses", EXAMPLES / "window.txt")
+        self.assertEqual((status, said), (0, f"dihkelu: building {build}/libdihkelu.so from its C source; this is done once and takes some seconds\n"))
+        self.assertEqual(self.said("losses", EXAMPLES / "window.txt"), (0, out, ""))
 
 
 class Pages(unittest.TestCase):

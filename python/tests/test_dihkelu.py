@@ -1,11 +1,11 @@
 """Tests of the package: python3 -m unittest discover -s python/tests (from the repository)."""
+import array
 import doctest
 import math
 import pathlib
 import random
 import struct
 import sys
-import types
 import unittest
 
 ROOT = pathlib.Path(__file__).resolve().parent.parent.parent
@@ -227,21 +227,94 @@ class Surfaces(unittest.TestCase):
             self.assertEqual(dihkelu.invalid_argument(*good[:i], math.nan, *good[i + 1 :]), name)
         self.assertEqual(dihkelu.invalid_argument(1.0, 0.0, math.inf, -1.0), "n_substrate")
 
+    def test_layers_that_are_none(self):
+        """Pairs were flattened to other layers and answered."""
+        pairs = [(2.3, 115.6), (1.46, 182.2), (2.3, 115.6)]
+        for wrong, said in [
+            (pairs, r"layers\[0\] is \(2.3, 115.6\): a layer is a Layer, or three numbers"),
+            ([Layer(2.3, 0.0, 99.0), 1.5], r"layers\[1\] is 1.5: "),
+            ([(1.5, 0.0, "x")], r"layers\[0\] is "),
+            ([Glass(1.5, 0.0, 0.0, 99.0)], r"layers\[0\] is Glass"),
+        ]:
+            for at in (550.0, [550.0, 560.0]):
+                with self.assertRaisesRegex(ValueError, said):
+                    dihkelu.evaluate(dihkelu.LAYERS, 1.0, 1.52, 0.0, at, wrong)
+        triples = [(2.3, 0.0, 115.6), [1.46, 0.0, 182.2], Layer(2.3, 0, 115.6)]
+        self.assertEqual(dihkelu.evaluate(dihkelu.LAYERS, 1.0, 1.52, 0.0, 1064.0, triples), dihkelu.evaluate(dihkelu.LAYERS, 1.0, 1.52, 0.0, 1064.0, [Layer(2.3, 0.0, 115.6), Layer(1.46, 0.0, 182.2), Layer(2.3, 0.0, 115.6)]))
+
+    def test_whole_numbers_that_do_not_fit(self):
+        """2^32 + x was taken for x."""
+        with self.assertRaises(dihkelu.InvalidParameter):
+            dihkelu.evaluate((1 << 32) + 2, 1.0, 1.52, 0.0, 550.0)
+        with self.assertRaises(dihkelu.NoSuchSurface):
+            dihkelu.answers(BARE, 1 << 32)
+
+    def test_the_argument_is_named(self):
+        for call, name in [
+            (lambda: dihkelu.evaluate(9, 1.0, 1.5, 0.0, 550.0), "code"),
+            (lambda: dihkelu.evaluate(5, math.inf, 1.5, 0.0, 550.0), "n_incident"),
+            (lambda: dihkelu.evaluate(5, 1.0, [1.5, 0.0], 0.0, 550.0), "n_substrate"),
+            (lambda: dihkelu.evaluate(5, 1.0, 1.5, [0.0, math.nan], 550.0), "angle_rad"),
+            (lambda: dihkelu.evaluate(5, 1.0, 1.5, 0.0, [550.0, -1.0]), "wavelength_nm"),
+            (lambda: dihkelu.stack("H", 2.3, 1.46, -1.0), "n_m"),
+            (lambda: dihkelu.stack("H", 2.3, 1.46, design_wavelength_nm=0.0), "design_wavelength_nm"),
+            (lambda: dihkelu.surface_fresnel_jones(1.0, -1.5, 0.0), "n2"),
+            (lambda: dihkelu.jones_apply(((1, 0), (0, 1)), (1.0, 0.0, 0.0)), "field"),
+            (lambda: dihkelu.mueller_apply(((1, 0), (0, 1)), (1.0, 0.0, 0.0, 0.0)), "matrix"),
+        ]:
+            with self.subTest(name), self.assertRaises(dihkelu.InvalidParameter) as caught:
+                call()
+            self.assertEqual(caught.exception.argument, name)
+            self.assertIn(": there is no coating of this code" if name == "code" else f": {name} ", str(caught.exception))
+
+    def test_lists_of_indices(self):
+        n0, n1, angles, nm = [1.0, 1.0, 1.33, 1.0], [1.5, 1.5, 1.5, 1.6], [0.0, 0.1, 0.2, 0.3], [500.0, 550.0, 600.0, 650.0]
+        whole = dihkelu.evaluate(dihkelu.MGF2, n0, n1, angles, nm)
+        each = [dihkelu.evaluate(dihkelu.MGF2, *case) for case in zip(n0, n1, angles, nm)]
+        for name in vars(each[0]):
+            self.assertEqual(getattr(whole, name), [getattr(one, name) for one in each])
+        with self.assertRaisesRegex(ValueError, "unequal length: 4 of n_incident, 2 of wavelength_nm"):
+            dihkelu.evaluate(dihkelu.MGF2, n0, 1.5, 0.0, [500.0, 600.0])
+        with self.assertRaises(dihkelu.InvalidParameter) as caught:
+            dihkelu.evaluate(dihkelu.MGF2, n0, n1, angles, [500.0, 550.0, -1.0, 650.0])
+        self.assertEqual((caught.exception.place, caught.exception.argument), (2, "wavelength_nm"))
+
+    def test_buffers(self):
+        """Doubles of any holder: lent, copied from memory that is read only, or converted."""
+        nm = [500.0, 550.0, 600.0]
+        wanted = dihkelu.evaluate(dihkelu.MGF2, 1.0, 1.52, 0.1, nm)
+        doubles = array.array("d", nm)
+        strided = memoryview(array.array("d", [500.0, 1.0, 550.0, 1.0, 600.0]))[::2]
+        for given in (doubles, memoryview(doubles), memoryview(doubles.tobytes()).cast("d"), strided, array.array("f", nm), iter(nm), range(500, 601, 50)):
+            self.assertEqual(dihkelu.evaluate(dihkelu.MGF2, 1.0, 1.52, 0.1, given), wanted)
+        lent = dihkelu.calls._lent(doubles)
+        doubles[0] = 7.0
+        self.assertEqual(lent[0], 7.0)
+
     def test_arrays(self):
         try:
             import numpy
         except ImportError:
-            numpy = None
-        if numpy is None:  # a stand-in: what is asked of numpy is tolist, shape and array
-            stand_in = types.ModuleType("numpy")
-            stand_in.array = lambda x: Array(x)
-            sys.modules["numpy"] = stand_in
-            self.addCleanup(sys.modules.pop, "numpy")
-            numpy = stand_in
-        angles = numpy.array([0.0, 0.25, 0.5])
-        found = dihkelu.evaluate(dihkelu.MGF2, 1.0, 1.52, angles, 550.0).reflectance_s
-        self.assertEqual(found.shape, (3,))
-        self.assertEqual(found.tolist(), dihkelu.evaluate(dihkelu.MGF2, 1.0, 1.52, [0.0, 0.25, 0.5], 550.0).reflectance_s)
+            self.skipTest("numpy is not installed for this Python")
+        angles, nm = numpy.array([0.0, 0.25, 0.5]), numpy.array([500.0, 600.0])
+        found = dihkelu.evaluate(dihkelu.MGF2, 1.0, 1.52, angles, 550.0)
+        lists = dihkelu.evaluate(dihkelu.MGF2, 1.0, 1.52, angles.tolist(), 550.0)
+        for name in vars(dihkelu.evaluate(dihkelu.MGF2, 1.0, 1.52, 0.0, 550.0)):
+            self.assertEqual(getattr(found, name).tolist(), getattr(lists, name))
+        grid = dihkelu.evaluate(dihkelu.MGF2, 1.0, numpy.array([1.5, 1.6])[:, None, None], angles[:, None], nm)
+        self.assertEqual((grid.ts.shape, grid.ts.dtype), ((2, 3, 2), complex))
+        self.assertEqual(grid.phase_rp_rad[1, 2, 0], dihkelu.evaluate(dihkelu.MGF2, 1.0, 1.6, 0.5, 500.0).phase_rp_rad)
+        frozen = angles.copy()
+        frozen.flags.writeable = False
+        for same in (angles.astype(">f8"), frozen, numpy.stack([angles, nm[[0, 0, 0]]], 1)[:, 0]):
+            self.assertEqual(dihkelu.evaluate(dihkelu.MGF2, 1.0, 1.52, same, 550.0).rs.tolist(), lists.rs)
+        rows = numpy.array([[2.3, 0.0, 115.6], [1.46, 0.0, 182.2]])
+        for layers in (rows, numpy.asfortranarray(rows), rows.astype("f4").astype(float), rows[::-1][::-1]):
+            one = dihkelu.evaluate(dihkelu.LAYERS, 1.0, 1.52, 0.0, numpy.float64(1064.0), layers)
+            self.assertAlmostEqual(one.reflectance_s, dihkelu.evaluate(dihkelu.LAYERS, 1.0, 1.52, 0.0, 1064.0, rows.tolist()).reflectance_s, places=6)
+        for wrong in (rows[:, :2], rows.ravel()):
+            with self.assertRaisesRegex(ValueError, "layers is an array of shape"):
+                dihkelu.evaluate(dihkelu.LAYERS, 1.0, 1.52, 0.0, 1064.0, wrong)
 
     def test_fresnel(self):
         self.assertEqual(dihkelu.fresnel_dielectric(1.0, 1.0, 3.0), (0.25, 0.25))
@@ -296,17 +369,6 @@ class Surfaces(unittest.TestCase):
         self.assertEqual(dihkelu.quarter_waves(2.3, 250.0, 1064.0)[0], 2)
         self.assertTrue(dihkelu.environment_ok())
         self.assertEqual(dihkelu.version(), (dihkelu.library.VERSION >> 16, dihkelu.library.VERSION & 0xFFFF))
-
-
-class Array(list):
-    """A stand-in for an array of numpy's."""
-
-    @property
-    def shape(self):
-        return (len(self),)
-
-    def tolist(self):
-        return list(self)
 
 
 if __name__ == "__main__":

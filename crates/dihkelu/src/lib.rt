@@ -55,7 +55,7 @@ use train_steps::TrainReply;
 pub extern "C" fn dihkelu_version() -> u32
     ensures { λ r. ⌜ r ≡ version ⌝ }
 {
-    0x0000_0003
+    0x0000_0004
 }
 
 // ---- a coated surface

@@ -3,9 +3,10 @@
 
 extern "C" {
     pub fn dihkelu_version() -> u32;
-    /// The gate. A sheet is of edition 1, or of edition 2, in which a layer may be of kind 6, a glass whose index changes with
-    /// colour, and a kind 7 may stand before a surface: the wavelength from there on. In either edition the 1 to 4 layers of a
-    /// custom surface at angle zero may be metal films. Returns the count of surfaces; refuses with 4, 5, 6.
+    /// The gate. The words of a sheet stand in dihkelu-sheet(5); dihkelu_sheet.h writes one from numbers. It is of edition
+    /// 1, or of edition 2, in which a layer may be of kind 6, a glass whose index changes with colour, and a kind 7 may
+    /// stand before a surface: the wavelength from there on. In either edition the 1 to 4 layers of a custom surface at
+    /// angle zero may be metal films. Returns the count of surfaces; refuses with 4, 5, 6.
     pub fn dihkelu_gate(sheet: *const u8, sheet_count: usize) -> u64;
     /// A train's state is four numbers: surfaces done, s, p and the wavelength held in nm. The calls take any state, also one
     /// that no train has been in. Up to version 0.2 a state had no wavelength, and start and step wrote s and p to a list.
@@ -107,7 +108,7 @@ extern "C" {
         list: *mut f64,
         list_count: usize,
     ) -> u64;
-    /// The same at many angles and wavelengths: case i has angles_rad[i] and wavelengths_nm[i]. Writes 16 doubles a case, one
+    /// The same at many angles and wavelengths: case i has angles_rad\[i\] and wavelengths_nm\[i\]. Writes 16 doubles a case, one
     /// case after the other, and returns how many these are. Refuses with 1 at DIHKELU_CASES where there are not as many
     /// wavelengths as angles, or so many cases or more; then as dihkelu_evaluate refuses the first case that it refuses, with 1
     /// or 3 at that case; then with 8. Nothing is written where one case is refused.
