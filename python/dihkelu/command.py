@@ -17,7 +17,7 @@ from .calls import version
 from .files import Failed
 from .library import LibraryMissing, WrongEnvironment
 from .plans import MOST_ALONE, Index, Made, Plan, index_at
-from .words import Wrong, apart, counted, decimal_text, in_line, printable, quoted, unit, written
+from .words import Wrong, apart, counted, decimal_text, in_line, number, printable, quoted, unit, written
 
 MOST_POINTS = 100_000  # of a sweep
 MOST_HINTS = 20  # of a batch, on a terminal
@@ -448,7 +448,7 @@ def allowed(word: str, unit_: str) -> tolerance.Allowed:
     if end != "%" and end != unit_:
         raise argparse.ArgumentTypeError(f"{quoted(word)} has no unit: write % or {unit_} behind it")
     try:
-        found = text.number(number_.strip())
+        found = number(number_.strip())
     except Wrong as wrong:
         raise argparse.ArgumentTypeError(str(wrong)) from None
     if not 0 <= found < math.inf:
@@ -467,7 +467,7 @@ def length(word: str) -> float:
     """In nm, as a text has it."""
     number_, *named = apart(word)
     try:
-        found = text.number(number_)
+        found = number(number_)
     except Wrong as wrong:
         raise argparse.ArgumentTypeError(str(wrong)) from None
     if named:
@@ -588,7 +588,8 @@ def main(words: Iterable[str] | None = None) -> int:
         named = f"{given.file}: " if hasattr(given, "file") else named
         if given.plot:
             plots.check(given.plot)
-        return given.run(given)
+        status: int = given.run(given)
+        return status
     except Failed as failed:
         print(printable(f"{named}{failed}"), file=sys.stderr)
         return 2

@@ -148,7 +148,7 @@ def alone(made: Made) -> list[Alone]:
             one = evaluate(code, surface.n_incident, surface.n_substrate, surface.angle_rad, nm, layers)
         except Refused as refused:
             raise explain.Turned(refused, f"surface {count + 1}{in_line(line)}: {refused.sentence}") from None
-        shares = [one.reflectance_s, one.reflectance_p, one.transmittance_s, one.transmittance_p, one.absorptance_s, one.absorptance_p]
+        shares = one.reflectance_s, one.reflectance_p, one.transmittance_s, one.transmittance_p, one.absorptance_s, one.absorptance_p
         found.append(Alone(count + 1, called(surface), line, nm, *shares, one.phase_rs_rad, one.phase_rp_rad, explain.no_sheet(made, count, nm)))
     return found
 
