@@ -112,6 +112,16 @@ class Trains(unittest.TestCase):
             with self.assertRaises(dihkelu.NoSuchSurface):
                 train.step()
 
+    def test_run_each(self):
+        """Many sheets are what each is alone, refusals among them."""
+        sheets = [path.read_bytes() for path in sorted((ROOT / "examples").glob("*.sheet"))]
+        for data, found in zip(sheets, dihkelu.run_each(sheets)):
+            try:
+                self.assertEqual(found, dihkelu.run(data))
+            except dihkelu.Refused as refused:
+                self.assertEqual((type(found), found.args), (type(refused), refused.args))
+        self.assertEqual(dihkelu.run_each([BARE, BARE.to_bytes()]), [[(0.375, 0.375)]] * 2)
+
     def test_retune(self):
         train = dihkelu.Train(BARE)
         self.assertEqual(train.retune(632.8), 0)
