@@ -70,7 +70,7 @@ class Train:
         self.surfaces = answered(_library.dihkelu_start(self._sheet, len(self._sheet), *self._state()), "start")
 
     def _state(self) -> list[Any]:
-        return [ctypes.byref(x) for x in (self._done, self._s, self._p, self._nm)]
+        return [ctypes.byref(self._done), ctypes.byref(self._s), ctypes.byref(self._p), ctypes.byref(self._nm)]
 
     @property
     def surfaces_done(self) -> int:
@@ -112,7 +112,7 @@ def run(sheet: SheetLike) -> list[tuple[float, float]]:
 
 def run_each(sheets: Iterable[SheetLike]) -> list[list[tuple[float, float]] | Refused]:
     """What `run` gives of each sheet; of one that is refused, its refusal."""
-    out, found = _Powers(), []
+    out, found = _Powers(), list[Union[list[tuple[float, float]], Refused]]()
     for sheet in sheets:
         try:
             found.append(_run(_bytes(sheet), out))
@@ -207,7 +207,7 @@ def answers(sheet: SheetLike, surface: int) -> Answers:
     count = answered(_library.dihkelu_answers(data, len(data), _within(surface, 0xFFFFFFFF), out, len(out)), "answers")
     x = out[:count]
     matrices = _matrix(x[5:13]), _matrix(x[13:21]), _mueller(x[21:37]), _mueller(x[37:53])
-    return Answers(x[0] == 1.0, *x[1:5], *matrices, _response(x[53:]) if count > 53 else None)
+    return Answers(x[0] == 1.0, x[1], x[2], x[3], x[4], *matrices, _response(x[53:]) if count > 53 else None)
 
 
 def _layer(place: int, x: Any) -> tuple[float, float, float]:
@@ -315,13 +315,14 @@ def evaluate(
     many, shape = _broadcast(given)
     if not many:
         out = (ctypes.c_double * 16)()
-        numbers = [float(x) for x in given.values()]
-        returned = _library.dihkelu_evaluate(code, design_wavelength_nm, *numbers, flat, len(flat), out, 16)
+        case = [float(x) for x in given.values()]
+        returned = _library.dihkelu_evaluate(code, design_wavelength_nm, *case, flat, len(flat), out, 16)
         if returned >> 32 == 1:
-            raise InvalidParameter(1, 0, "evaluate", invalid_argument(*numbers) or "code")
+            raise InvalidParameter(1, 0, "evaluate", invalid_argument(*case) or "code")
         answered(returned, "evaluate")
-        return _response(out)
+        return _response(out[:])
     count = len(next(iter(many.values())))
+    numbers: Any = None
     if shape is None:
         numbers = array.array("d", bytes(128 * count))
     else:
@@ -353,12 +354,17 @@ def _runs(n0: Any, n1: Any, count: int) -> Iterator[tuple[int, int, float, float
     if not isinstance(n0, ctypes.Array) and not isinstance(n1, ctypes.Array):
         yield from [(0, count, n0, n1)] if count else []
         return
-    pairs = zip(*(x if isinstance(x, ctypes.Array) else itertools.repeat(x, count) for x in (n0, n1)))
     begin = 0
-    for (first, second), run_ in itertools.groupby(pairs):
+    for (first, second), run_ in itertools.groupby(zip(_each(n0, count), _each(n1, count))):
         end = begin + sum(1 for _ in run_)
         yield begin, end, first, second
         begin = end
+
+
+def _each(x: Any, count: int) -> Iterable[float]:
+    if isinstance(x, ctypes.Array):
+        return x
+    return itertools.repeat(float(x), count)
 
 
 ARGUMENTS = (None, "n_incident", "n_substrate", "angle_rad", "wavelength_nm")

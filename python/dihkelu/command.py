@@ -12,12 +12,12 @@ import sys
 from pathlib import Path
 from typing import Any, Iterable, NoReturn, Sequence
 
-from . import batch, explain, files, glasses, plots, reports, text
+from . import batch, explain, files, glasses, page, plots, reports, text, tolerance
 from .calls import version
 from .files import Failed
 from .library import LibraryMissing, WrongEnvironment
 from .plans import MOST_ALONE, Index, Made, Plan, index_at
-from .words import Wrong, apart, counted, decimal_text, in_line, printable, quoted, unit, written
+from .words import Wrong, apart, counted, decimal_text, in_line, number, printable, quoted, unit, written
 
 MOST_POINTS = 100_000  # of a sweep
 MOST_HINTS = 20  # of a batch, on a terminal
@@ -53,7 +53,7 @@ def say(given: argparse.Namespace, notes: list[str], hints: list[str]) -> None:
 
 
 def remarks(made: Made) -> dict[str, Any]:
-    return {"notes": made.notes, "hints": reports.hints(made)}
+    return {**reports.identity(made), "notes": made.notes, "hints": reports.hints(made)}
 
 
 # ---- output
@@ -98,8 +98,13 @@ def title(given: argparse.Namespace) -> str:
 
 
 def draw(given: argparse.Namespace, make: Any) -> None:
-    if given.plot:
-        plots.save(make(), given.plot)
+    """The picture, where one is asked for, in the size that is."""
+    if not given.plot:
+        return
+    figure = make()
+    if given.size:
+        figure.set_size_inches(*(x / 2.54 for x in given.size))
+    plots.save(figure, given.plot, given.dpi)
 
 
 # ---- the commands
@@ -108,7 +113,7 @@ def draw(given: argparse.Namespace, make: Any) -> None:
 def losses(given: argparse.Namespace) -> int:
     made = made_of(given)
     found = reports.losses(made)
-    draw(given, lambda: plots.losses(found, title(given)))
+    draw(given, lambda: plots.losses(found, title(given), f"{written(made.sheet.wavelength_nm)} nm", given.log))
     scaled = "" if found.scale_factor is None else f"scale factor {found.scale_factor:.6f}: the beam over what is left\n"
     rows = [dataclasses.asdict(one) for one in found.surfaces]
     put_rows(given, reports.losses_table(found) + scaled, rows, {"file": given.file, **dataclasses.asdict(found), **remarks(made)})
@@ -182,26 +187,106 @@ def steps(first: decimal.Decimal, last: decimal.Decimal, step: decimal.Decimal) 
 
 
 def sweep(given: argparse.Namespace) -> int:
-    plan = plan_of(given.file)
-    if given.angle:
-        over, column, label = "angle deg", "angle_deg", "angle, degrees"
-        surfaces = given.surface or [1]
-        points = reports.sweep_angle(plan, steps(*given.angle), surfaces)
-        ends = [plan.make(angles={face: math.radians(x) for face in plan.swept(surfaces)}) for x in _ends(points)]
+    if not given.angle and not given.wavelength:
+        raise Failed("a sweep has a range FROM TO STEP: give one to --angle, to --wavelength or to both")
+    for name in ("angle", "wavelength"):
+        if getattr(given, name) and getattr(given, f"at_{name}") is not None:
+            raise Failed(f"--{name} sweeps what --at-{name} holds: leave one of them out")
+    angles, wavelengths = (steps(*x) if x else [] for x in (given.angle, given.wavelength))
+    plan, surfaces = plan_of(given.file), given.surface or [1]
+    if angles and wavelengths:
+        return sweep_map(given, plan, angles, wavelengths, surfaces)
+    if wavelengths:
+        over, column, label, angle = "nm", "wavelength_nm", "wavelength, nm", given.at_angle
+        points = reports.sweep_wavelength(plan, wavelengths, surfaces, angle)
+        ends = [made_at(plan, angle, x, surfaces) for x in _ends(points)]
+        about = "" if angle is None else f"{swept_name(surfaces)} at {written(angle)} deg"
     else:
-        over, column, label = "nm", "wavelength_nm", "wavelength, nm"
-        points = reports.sweep_wavelength(plan, steps(*given.wavelength))
-        ends = [plan.make(x) for x in _ends(points)]
+        over, column, label, nm = "angle deg", "angle_deg", "angle, degrees", given.at_wavelength
+        points = reports.sweep_angle(plan, angles, surfaces, nm)
+        ends = [made_at(plan, x, nm, surfaces) for x in _ends(points)]
+        about = f"angle of {swept_name(surfaces)}, {written(plan.wavelength_nm if nm is None else nm)} nm"
+    notes, hints = said_of(given, plan, ends)
+    names = [f"{count}: {name}" for count, name in enumerate(plan.names(), 1)]
+    draw(given, lambda: plots.sweep(points, (plan.s, plan.p), label, names, title(given), about, given.log))
+    rows = reports.sweep_rows(points, column, given.each or given.format == "json")
+    whole = {"file": given.file, "version": "{}.{}".format(*version()), "points": rows, "notes": notes, "hints": hints}
+    put_rows(given, reports.sweep_table(points, over, plan.s + plan.p, given.each), rows, whole)
+    return int(any(point.refused for point in points))
+
+
+def sweep_map(given: argparse.Namespace, plan: Plan, angles: list[float], wavelengths: list[float], surfaces: list[int]) -> int:
+    """Both at once."""
+    if len(angles) * len(wavelengths) > MOST_POINTS:
+        raise Failed(f"a sweep has at most {MOST_POINTS} points, and this has {len(angles) * len(wavelengths)}: take larger steps")
+    points = reports.sweep_map(plan, angles, wavelengths, surfaces)
+    good = [(angle, point.at) for angle, row in zip(angles, points) for point in row if not point.refused]
+    notes, hints = said_of(given, plan, [made_at(plan, *at, surfaces) for at in (good[:1] + good[-1:])])
+    draw(given, lambda: plots.sweep_map(angles, wavelengths, points, title(given), f"angle of {swept_name(surfaces)}", given.log))
+    rows = [{"angle_deg": angle, **row} for angle, line in zip(angles, points) for row in reports.sweep_rows(line, "wavelength_nm", given.each or given.format == "json")]
+    whole = {"file": given.file, "version": "{}.{}".format(*version()), "points": rows, "notes": notes, "hints": hints}
+    put_rows(given, reports.map_table(angles, wavelengths, points), rows, whole)
+    return int(any(point.refused for row in points for point in row))
+
+
+def tolerances(given: argparse.Namespace) -> int:
+    made = made_of(given)
+    found = tolerance.tolerance(made, given.index, given.thickness, given.draws, given.seed)
+    if found.refused:
+        say(given, [], [f"{found.refused} of {given.draws} draws were refused by the gate and are left out"])
+    about = f"{counted(len(found.draws), 'draw')}, index within {allowed_text(given.index, '')}, thickness within {allowed_text(given.thickness, ' nm')}"
+    draw(given, lambda: plots.tolerance(found, (made.sheet.s, made.sheet.p), title(given), about))
+    rows = [{"draw": count, **dataclasses.asdict(one), "sum": one.s + one.p} for count, one in enumerate(found.draws, 1)]
+    whole = {"file": given.file, "seed": given.seed, "about": about, **remarks(made), **dataclasses.asdict(found)}
+    put_rows(given, reports.spread_table(found, about, given.seed), rows, whole)
+    return 0
+
+
+def allowed_text(given: tolerance.Allowed, unit_: str) -> str:
+    return f"{written(100 * given.amount)} %" if given.relative else f"{written(given.amount)}{unit_}"
+
+
+def report(given: argparse.Namespace) -> int:
+    """One page: input, losses, sweeps, and what they were made with."""
+    data = files.load(given.file)
+    plan = plan_from(data)
+    made, surfaces = plan.make(), given.surface or [1]
+    say(given, made.notes, reports.hints(made))
+    found = reports.losses(made)
+    nm, step = decimal.Decimal(repr(plan.wavelength_nm)), decimal.Decimal(max(round(plan.wavelength_nm / 250), 1))
+    angles = steps(*(given.angle or [decimal.Decimal(x) for x in (0, 75, 1)]))
+    wavelengths = steps(*(given.wavelength or [nm - 50 * step, nm + 50 * step, step]))
+    over_angle = reports.sweep_angle(plan, angles, surfaces) if plan.faces else []
+    over_wavelength = reports.sweep_wavelength(plan, wavelengths)
+    shown = text.without_mark(data).decode("utf-8", "replace") if text.is_text(data) else text.write(made.sheet)
+    if given.format == "json":
+        rows = {"angle": reports.sweep_rows(over_angle, "angle_deg", True), "wavelength": reports.sweep_rows(over_wavelength, "wavelength_nm", True)}
+        whole = {"file": given.file, **remarks(made), "input": shown, "losses": dataclasses.asdict(found), "surfaces_swept": surfaces, "sweeps": rows}
+        put(given, json.dumps(whole, indent=2, allow_nan=False) + "\n")
+        return 0
+    sweeps = [(over_angle, "angle deg", "angle, degrees", f"Over the angle of {swept_name(surfaces)}, at {written(plan.wavelength_nm)} nm")] if over_angle else []
+    sweeps.append((over_wavelength, "nm", "wavelength, nm", "Over the wavelength"))
+    put(given, page.page(given.title or Path(given.file).name, shown, made, found, sweeps))
+    return 0
+
+
+def swept_name(surfaces: list[int]) -> str:
+    return ("surface " if len(surfaces) == 1 else "surfaces ") + ", ".join(map(str, surfaces))
+
+
+def made_at(plan: Plan, angle: float | None, wavelength: float | None, surfaces: list[int]) -> Made:
+    """The sheet of one point, its angle in degrees."""
+    return plan.make(wavelength, {} if angle is None else {face: math.radians(angle) for face in plan.swept(surfaces)})
+
+
+def said_of(given: argparse.Namespace, plan: Plan, ends: list[Made]) -> tuple[list[str], list[str]]:
+    """The notes and hints of a sweep's first and last sheets, each once."""
     notes = list(dict.fromkeys(note for made in ends for note in made.notes))
     hints = list(dict.fromkeys(hint for made in ends for hint in reports.hints(made)))
     if given.wavelength and (kept := kept_by_retune(plan)):
         hints.append(kept)
     say(given, notes, hints)
-    names = [f"{count}: {name}" for count, name in enumerate(plan.names(), 1)]
-    draw(given, lambda: plots.sweep(points, (plan.s, plan.p), label, names, title(given)))
-    rows = reports.sweep_rows(points, column, given.each or given.format == "json")
-    put_rows(given, reports.sweep_table(points, over), rows, {"file": given.file, "points": rows, "notes": notes, "hints": hints})
-    return int(any(point.refused for point in points))
+    return notes, hints
 
 
 def kept_by_retune(plan: Plan) -> str:
@@ -357,11 +442,32 @@ def degrees(word: str) -> decimal.Decimal:
     return quantity(word, {"deg": 1})
 
 
+def allowed(word: str, unit_: str) -> tolerance.Allowed:
+    """A tolerance in per cent, or in the unit of the number itself."""
+    number_, end = (word[:-1], "%") if word.endswith("%") else (word[: -len(unit_)], unit_) if unit_ and word.endswith(unit_) else (word, "")
+    if end != "%" and end != unit_:
+        raise argparse.ArgumentTypeError(f"{quoted(word)} has no unit: write % or {unit_} behind it")
+    try:
+        found = number(number_.strip())
+    except Wrong as wrong:
+        raise argparse.ArgumentTypeError(str(wrong)) from None
+    if not 0 <= found < math.inf:
+        raise argparse.ArgumentTypeError(f"{quoted(word)} is no tolerance: it is zero or more")
+    return tolerance.Allowed(found / 100 if end == "%" else found, end == "%")
+
+
+def centimetres(word: str) -> float:
+    found = float(quantity(word, {"cm": 1}))
+    if not 2 <= found <= 200:
+        raise argparse.ArgumentTypeError(f"{quoted(word)} cm is no size of a picture: from 2 to 200")
+    return found
+
+
 def length(word: str) -> float:
     """In nm, as a text has it."""
     number_, *named = apart(word)
     try:
-        found = text.number(number_)
+        found = number(number_)
     except Wrong as wrong:
         raise argparse.ArgumentTypeError(str(wrong)) from None
     if named:
@@ -408,7 +514,7 @@ def arguments() -> argparse.ArgumentParser:
     parser.add_argument("--version", action=Version)
     commands = parser.add_subparsers(dest="command", required=True, metavar="COMMAND")
 
-    def add(name: str, run: Any, about: str, file: bool = True, formats: Sequence[str] = (), plot: bool = False, nm: bool = True) -> argparse.ArgumentParser:
+    def add(name: str, run: Any, about: str, file: bool = True, formats: Sequence[str] = (), plot: str = "", nm: bool = True) -> argparse.ArgumentParser:
         one = commands.add_parser(name, help=about, description=about[0].upper() + about[1:] + ".", epilog=STATUSES)
         one.set_defaults(run=run, plot=None)
         if file:
@@ -420,20 +526,35 @@ def arguments() -> argparse.ArgumentParser:
         if plot:
             one.add_argument("--plot", metavar="FILE", help="draw it too: .png, .svg or .pdf")
             one.add_argument("--title", help="above the picture")
+            one.add_argument("--size", type=centimetres, nargs=2, metavar=("WIDTH", "HEIGHT"), help="of the picture, in cm")
+            one.add_argument("--dpi", type=whole, default=100, metavar="N", help="dots of a .png to the inch, %(default)s unless given")
+        if plot == "log":
+            one.add_argument("--log", action="store_true", help="losses over a logarithmic axis")
         one.add_argument("-o", "--output", metavar="FILE", help="write there and not to standard output")
         one.add_argument("-q", "--quiet", action="store_true", help="no notes, no hints and no progress bar")
         return one
 
     rows = ("table", "csv", "json")
-    add("losses", losses, "show what each surface loses", formats=rows, plot=True)
-    one = add("sweep", sweep, "run the train over a range of angles or wavelengths", formats=rows, plot=True, nm=False)
-    over = one.add_mutually_exclusive_group(required=True)
+    add("losses", losses, "show what each surface loses", formats=rows, plot="log")
+    one = add("sweep", sweep, "run the train over angles, wavelengths, or both", formats=rows, plot="log", nm=False)
     range_: dict[str, Any] = {"nargs": 3, "metavar": ("FROM", "TO", "STEP")}
-    over.add_argument("--angle", type=degrees, help="in degrees", **range_)
-    over.add_argument("--wavelength", type=nanometres, help="of the beam, in nm", **range_)
+    one.add_argument("--angle", type=degrees, help="in degrees", **range_)
+    one.add_argument("--wavelength", type=nanometres, help="of the beam, in nm; with --angle too, a map", **range_)
+    one.add_argument("--at-angle", type=lambda word: float(degrees(word)), metavar="DEG", help="of the surface, in the place of its own, while the wavelength is swept")
+    one.add_argument("--at-wavelength", type=length, metavar="NM", help="in the place of the beam's, while the angle is swept")
     one.add_argument("--surface", type=whole, nargs="+", metavar="N", help="whose angle is swept, counted from 1; the first unless given")
     one.add_argument("--each", action="store_true", help="s and p after each surface, in columns of their own")
-    one = add("band", band, "show s and p at each line of a band, and their weighed means", formats=rows, plot=True)
+    one = add("tolerance", tolerances, "show how the losses spread with the tolerances of index and thickness", formats=rows, plot="plain")
+    one.add_argument("--index", type=lambda word: allowed(word, ""), required=True, metavar="TOL", help="to either side of each layer's: 0.5%% or 0.01")
+    one.add_argument("--thickness", type=lambda word: allowed(word, "nm"), required=True, metavar="TOL", help="to either side of each layer's: 1%% or 2nm")
+    one.add_argument("--draws", type=whole, default=1000, metavar="N", help="coatings that are tried, %(default)s unless given")
+    one.add_argument("--seed", type=whole, default=1, metavar="N", help="of the draws, %(default)s unless given; the same seed gives the same draws")
+    one = add("report", report, "write one page of HTML with losses, sweeps and pictures", formats=("html", "json"), nm=False)
+    one.add_argument("--title", help="of the page")
+    one.add_argument("--angle", type=degrees, help="in degrees, 0 to 75 unless given", **range_)
+    one.add_argument("--wavelength", type=nanometres, help="in nm, a fifth to either side of the beam's unless given", **range_)
+    one.add_argument("--surface", type=whole, nargs="+", metavar="N", help="whose angle is swept, counted from 1; the first unless given")
+    one = add("band", band, "show s and p at each line of a band, and their weighed means", formats=rows, plot="plain")
     one.add_argument("lines", metavar="LINES", help=f"a file of lines, each {text.BAND_FORM}")
     add("evaluate", evaluate, f"show what each surface alone reflects and transmits, at any angle and with up to {MOST_ALONE} layers", formats=rows)
     add("check", check, "say whether a sheet is admitted, and if not why", formats=rows)
@@ -467,7 +588,8 @@ def main(words: Iterable[str] | None = None) -> int:
         named = f"{given.file}: " if hasattr(given, "file") else named
         if given.plot:
             plots.check(given.plot)
-        return given.run(given)
+        status: int = given.run(given)
+        return status
     except Failed as failed:
         print(printable(f"{named}{failed}"), file=sys.stderr)
         return 2

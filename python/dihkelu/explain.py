@@ -251,6 +251,7 @@ def content(data: bytes, line: int) -> str:
 STEEP = math.pi / 2
 FAR = 2.0**20  # radians: beyond it the documents' sine and cosine fold with the f64 next to 2 pi
 SEEN = 0.01  # of s or p: light to and fro in a plate is said from here on
+HARDLY = SEEN / (1 + SEEN)  # the product of both reflectances there
 NUDGE = 2.0**-40  # of the wavelength, for a stack's resonance
 ROUNDED = 4 * 2.0**-53  # of a phase
 FEW_FILMS = 3  # on a surface: fewer do not resonate
@@ -324,10 +325,12 @@ def sheet_hints(data: bytes, after: Sequence[tuple[float, float]] | None, beam: 
     said = beam_hints(walked, beam)
     one: Crossing | None = None
     for count, two in enumerate(walked.crossings):
-        sentences = crossing_hints(one, two)
-        if after is not None and one is not None and not two.reflected and is_plate(one, two):
-            sentences += pass_hints(walked, count, after)
-        said += [f"{named(count, lines)} {sentence}" for sentence in sentences]
+        plate = one is not None and is_plate(one, two)
+        for sentence in crossing_hints(one, two, plate):
+            said.append(f"{named(count, lines)} {sentence}")
+        if plate and after is not None and not two.reflected:
+            for sentence in pass_hints(walked, count, after):
+                said.append(f"{named(count, lines)} {sentence}")
         one = two
     said += [f"{named(count, lines)} {sentence}" for count, sentence in glass_hints(walked)]
     return said + (resonance_hints(data, walked, after) if after else [])
@@ -345,15 +348,13 @@ def beam_hints(walked: Walk, line: int | None) -> list[str]:
     return [f"the beam{in_line(line)} has {total}; they are shares of one beam, such as s 0.5 p 0.5"]
 
 
-def crossing_hints(one: Crossing | None, two: Crossing) -> list[str]:
+def crossing_hints(one: Crossing | None, two: Crossing, plate: bool) -> list[str]:
     """A surface that begins in another index than the light comes in or stands at a strange angle, and a preset away from its design."""
     said = []
-    if one is not None:
-        comes = one.n0 if one.reflected else one.n1
-        if two.n0 != comes:
-            said.append(f"begins in index {written(two.n0)}; the light comes in index {written(comes)}")
-        elif is_plate(one, two):
-            said += angle_hints(one, two)
+    if plate and one is not None:
+        said += angle_hints(one, two)
+    elif one is not None and two.n0 != (comes := one.n0 if one.reflected else one.n1):
+        said.append(f"begins in index {written(two.n0)}; the light comes in index {written(comes)}")
     if not -STEEP <= two.angle <= STEEP:
         said.append(turned_hint(two.angle))
     if two.coating in PRESET_INDICES and abs(two.nm - PRESET_NM) > PRESET_NM / 10:
@@ -390,9 +391,10 @@ def glass_hints(walked: Walk) -> list[tuple[int, str]]:
 def pass_hints(walked: Walk, count: int, after: Sequence[tuple[float, float]]) -> list[str]:
     """Light to and fro between a plate's faces, which one pass leaves out: R1 R2 / (1 - R1 R2) of what passes, R being 1 - T."""
     (s0, p0), (s1, p1), (s2, p2) = after[count - 2] if count > 1 else (walked.s, walked.p), after[count - 1], after[count]
-    s, p = passes(s0, s1, s2), passes(p0, p1, p2)
-    if s <= SEEN and p <= SEEN or {count - 1, count} & walked.absorbing:
+    few = (s0 - s1) * (s1 - s2) <= HARDLY * s0 * s1 and (p0 - p1) * (p1 - p2) <= HARDLY * p0 * p1
+    if few or {count - 1, count} & walked.absorbing:
         return []
+    s, p = passes(s0, s1, s2), passes(p0, p1, p2)
     why = "the light to and fro between it and the surface before, which one pass leaves out, would add"
     return [f"is the second face of a plate: {why} {100 * s:.2g} % to s and {100 * p:.2g} % to p, without interference"]
 

@@ -111,8 +111,8 @@ def found() -> str:
         return named
     for path in sorted(HERE.glob("_library*")):
         return str(path)
-    if path := in_repository():
-        return str(path)
+    if built := in_repository():
+        return str(built)
     if system := ctypes.util.find_library("dihkelu"):
         return system
     raise LibraryMissing("there is no libdihkelu: install it (python/README.md says how), or say where it is in the environment variable DIHKELU_LIBRARY")

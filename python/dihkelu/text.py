@@ -6,7 +6,7 @@ from __future__ import annotations
 
 import math
 import re
-from typing import Iterator, Union
+from typing import Any, Iterator, Union
 
 from . import glasses
 from .calls import stack
@@ -65,7 +65,7 @@ def name(token: str) -> str:
     return token.lower()
 
 
-def match(tokens: list[str], form: str, materials: Materials = {}) -> list:
+def match(tokens: list[str], form: str, materials: Materials = {}) -> list[Any]:
     """What stands at the places of NUMBER, INDEX, NAME, COATING and the alternatives of the form; its other words must stand there.
 
     A NUMBER before a unit, which may stand right behind it, is in nanometres or radians."""
@@ -74,7 +74,7 @@ def match(tokens: list[str], form: str, materials: Materials = {}) -> list:
     wanted = optional[0].split()
     if len(optional) == 2 and len(tokens) > len(wanted):
         wanted += optional[1].rstrip("]").split()
-    found: list = []
+    found: list[Any] = []
     for place, want in enumerate(wanted):
         if place == len(tokens):
             raise Wrong(f"the line ends where {want} should stand: {form}")

@@ -22,7 +22,7 @@ _THOUSANDS = re.compile(r"[+-]?[1-9][0-9]{0,2},[0-9]{3}")
 def number(token: str) -> float:
     """A decimal number with a point or a comma, or the 16 hexadecimal digits of an f64's bits after 0x."""
     if re.fullmatch(r"0x[0-9A-Fa-f]{16}", token):
-        return struct.unpack(">d", bytes.fromhex(token[2:]))[0]
+        return float(struct.unpack(">d", bytes.fromhex(token[2:]))[0])
     return float(decimal_text(token))
 
 

@@ -1,11 +1,15 @@
 """Tests of the command `dihkelu`: its answers in every format, its statuses, its pictures."""
 import csv
 import ctypes.util
+import dataclasses
+import hashlib
+import html.parser
 import io
 import json
 import math
 import os
 import pathlib
+import random
 import re
 import shutil
 import struct
@@ -16,7 +20,7 @@ import unittest
 from unittest import mock
 
 from common import PACKAGE, ROOT, build_train, dihkelu, run, train
-from dihkelu import batch, command, plots, reports, text
+from dihkelu import batch, command, plots, reports, text, tolerance
 
 EXAMPLES = ROOT / "examples"
 KNOWN = "beam 500 nm s 0.5 p 0.5\nsurface bare transmitted from 1 to 3 at 0 rad\n"  # document 01's known answer: 0.375 and 0.375
@@ -252,7 +256,117 @@ class Sweeps(Folder):
 
     def test_table(self):
         status, out, _ = run("sweep", "-", "--angle", "0", "70", "70", "--quiet", given=KNOWN)
-        self.assertEqual((status, out.decode().splitlines()[1]), (0, "        0  0.375000  0.375000  0.750000  25.0000"))
+        self.assertEqual((status, out.decode().splitlines()[1]), (0, "        0  0.375000  0.375000  0.750000   25.0000   25.0000  25.0000"))
+
+    def test_each_in_tables(self):
+        """What the surfaces lose of the beam adds up to what is lost."""
+        lines = run("sweep", "-", "--angle", "0", "60", "30", "--each", "--quiet", given=SCANNER)[1].decode().splitlines()
+        self.assertEqual(lines[0].split()[-9:], "lost at 1 % lost at 2 % lost at 3 %".split()[-9:])
+        for line in lines[1:]:
+            numbers = [float(x) for x in line.split()]
+            self.assertEqual(len(numbers), 10)
+            self.assertAlmostEqual(sum(numbers[7:]), numbers[6], delta=2e-4)
+
+    def test_a_wavelength_beside_an_angle(self):
+        _, rows = self.rows("--angle", "0\u00b0", "40deg", "20", "--at-wavelength", "0,532um")
+        self.assertEqual(rows, self.rows("--angle", "0", "40", "20", given=SCANNER.replace("beam 1064 nm", "beam 532 nm"))[1])
+        _, rows = self.rows("--wavelength", "500", "600", "50", "--at-angle", "35\u00b0")
+        self.assertEqual(rows, self.rows("--wavelength", "500", "600", "50", given=SCANNER.replace("at 20 deg", "at 35 deg"))[1])
+        for words in (["--angle", "5"], ["--at-angle", "5", "--at-wavelength", "500"], ["--angle", "0", "5", "1", "--at-angle", "3"], []):
+            self.assertEqual(run("sweep", "-", *words, given=SCANNER)[0], 2)
+
+    def test_map(self):
+        """Both at once: each point is that of a sweep over one."""
+        status, rows = self.rows("--angle", "0", "62", "31", "--wavelength", "500", "1100", "300")
+        self.assertEqual((status, len(rows), [bool(row["s"]) for row in rows[6:]]), (1, 9, [False] * 3))
+        for angle in ("0", "31"):
+            alone = self.rows("--wavelength", "500", "1100", "300", "--at-angle", angle)[1]
+            self.assertEqual([{"angle_deg": str(float(angle)), **row} for row in alone], [row for row in rows if float(row["angle_deg"]) == float(angle)])
+        table = run("sweep", "-", "--angle", "0", "62", "31", "--wavelength", "500", "1100", "300", "-q", given=SCANNER)[1].decode().splitlines()
+        self.assertEqual(table[0].split(), "lost % 500 nm 800 nm 1100 nm".split())
+        self.assertEqual([float(x) for x in table[1].split()[2:]], [round(float(row["lost_percent"]), 4) for row in rows[:3]])
+        self.assertEqual(table[3].split(), ["62", "deg", "-", "-", "-"])
+        self.assertIn("outside the gate", table[4])
+
+
+class Tolerances(Folder):
+    WORDS = ["--index", "0.5%", "--thickness", "1nm"]
+
+    def whole(self, *words, given=SCANNER):
+        return json.loads(run("tolerance", "-", *words, "-f", "json", given=given)[1])
+
+    def test_a_draw_is_a_sheet(self):
+        """The first draw by hand: each layer's index and thickness moved by the next two numbers of the seed."""
+        rng = random.Random(7)
+        made = text.read(SCANNER + "retune to 532 nm\nsurface custom transmitted from 1 to 1.5 at 0 deg\nglass a 1.4 b 0.01 c 0 thickness 90 nm\n").make()
+        surfaces = []
+        for surface in made.sheet.surfaces:
+            layers = []
+            for layer in surface.layers:
+                more, nm = 1 + 0.005 * (2 * rng.random() - 1), layer.thickness_nm + (2 * rng.random() - 1)
+                layers.append(dihkelu.Glass(layer.a * more, layer.b * more, layer.c * more, nm) if isinstance(layer, dihkelu.Glass) else dihkelu.Layer(layer.n * more, layer.k, nm))
+            surfaces.append(dataclasses.replace(surface, layers=tuple(layers)))
+        s, p = dihkelu.run(dataclasses.replace(made.sheet, surfaces=tuple(surfaces)))[-1]
+        found = tolerance.tolerance(made, tolerance.Allowed(0.005, True), tolerance.Allowed(1.0, False), 3, 7)
+        self.assertEqual(found.draws[0], tolerance.Draw(s, p))
+        self.assertEqual(len({one.s for one in found.draws}), 3)
+
+    def test_spread(self):
+        """Within small tolerances the deviation is that of independent, even errors, each with its layer's weight."""
+        whole = self.whole("--index", "0.01%", "--thickness", "0.02%", "--draws", "4000")
+        variance = sum(((one["index_more"] - one["index_less"]) / 2 * 0.01) ** 2 / 3 + ((one["thickness_more"] - one["thickness_less"]) / 2 * 0.02) ** 2 / 3 for one in whole["weights"])
+        both = whole["spreads"][2]
+        self.assertAlmostEqual(both["deviation"], variance**0.5, delta=0.05 * variance**0.5)
+        self.assertAlmostEqual(both["mean"], both["designed"], delta=both["deviation"])
+        self.assertEqual(both["designed"], json.loads(run("losses", "-", "-f", "json", given=SCANNER)[1])["lost_percent"])
+        self.assertTrue(both["least"] <= both["low"] <= both["middle"] <= both["high"] <= both["most"])
+
+    def test_weights(self):
+        """One per cent more of the first layer's index, by hand."""
+        thick, n = "layer 1.38 thickness 99 nm\n", 1.38 * 1.01
+        plain = "beam 550 nm s 0.5 p 0.5\nsurface custom transmitted from 1 to 1.5 at 20 deg\n"
+        more, less = (json.loads(run("losses", "-", "-f", "json", given=plain + one)[1])["lost_percent"] for one in (thick.replace("1.38", repr(n)), thick))
+        (found,) = self.whole(*self.WORDS, given=plain + thick)["weights"]
+        self.assertAlmostEqual(found["index_more"], more - less, places=9)
+
+    def test_seeds_and_ends(self):
+        first = run("tolerance", "-", *self.WORDS, "--draws", "20", given=SCANNER)
+        self.assertEqual(first, run("tolerance", "-", *self.WORDS, "--draws", "20", "--seed", "1", given=SCANNER))
+        self.assertNotEqual(first, run("tolerance", "-", *self.WORDS, "--draws", "20", "--seed", "2", given=SCANNER))
+        self.assertEqual(run("tolerance", "-", *self.WORDS, given=KNOWN)[::2], (1, "-: no surface has layers of its own, whose index and thickness could be others\n"))
+        status, _, said = run("tolerance", "-", "--index", "0.5", "--thickness", "1%", given=SCANNER)
+        self.assertEqual((status, "draws were refused by the gate and are left out" in said), (0, True))
+        self.assertIn("-: all 50 draws were refused", run("tolerance", "-", "--index", "3", "--thickness", "1%", "--draws", "50", given=SCANNER)[2])
+        for words in (["--index", "1%", "--thickness", "1"], ["--index", "-1%", "--thickness", "1%"], ["--index", "x", "--thickness", "1%"], ["--index", "1%"]):
+            self.assertEqual(run("tolerance", "-", *words, given=SCANNER)[0], 2)
+
+
+class Report(Folder):
+    def test_page_and_json(self):
+        """The page is whole, escapes what is given, and has what the JSON has."""
+        path = self.file("a<b.txt", SCANNER + "# <script>\n")
+        out = self.folder / "report.html"
+        self.assertEqual(run("report", path, "-q", "-o", out)[:2], (0, b""))
+        page = out.read_text()
+        whole = json.loads(run("report", path, "-f", "json")[1])
+        sheet = run("write", path)[1]
+        self.assertEqual(whole["sheet_sha256"], hashlib.sha256(sheet).hexdigest())
+        self.assertEqual(whole["input"], SCANNER + "# <script>\n")
+        self.assertEqual(whole["losses"]["surfaces"], json.loads(run("losses", path, "-f", "json")[1])["surfaces"])
+        self.assertEqual([row["wavelength_nm"] for row in whole["sweeps"]["wavelength"]][50], 1064.0)
+        self.assertEqual(whole["sweeps"]["wavelength"][50]["s"], whole["losses"]["s"])
+        self.assertEqual([whole["sweeps"]["angle"][i]["refused"] != "" for i in (61, 62)], [False, True])
+        for said in [whole["sheet_sha256"], f"dihkelu {whole['version']}", "# &lt;script&gt;", "a&lt;b.txt", f"{whole['losses']['scale_factor']:.6f}", *map(html.escape, whole["notes"])]:
+            self.assertIn(said, page)
+        self.assertEqual((page.count("<script"), page.count("<img"), page.count("is not drawn")), (0, 3 * plots.available(), 3 * (not plots.available())))
+        html.parser.HTMLParser().feed(page)
+
+    def test_of_a_sheet_and_refused(self):
+        data = run("write", "-", given=KNOWN)[1]
+        status, out, _ = run("report", "-", "--angle", "0", "10", "5", "--wavelength", "500", "600", "50", given=data)
+        self.assertEqual((status, out.count(b"<details><summary>3 points")), (0, 2))
+        self.assertEqual(run("report", "-", given="beam 99 nm s 1 p 0\n")[0], 1)
+        self.assertEqual(run("report", "-", given="beam 500 nm s 1 p 0\n")[0], 0)
 
 
 class Bands(Folder):
@@ -405,6 +519,11 @@ class Pictures(Folder):
             ("losses", ["losses", text_file]),
             ("angle", ["sweep", text_file, "--angle", "0", "70", "2"]),
             ("wavelength", ["sweep", text_file, "--wavelength", "500", "1200", "5"]),
+            ("tolerance", ["tolerance", text_file, "--index", "0.5%", "--thickness", "1%", "--draws", "200"]),
+            ("map", ["sweep", text_file, "--angle", "0", "70", "10", "--wavelength", "500", "1200", "50"]),
+            ("logarithmic", ["sweep", text_file, "--angle", "0", "70", "10", "--log"]),
+            ("logarithmic map", ["sweep", text_file, "--angle", "0", "70", "10", "--wavelength", "500", "1200", "50", "--log"]),
+            ("logarithmic losses", ["losses", text_file, "--log"]),
             ("band", ["band", EXAMPLES / "window.txt", EXAMPLES / "daylight.lines"]),
             ("dark", ["losses", self.file("dark.txt", "beam 500 nm s 0 p 0\nsurface bare transmitted from 1 to 2 at 0 deg\n")]),
             ("nothing", ["sweep", self.file("nothing.txt", "beam 500 nm s 1 p 0\nsurface bare transmitted from 1 to 2 at 0 deg\n"), "--angle", "80", "85", "1"]),
@@ -432,6 +551,26 @@ class Pictures(Folder):
             else:
                 self.assertAlmostEqual(both[i], point.lost_percent)
                 self.assertAlmostEqual(sum(row[i] for row in stacked), point.lost_percent)
+
+    def test_what_is_marked(self):
+        """The refused part, what is swept and at which wavelength."""
+        plan = text.read(SCANNER)
+        points = reports.sweep_angle(plan, range(0, 75, 5))
+        self.assertEqual(plots.refused_spans(points), [(62.5, 67.5), (67.5, 70)])
+        figure = plots.sweep(points, (plan.s, plan.p), "angle", plan.names(), "x", "angle of surface 1, 1064 nm")
+        self.assertIn("refused", [label.get_text() for label in figure.axes[0].get_legend().get_texts()])
+        self.assertEqual(figure.axes[0].get_title(), "x\nangle of surface 1, 1064 nm")
+        with mock.patch.object(plots, "save") as save:
+            run("sweep", "-", "--angle", "0", "30", "10", "--at-wavelength", "532", "--plot", "x.png", given=SCANNER)
+        self.assertTrue(save.call_args[0][0].axes[0].get_title().endswith("angle of surface 1, 532 nm"))
+
+    def test_size(self):
+        from matplotlib import image
+
+        path = self.folder / "x.png"
+        run("losses", "-", "--plot", path, "--size", "20", "10", "--dpi", "254", given=SCANNER)
+        self.assertEqual(image.imread(path).shape[:2], (1000, 2000))
+        self.assertEqual(run("losses", "-", "--plot", path, "--size", "20000", "10", given=SCANNER)[0], 2)
 
     def test_same_bytes(self):
         first, second = self.folder / "a.svg", self.folder / "b.svg"
@@ -528,7 +667,7 @@ class Pages(unittest.TestCase):
     def test_completion(self):
         script = run("completion")[1].decode()
         asked = script + 'COMP_WORDS=(dihkelu {}); COMP_CWORD={}; _dihkelu; echo "${{COMPREPLY[@]}}"\n'
-        for words, at, found in [("s", 1, "sweep show stack"), ("sweep --a", 2, "--angle"), ("losses --pl", 2, "--plot")]:
+        for words, at, found in [("s", 1, "sweep show stack"), ("sweep --an", 2, "--angle"), ("losses --pl", 2, "--plot")]:
             done = subprocess.run(["bash", "-c", asked.replace("{}", words, 1).replace("{}", str(at), 1).replace("{{", "{").replace("}}", "}")], capture_output=True, text=True, check=False)
             self.assertEqual((done.stdout.strip(), done.stderr), (found, ""))
 

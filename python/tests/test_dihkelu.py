@@ -1,5 +1,6 @@
 """Tests of the package: python3 -m unittest discover -s python/tests (from the repository)."""
 import array
+import cmath
 import doctest
 import math
 import pathlib
@@ -111,6 +112,16 @@ class Trains(unittest.TestCase):
             with self.assertRaises(dihkelu.NoSuchSurface):
                 train.step()
 
+    def test_run_each(self):
+        """Many sheets are what each is alone, refusals among them."""
+        sheets = [path.read_bytes() for path in sorted((ROOT / "examples").glob("*.sheet"))]
+        for data, found in zip(sheets, dihkelu.run_each(sheets)):
+            try:
+                self.assertEqual(found, dihkelu.run(data))
+            except dihkelu.Refused as refused:
+                self.assertEqual((type(found), found.args), (type(refused), refused.args))
+        self.assertEqual(dihkelu.run_each([BARE, BARE.to_bytes()]), [[(0.375, 0.375)]] * 2)
+
     def test_retune(self):
         train = dihkelu.Train(BARE)
         self.assertEqual(train.retune(632.8), 0)
@@ -190,6 +201,23 @@ class Refusals(unittest.TestCase):
             self.assertIn(f"uint64_t dihkelu_{name}(", header)
         self.assertEqual(header.count("DIHKELU_MUST_USE uint64_t dihkelu_"), len(dihkelu.library.CALLS))
         self.assertIn(f"DIHKELU_VERSION 0x{dihkelu.library.VERSION:08x}u", header)
+
+
+def transfer_matrix(p, n0, n1, angle, nm, layers):
+    """r and t of s or p light: 2 x 2 matrices of interfaces and layers, one after the other."""
+    indices = [complex(n0), *(complex(n, k) for n, k, _ in layers), complex(n1)]
+    cosines = [cmath.sqrt(1 - (n0 * math.sin(angle) / n) ** 2) for n in indices]
+    whole = [[1, 0], [0, 1]]
+    for i in range(len(indices) - 1):
+        if i:
+            phase = 2 * math.pi * indices[i] * cosines[i] * layers[i - 1][2] / nm
+            whole = [[row[0] * cmath.exp(-1j * phase), row[1] * cmath.exp(1j * phase)] for row in whole]
+        a, b = indices[i] * cosines[i], indices[i + 1] * cosines[i + 1]
+        if p:
+            a, b = indices[i + 1] * cosines[i], indices[i] * cosines[i + 1]
+        r, t = (a - b) / (a + b), 2 * indices[i] * cosines[i] / (a + b)
+        whole = [[(x + y * r) / t, (x * r + y) / t] for x, y in whole]
+    return whole[1][0] / whole[0][0], 1 / whole[0][0]
 
 
 class Surfaces(unittest.TestCase):
@@ -315,6 +343,19 @@ class Surfaces(unittest.TestCase):
         for wrong in (rows[:, :2], rows.ravel()):
             with self.assertRaisesRegex(ValueError, "layers is an array of shape"):
                 dihkelu.evaluate(dihkelu.LAYERS, 1.0, 1.52, 0.0, 1064.0, wrong)
+
+    def test_beside_tmm(self):
+        """The README's table, against a transfer-matrix code with the conventions of the package tmm: n + ik, fields as e^(-iwt)."""
+        rng = random.Random(3)
+        for _ in range(50):
+            n0, n1, angle, nm = rng.uniform(1, 1.4), rng.uniform(1.4, 2), rng.uniform(0, 1.2), rng.uniform(400, 1200)
+            layers = [(rng.uniform(0.2, 3), rng.choice([0.0, rng.uniform(0, 4)]), rng.uniform(5, 200)) for _ in range(rng.randrange(1, 6))]
+            found = dihkelu.evaluate(dihkelu.LAYERS, n0, n1, angle, nm, layers)
+            cosines = cmath.sqrt(1 - (n0 * math.sin(angle) / n1) ** 2) / math.cos(angle)
+            (rs, ts), (rp, tp) = (transfer_matrix(p, n0, n1, angle, nm, layers) for p in (False, True))
+            for mine, theirs in [(found.rs, rs.conjugate()), (found.rp, -rp.conjugate()), (found.ts, ts.conjugate()), (found.tp, tp.conjugate() * cosines)]:
+                self.assertAlmostEqual(mine, theirs, delta=1e-9)
+            self.assertAlmostEqual(found.reflectance_p, abs(rp) ** 2, delta=1e-9)
 
     def test_fresnel(self):
         self.assertEqual(dihkelu.fresnel_dielectric(1.0, 1.0, 3.0), (0.25, 0.25))
