@@ -93,7 +93,7 @@ class Page(unittest.TestCase):
 
     def test_from_nothing_to_a_sheet(self):
         self.assertIn("No surface yet", self.b.text("#train-part"))
-        self.cell("beam.wavelength", "1,064 µm")
+        self.cell("beam.wavelength", "1.064 µm")
         self.b.click("#materials-part summary")
         self.b.click("[data-action=add-material]")
         for name, value in [("name", "film"), ("a", "1.4485"), ("b", "0,0033"), ("c", "0")]:
