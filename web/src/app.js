@@ -3,7 +3,7 @@ import { edition1, startCore, version } from "./core.js";
 import { keep, kept, readFile, saveAs } from "./files.js";
 import { useGlasses } from "./glasses.js";
 import { at, copyOf, emptyModel, newLayer, newMaterial, newMirror, newSurface, newWindow, put } from "./model.js";
-import { faceNames, hasGlasses, summary } from "./plan.js";
+import { faceNames, hasFixedMetals, hasGlasses, summary } from "./plan.js";
 import { svgOf } from "./plot.js";
 import { percent, reportOf } from "./report.js";
 import { bandCsv, bandOf, pointLoss, resultsOf, steps, sweepAngle, sweepCsv, sweepWavelength } from "./results.js";
@@ -173,6 +173,7 @@ function showWords() {
 
 let picture = null;
 let csv = null;
+const FIXED_METALS = "Films with a k in numbers keep their n and k at every wavelength, which metals do not: give them as a material with a table.";
 const RANGES = { angle: ["0", "75", "0.5"], wavelength: ["450", "1200", "2"] };
 
 function pictureLists() {
@@ -227,7 +228,9 @@ function sweepPicture(over) {
   };
   csv = sweepCsv(points, over === "angle" ? "angle_deg" : "wavelength_nm", plan);
   const refused = points.filter((point) => point.refused);
-  if (refused.length) by("picture-said").textContent = `Refused at ${counted(refused.length, "point")} of ${points.length}, the first at ${short(refused[0].at, 8)}: ${refused[0].refused}`;
+  const metals = over === "wavelength" && hasFixedMetals(plan) ? `${FIXED_METALS} ` : "";
+  by("picture-said").textContent = metals;
+  if (refused.length) by("picture-said").textContent = `${metals}Refused at ${counted(refused.length, "point")} of ${points.length}, the first at ${short(refused[0].at, 8)}: ${refused[0].refused}`;
 }
 
 function bandPicture() {
@@ -253,7 +256,8 @@ function bandPicture() {
     barName: "weight",
   };
   csv = bandCsv(lines, found);
-  if (hasGlasses(result.plan)) by("picture-said").textContent = `Glasses by name have their index at ${short(result.sheet.wavelength)} nm in every line; materials follow the colour.`;
+  const glasses = hasGlasses(result.plan) ? `Glasses by name have their index at ${short(result.sheet.wavelength)} nm in every line; materials of A, B, C follow the colour.` : "";
+  by("picture-said").textContent = [glasses, hasFixedMetals(result.plan) ? FIXED_METALS : ""].join(" ").trim();
   const row = (cells, tag = "td") => h("tr", {}, ...cells.map((cell) => h(tag, {}, cell)));
   const shown = (s, p) => [s, p, s + p].map((x) => x.toFixed(6));
   const rows = lines.map((one, i) => row([short(one.nm, 8), String(one.weight), ...shown(...found.each[i])]));
@@ -437,7 +441,7 @@ function typed(element) {
 function changed(element) {
   const { path } = element.dataset;
   if (element.tagName !== "SELECT" && element.type !== "checkbox") return commit();
-  if (path.endsWith(".kind")) put(model, path.slice(0, -5), newLayer(element.value));
+  if (path.includes(".layers.") && path.endsWith(".kind")) put(model, path.slice(0, -5), newLayer(element.value));
   if (path.endsWith(".alike") && !element.checked) put(model, path.replace(/alike$/, "back"), copyOf(at(model, path.replace(/alike$/, "front"))));
   commit();
   show();

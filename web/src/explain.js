@@ -199,14 +199,29 @@ function presetHint(surface, nm, name, called) {
   return [`${name} has the preset ${called}, designed for ${PRESET_NM} nm; the light has ${written(nm)} nm: give the layers yourself`];
 }
 
-export function hints(plan, sheet, names) {
+// A number behind a bracket belongs to the letter after it.
+function stackHints(model) {
+  const coats = model.rows.flatMap((row) => (row.kind === "window" ? [row.front, ...(row.alike ? [] : [row.back])] : [row.coat]));
+  const texts = coats.filter((coat) => coat.name === "custom").flatMap((coat) => coat.layers.filter((layer) => layer.kind === "stack").map((layer) => layer.text));
+  return texts.flatMap((text) => {
+    const found = /(\([^()]*\))\s*([0-9]+)\s*([HLM])/.exec(text);
+    return found ? [`in '${text}' the ${found[2]} makes the ${found[3]} behind it ${found[2]} quarter waves thick; to repeat the bracket write ${found[1]}^${found[2]}`] : [];
+  });
+}
+
+function angleHint(surface, name) {
+  if (Math.abs(surface.angle) <= Math.PI / 2) return [];
+  return [`${name} is at ${written(surface.angle)} rad, ${(surface.angle / DEGREE).toFixed(2)} deg, more than a right angle; where degrees are meant write deg`];
+}
+
+export function hints(model, sheet, names) {
   const waves = met(sheet);
-  const power = sheet.s + sheet.p > 1 ? [`s and p add up to ${short(sheet.s + sheet.p)}: a beam of power 1 that is not polarized has 0.5 and 0.5`] : [];
+  const power = sheet.s + sheet.p > 1 + 1e-9 ? [`s and p add up to ${short(sheet.s + sheet.p)}: a beam of power 1 that is not polarized has 0.5 and 0.5`] : [];
   const said = sheet.surfaces.flatMap((surface, i) => {
     const name = `surface ${i + 1}`;
     const neighbour = i ? neighbourHint(sheet.surfaces[i - 1], surface, name) : [];
-    return [...neighbour, ...presetHint(surface, waves[i], name, names[surface.coating])];
+    return [...neighbour, ...angleHint(surface, name), ...presetHint(surface, waves[i], name, names[surface.coating])];
   });
-  return [...power, ...said];
+  return [...power, ...stackHints(model), ...said];
 }
 

@@ -31,7 +31,7 @@ export function newLayer(kind) {
 }
 
 export function newMaterial() {
-  return { name: "", a: "", b: "0", c: "0" };
+  return { kind: "coefficients", name: "", a: "", b: "0", c: "0", k: "", lines: "" };
 }
 
 export function copyOf(part) {

@@ -168,12 +168,24 @@ export function beamFields(model) {
   ];
 }
 
+function coefficientFields(path, one, where) {
+  const fields = ["a", "b", "c"].map((name) => labelled(name.toUpperCase(), input(`${path}.${name}`, one[name], `coefficient ${name.toUpperCase()} of ${where}`)));
+  return [...fields, labelled("k", input(`${path}.k`, one.k, `k of ${where}`, { size: 5, placeholder: "0" }))];
+}
+
+function tableField(path, one, where) {
+  const area = h("textarea", { "data-path": `${path}.lines`, "aria-label": `lines of ${where}, each a wavelength, n and k`, rows: Math.max(2, one.lines.split("\n").length), cols: 24, spellcheck: "false", placeholder: "1064 nm 0.26 6.97" });
+  area.value = one.lines;
+  return labelled("nm, n, k", area);
+}
+
 export function materialLines(model) {
   return model.materials.map((one, i) => {
     const path = `materials.${i}`;
     const where = `material ${i + 1}`;
-    const fields = ["a", "b", "c"].map((name) => labelled(name.toUpperCase(), input(`${path}.${name}`, one[name], `coefficient ${name.toUpperCase()} of ${where}`)));
-    return h("li", {}, labelled("name", input(`${path}.name`, one.name, `name of ${where}`, { size: 14 })), ...fields, h("span", { class: "buttons" }, button("material-delete", path, "×", `delete ${where}`)));
+    const kind = select(`${path}.kind`, one.kind, `kind of ${where}`, [["coefficients", "A, B, C"], ["table", "table of n, k"]]);
+    const fields = one.kind === "table" ? [tableField(path, one, where)] : coefficientFields(path, one, where);
+    return h("li", {}, labelled("name", input(`${path}.name`, one.name, `name of ${where}`, { size: 14 })), kind, ...fields, h("span", { class: "buttons" }, button("material-delete", path, "×", `delete ${where}`)));
   });
 }
 
