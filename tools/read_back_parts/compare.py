@@ -1,0 +1,122 @@
+"""Two functions path by path, and two programs function by function."""
+from . import nodes
+from .rattle import Unread
+from .walk import UNSET, Lent, Walk
+
+PATHS = 20000
+
+
+class Differs(Exception):
+    """The two sides are not the same program."""
+
+
+class Comparison:
+    """One function on both sides. Pairs of carried variables that are met in one place must be equal before the loop and
+    after each round: a set of pairs that is closed under this is an invariant of both loops, so they stay equal."""
+
+    def __init__(self, source, printed, program):
+        self.source, self.printed, self.program = source, printed, program
+        self.same_pairs, self.pairs, self.states = set(), {}, {}
+        self.where = ()
+
+    def check(self):
+        todo, paths = [()], 0
+        while todo:
+            choices = todo.pop()
+            paths += 1
+            if paths > PATHS:
+                raise Unread(f"more than {PATHS} paths: raise PATHS in tools/read_back_parts/compare.py")
+            left = Walk(self.source, "source", self.program, choices)
+            right = Walk(self.printed, "C", self.program, choices)
+            self.where = left.taken
+            ways = self.traces(left.trace, right.trace)
+            for at in range(len(choices), len(ways)):
+                todo += [tuple(left.taken[:at]) + (way,) for way in range(1, ways[at])]
+        self.loops()
+        return paths
+
+    def fail(self, what, a, b):
+        raise Differs(f"{what} differs: the source has {nodes.shown(a)}, the C has {nodes.shown(b)}")
+
+    def traces(self, left, right):
+        """The counts of ways of the tests; all events are the same in the same order."""
+        ways = []
+        for a, b in zip(left, right):
+            if a[0] != b[0]:
+                raise Differs(f"a step differs: the source has {described(a)}, the C has {described(b)}")
+            if a[0] == "test":
+                if a[2] != b[2]:
+                    self.fail("the kind of a test", a[1], b[1])
+                self.hold("a test", a[1], b[1])
+                ways.append(a[2])
+            elif a[0] == "store":
+                if a[1] != b[1]:
+                    raise Differs("a store goes to another place")
+                self.hold("what is stored", a[2], b[2])
+            elif a[0] == "call":
+                self.hold("a call that writes", a[1], b[1])
+            elif a[0] == "return":
+                self.hold("what is returned", a[1], b[1])
+                for x, y in zip(a[2], b[2]):
+                    self.hold("what is left in a lent place", x, y)
+            else:
+                if a[1] != b[1]:
+                    raise Differs("a loop stands at another place")
+                self.states.setdefault(a[1], []).append((a[2], b[2]))
+        if len(left) != len(right):
+            longer = left if len(left) > len(right) else right
+            raise Differs(f"{'the source' if longer is left else 'the C'} goes on with {described(longer[min(len(left), len(right))])}")
+        return ways
+
+    def loops(self):
+        """Carries the pairs that were met through all rounds, until no new pair is met."""
+        done = set()
+        while True:
+            open_pairs = [(key, pair) for key, pairs in self.pairs.items() for pair in sorted(pairs) if (key, pair) not in done]
+            if not open_pairs:
+                return
+            for key, (a, b) in open_pairs:
+                done.add((key, (a, b)))
+                for left, right in self.states[key]:
+                    self.hold(f"the variable {a.split('#')[0]} of a loop", left[a], right[b])
+
+    def hold(self, what, a, b):
+        if not self.same(a, b):
+            self.fail(what, a, b)
+
+    def same(self, a, b):
+        if a is b:
+            return a is None or a.op != UNSET
+        if (a, b) in self.same_pairs:
+            return True
+        if not isinstance(a, nodes.Node) or not isinstance(b, nodes.Node):
+            return False
+        if a.op != b.op or a.type != b.type or len(a.args) != len(b.args):
+            return False
+        if a.op == "carried":
+            if a.args[1] != b.args[1]:
+                return False
+            self.pairs.setdefault(a.args[1], set()).add((a.args[2], b.args[2]))
+        elif a.op == UNSET:
+            return False
+        else:
+            for x, y in zip(a.args, b.args):
+                if not (self.same(x, y) if isinstance(x, nodes.Node) else x == y and type(x) is type(y)):
+                    return False
+        self.same_pairs.add((a, b))
+        return True
+
+
+def described(event):
+    return {"test": "a test of ", "store": "a store of ", "call": "the call ", "loop": "a loop", "round": "a loop's next round",
+            "return": "a return of "}[event[0]] + (nodes.shown(event[2 if event[0] == "store" else 1])
+                                                   if event[0] not in ("loop", "round") else "")
+
+
+def same_function(source, printed, program):
+    """How many paths two functions have in common; Differs where they are not the same."""
+    if [kind for _, kind in source.parameters] != [kind for _, kind in printed.parameters]:
+        raise Differs(f"parameters differ: {[k for _, k in source.parameters]} and {[k for _, k in printed.parameters]}")
+    if source.result != printed.result:
+        raise Differs(f"results differ: {source.result} and {printed.result}")
+    return Comparison(source, printed, program).check()
