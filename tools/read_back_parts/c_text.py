@@ -4,7 +4,7 @@ Each expression gets its type by C's own rules. Only these conversions are taken
     literal    a whole number that fits the type that it is converted to is that number of that type
     widened    an unsigned number converted to a wider unsigned type keeps its value: a cast of the common form
     narrow     u8 and u16 are worked with as int in C: (uint8_t)(a + b) is a + b of u8, since int holds a + b, and the cast cuts it as u8 does
-    usize      size_t and uint64_t are u64
+    usize      u64. A size_t is only the count that is lent beside a pointer, and is widened, or counts the elements of a list that is filled
 """
 import re
 import subprocess
@@ -17,14 +17,15 @@ from . import nodes
 from .lower import MAXIMUM, Function
 from .rattle import Unread
 
-NUMBERS = {"uint8_t": "u8", "uint16_t": "u16", "uint32_t": "u32", "uint64_t": "u64", "size_t": "u64", "double": "f64", "bool": "bool",
-           "_Bool": "bool", "void": "unit"}
+NUMBERS = {"uint8_t": "u8", "uint16_t": "u16", "uint32_t": "u32", "uint64_t": "u64", "size_t": "size_t", "double": "f64", "bool": "bool",
+           "void": "unit"}
 WIDTH = {"u8": 8, "u16": 16, "u32": 32, "u64": 64}
 ORDERS = {"==", "!=", "<", "<=", ">", ">="}
 # What the file takes from the C library, and nothing more of it. FLT_EVAL_METHOD and the others are what it asks for.
 HEADERS = {
     "stdint.h": "typedef unsigned char uint8_t; typedef unsigned short uint16_t; typedef unsigned int uint32_t;"
-                "typedef unsigned long uint64_t;\n#define UINT64_C(c) c##ul",
+                "typedef unsigned long uint64_t; typedef signed char int8_t; typedef short int16_t; typedef int int32_t; typedef long int64_t;"
+                "\n#define UINT64_C(c) c##ul",
     "stddef.h": "typedef unsigned long size_t;", "stdbool.h": "typedef _Bool bool;",
     "string.h": "void *memcpy(void *to, const void *from, size_t count);",
     "float.h": "#define FLT_EVAL_METHOD 0\n#define FLT_RADIX 2\n#define DBL_MANT_DIG 53\n#define DBL_MAX_EXP 1024\n#define DBL_MIN_EXP (-1021)",
@@ -39,15 +40,17 @@ static inline uint32_t leading_zeros(uint64_t x) {
     return zeros;
 }
 """
+ENVIRONMENT = {"LOOKED_UP", "environment", "environment_enter", "environment_leave", "environment_control"}
 PURE = {"to_bits": ("f64", "u64"), "from_bits": ("u64", "f64"), "leading_zeros": ("u64", "u32")}
 
 
-def preprocessed(text, folder, defines=()):
+def preprocessed(text, folder):
     """The text as a compiler reads it, over the headers above."""
+    unconditional(text)
     with tempfile.TemporaryDirectory() as there:
         for name, content in HEADERS.items():
             (Path(there) / name).write_text(content + "\n")
-        command = ["cc", "-E", "-undef", "-nostdinc", "-std=c11", "-D__attribute__(x)=", f"-I{there}", f"-I{folder}", *[f"-D{d}" for d in defines], "-"]
+        command = ["cc", "-E", "-undef", "-nostdinc", "-std=c11", "-D__attribute__(x)=", "-DDIHKELU_TRUST_ENVIRONMENT", f"-I{there}", f"-I{folder}", "-"]
         done = subprocess.run(command, input=text, capture_output=True, text=True)
     if done.returncode:
         raise Unread(f"cc -E refused the C: {done.stderr[-500:]}")
@@ -61,8 +64,36 @@ def parsed(text):
         raise Unread(f"pycparser cannot read the C: {error}") from error
 
 
-def same_text(function):
-    return re.sub(r"\s+", " ", c_generator.CGenerator().visit(function))
+def same_text(tree):
+    return re.sub(r"\s+", " ", c_generator.CGenerator().visit(tree))
+
+
+def unconditional(text):
+    """Rule 'conditional': what a compiler reads hangs on its own macros in directives alone, and in how the floating-point environment
+    is set around a call. Nothing else that stands between #if and #endif, and no macro beside, may be code."""
+    depth, environment, defined = 0, False, set()
+    for line in re.sub(r"//[^\n]*|/\*.*?\*/", "", text.replace("\\\n", " "), flags=re.S).splitlines():
+        directive = re.match(r"\s*#\s*(\w+)\s*(.*)", line)
+        if directive:
+            word, rest = directive.groups()
+            if word in ("if", "ifdef", "ifndef"):
+                environment = environment or depth == 0 and "DIHKELU_TRUST_ENVIRONMENT" in rest
+                depth += 1
+            elif word == "endif":
+                depth -= 1
+                environment = environment and depth > 0
+            elif word == "define" and environment:
+                defined.add(rest.split()[0])
+            elif word not in ("include", "error", "pragma", "elif", "else"):
+                raise Unread(f"the directive {line.strip()} may change what is compiled")
+        elif depth and line.strip():
+            if not environment:
+                raise Unread(f"{line.strip()} is compiled under a condition only")
+            defined.update(re.findall(r"^(?:static inline|typedef)\b.*?(\w+)(?:\(|;)", line))
+            defined.update(re.findall(r"^\} (\w+);", line))
+    beside = defined - ENVIRONMENT
+    if beside:
+        raise Unread(f"{', '.join(sorted(beside))}: defined under a condition, and no part of the floating-point environment")
 
 
 class Program:
@@ -70,30 +101,72 @@ class Program:
 
     def __init__(self, tree):
         self.types, self.structs, self.enums, self.enumerators = {}, {}, {}, {}
-        self.functions, self.helpers, self.signatures, definitions = {}, {}, {}, []
+        self.functions, self.definitions, self.signatures, self.wrapped = {}, {}, {}, {}
         for item in tree.ext:
             if item.coord and item.coord.file.endswith(".h"):
                 continue
             if isinstance(item, c_ast.Typedef):
                 self.typedef(item)
             elif isinstance(item, c_ast.FuncDef):
-                definitions.append(item)
-                self.signatures[item.decl.name] = self.signature(item.decl)
+                if item.decl.name in self.definitions:
+                    raise Unread(f"{item.decl.name} is defined twice")
+                self.definitions[item.decl.name] = item
             elif not isinstance(item, (c_ast.Pragma, c_ast.StaticAssert)) and not declared(item):
                 raise Unread(f"line {item.coord}: neither a type nor a function: teach tools/read_back_parts/c_text.py this form")
-        self.definitions = {item.decl.name: item for item in definitions}
+        self.helpers = {item.decl.name: item for item in parsed(prelude() + HELPERS).ext if isinstance(item, c_ast.FuncDef)}
+        self.bodies = {name + "_body" for name in self.definitions if name + "_body" in self.definitions}
+        self.own = set(self.helpers) | (ENVIRONMENT & set(self.definitions)) | self.bodies
+
+    def check_own(self, name):
+        """A function that no source has: an operation that C lacks is as HELPERS has it. How the environment is set and given back is
+        tested (tests/environment.c), and a body is read for its call."""
+        if name in self.helpers and (name not in self.definitions or same_text(self.definitions[name]) != same_text(self.helpers[name])):
+            raise Unread("not as tools/read_back_parts/c_text.py has it in HELPERS")
 
     def function(self, name):
+        """A function in the common form. Rule 'environment': a call NAME that hands its arguments to NAME_body between the two changes
+        of the floating-point environment, and returns what that returns, is NAME_body."""
         if name not in self.functions:
-            self.functions[name] = Reading(self, self.definitions[name]).function
+            definition = self.definitions[name]
+            if name + "_body" in self.bodies:
+                self.wrapper(definition, self.definitions[name + "_body"])
+                self.functions[name] = Reading(self, self.definitions[name + "_body"], True).function
+            else:
+                self.functions[name] = Reading(self, definition, "static" not in definition.decl.storage).function
         return self.functions[name]
+
+    def wrapper(self, definition, body):
+        name, parameters = definition.decl.name, definition.decl.type.args.params
+        if self.signature(name) != self.signature(name + "_body") or "static" in definition.decl.storage or "static" not in body.decl.storage:
+            raise Unread(f"{name} and {name}_body take other arguments, or are not a call and a static function")
+        kinds = [re.sub(r"\b%s$" % p.name, "", same_text(p)).strip() for p in parameters]
+        result = same_text(definition.decl.type.type).replace(name, "").strip()
+        wanted = parsed(prelude() + f"""typedef int environment;
+            void f(void) {{
+                {result} (*body)({', '.join(kinds)}) = {name}_body;
+                environment caller = environment_enter();
+                {result} returned = body({', '.join(p.name for p in parameters)});
+                environment_leave(caller);
+                return returned;
+            }}""").ext[-1]
+        if same_text(definition.body) != same_text(wanted.body):
+            raise Unread("not a call of its body between the two changes of the environment")
+
+    def signature(self, name):
+        """The parameters of a function and the type of its result."""
+        if name not in self.signatures:
+            declared_type = self.definitions[name].decl.type
+            parameters = declared_type.args.params if declared_type.args else []
+            found = [(p.name, self.kind(p.type)) for p in parameters if not (p.name is None and self.kind(p.type) == "unit")]
+            self.signatures[name] = found, self.kind(declared_type.type)
+        return self.signatures[name]
 
     # ---- types
 
     def typedef(self, item):
         name, inner = item.name, item.type.type
         if isinstance(inner, c_ast.IdentifierType):
-            if name not in NUMBERS:
+            if name not in NUMBERS and name not in ENVIRONMENT:
                 raise Unread(f"a second name {name} of a type")
         elif isinstance(inner, c_ast.Enum):
             self.types[name] = ("enum", name)
@@ -154,10 +227,9 @@ class Program:
                 return self.types[name]
         raise Unread(f"{decl.coord}: a type that is not known: teach tools/read_back_parts/c_text.py it")
 
-    def signature(self, decl):
-        parameters = decl.type.args.params if decl.type.args else []
-        found = [(p.name, self.kind(p.type)) for p in parameters if not (p.name is None and self.kind(p.type) == "unit")]
-        return found, self.kind(decl.type.type)
+
+def prelude():
+    return " ".join(re.sub(r"#.*", "", content) for name, content in HEADERS.items() if name != "string.h")
 
 
 def declared(item):
@@ -180,12 +252,12 @@ def literal(text):
 class Reading:
     """One function."""
 
-    def __init__(self, program, definition):
+    def __init__(self, program, definition, exported):
         self.program, self.count, self.scopes = program, 0, [{}]
         name = definition.decl.name
         self.function = Function(name, f"C:{definition.coord.line}")
-        self.function.exported = "static" not in definition.decl.storage
-        parameters, self.function.result = program.signatures[name]
+        self.function.exported = exported
+        parameters, self.function.result = program.signature(name)
         statements = list(definition.body.block_items or [])
         lists = self.lists(parameters, statements) if self.function.exported else {}
         for parameter, kind in parameters:
@@ -210,7 +282,7 @@ class Reading:
             pair = [e.name if isinstance(e, c_ast.ID) else None for e in statement.init.exprs]
             if len(pair) != 2 or pair[0] not in order or order[order.index(pair[0]) + 1:][:1] != pair[1:]:
                 return found
-            if kinds[pair[0]] != ("ref", kind[1], kind[2][1]) or kinds[pair[1]] != "u64":
+            if kinds[pair[0]] != ("ref", kind[1], kind[2][1]) or kinds[pair[1]] != "size_t":
                 self.fail(statement, "a list of another type than is lent")
             found[pair[0]], found[pair[1]] = (statement.name, kind), None
         return found
@@ -635,9 +707,9 @@ class Reading:
             if len(given) != 1:
                 self.fail(e, f"another count of arguments of {name}")
             return ("pure", name, gives, [self.given(given[0], takes)]), gives
-        if name not in self.program.signatures:
+        if name not in self.program.definitions:
             self.fail(e, f"a call of {name}, which is not defined here")
-        parameters, result = self.program.signatures[name]
+        parameters, result = self.program.signature(name)
         if len(parameters) != len(given):
             self.fail(e, f"another count of arguments of {name}")
         kinds = [kind for _, kind in parameters]

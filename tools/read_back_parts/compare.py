@@ -1,7 +1,7 @@
 """Two functions path by path, and two programs function by function."""
 from . import nodes
 from .rattle import Unread
-from .walk import UNSET, Lent, Walk
+from .walk import UNSET, Walk
 
 PATHS = 20000
 
@@ -16,8 +16,7 @@ class Comparison:
 
     def __init__(self, source, printed, program):
         self.source, self.printed, self.program = source, printed, program
-        self.same_pairs, self.pairs, self.states = set(), {}, {}
-        self.where = ()
+        self.same_pairs, self.pairs, self.states, self.partial = set(), {}, {}, []
 
     def check(self):
         todo, paths = [()], 0
@@ -28,11 +27,12 @@ class Comparison:
                 raise Unread(f"more than {PATHS} paths: raise PATHS in tools/read_back_parts/compare.py")
             left = Walk(self.source, "source", self.program, choices)
             right = Walk(self.printed, "C", self.program, choices)
-            self.where = left.taken
             ways = self.traces(left.trace, right.trace)
+            self.partial.append((left.partial, right.partial))
             for at in range(len(choices), len(ways)):
                 todo += [tuple(left.taken[:at]) + (way,) for way in range(1, ways[at])]
         self.loops()
+        self.defined()
         return paths
 
     def fail(self, what, a, b):
@@ -80,6 +80,27 @@ class Comparison:
                 for left, right in self.states[key]:
                     self.hold(f"the variable {a.split('#')[0]} of a loop", left[a], right[b])
 
+    def defined(self):
+        """On each path the C does no division, shift, element or call that the source does not do there, where it is proved to be
+        defined. What is worked out too early would not show in any value."""
+        partner = {(key, b): a for key, pairs in self.pairs.items() for a, b in sorted(pairs)}
+        known = {}
+
+        def translated(x):
+            if not isinstance(x, nodes.Node):
+                return x
+            if x not in known:
+                args = tuple(map(translated, x.args))
+                if x.op == "carried":
+                    args = ("source", x.args[1], partner.get((x.args[1], x.args[2])))
+                known[x] = nodes.node(x.op, args, x.type)
+            return known[x]
+
+        for left, right in self.partial:
+            for x in right:
+                if translated(x) not in left:
+                    raise Differs(f"the C works out {nodes.shown(x)} where the source does not")
+
     def hold(self, what, a, b):
         if not self.same(a, b):
             self.fail(what, a, b)
@@ -115,8 +136,64 @@ def described(event):
 
 def same_function(source, printed, program):
     """How many paths two functions have in common; Differs where they are not the same."""
-    if [kind for _, kind in source.parameters] != [kind for _, kind in printed.parameters]:
-        raise Differs(f"parameters differ: {[k for _, k in source.parameters]} and {[k for _, k in printed.parameters]}")
-    if source.result != printed.result:
-        raise Differs(f"results differ: {source.result} and {printed.result}")
+    for what, a, b in (("the parameters", [k for _, k in source.parameters], [k for _, k in printed.parameters]),
+                       ("the result", source.result, printed.result), ("whether it is exported", source.exported, printed.exported)):
+        if a != b:
+            raise Differs(f"{what}: the source has {a}, the C has {b}")
     return Comparison(source, printed, program).check()
+
+
+def same_type(name, sources, printed):
+    """A struct or an enumeration has the same fields or variants, in the same order and of the same types."""
+    path = next((p for p, item in sources.items.items() if item[0] in ("struct", "enum") and "_".join(p) == name), None)
+    if path is None:
+        raise Differs("a type of the C that the sources do not have")
+    kind, _ = sources.named(path)
+    if name not in (printed.structs if kind == "struct" else printed.enums):
+        raise Differs(f"a {kind} of the sources, and another kind of type in the C")
+    if kind == "struct":
+        a, b = sources.structs[name], printed.structs[name]
+    else:
+        a = [(v, parts_named(parts)) for v, parts in sources.enums[name]]
+        b = [(v, parts_named(parts)) for v, parts in printed.enums[name]]
+    if a != b:
+        raise Differs(f"the source has {a}, the C has {b}")
+
+
+def parts_named(parts):
+    """Parts of a variant: where there is one alone, C has no name for it."""
+    return [parts[0][1]] if len(parts) == 1 else [(f or f"part{i}", kind) for i, (f, kind) in enumerate(parts)]
+
+
+class Result:
+    """What a comparison of two programs found: a name and a sentence for each difference."""
+    def __init__(self):
+        self.differences, self.functions, self.paths, self.types = [], 0, 0, 0
+
+    def note(self, name, work):
+        """What some work gives; where it finds a difference, that is noted under a name."""
+        try:
+            return work()
+        except (Differs, Unread, ValueError, KeyError, RecursionError) as error:
+            self.differences.append((name, str(error) or type(error).__name__))
+            return None
+
+
+def same_program(sources, printed, only=None):
+    """Compares all functions and types, or those in `only`."""
+    result = Result()
+    reached = sources.reached()
+    for name in sorted(set(reached) - set(printed.definitions)):
+        result.differences.append((name, "an export reaches this function, and the C does not have it"))
+    for name in sorted(set(printed.definitions) - set(reached) - printed.own):
+        result.differences.append((name, "the C has this function, and no export of the sources reaches it"))
+    for name in sorted(set(printed.structs) | set(printed.enums)):
+        result.note(name, lambda: same_type(name, sources, printed))
+        result.types += 1
+    for name in sorted(printed.own):
+        result.note(name, lambda: printed.check_own(name))
+    for name in sorted(set(reached) & set(printed.definitions)):
+        if only is None or name in only:
+            paths = result.note(name, lambda: same_function(reached[name], printed.function(name), sources))
+            result.functions, result.paths = result.functions + 1, result.paths + (paths or 0)
+    return result

@@ -97,8 +97,15 @@ def stored(x, i, value):
     if x.op == "array" and is_const(i) and i.args[0] < len(x.args):
         parts = list(x.args)
         parts[i.args[0]] = value
-        return node("array", tuple(parts), x.type)
+        return listed(x.type, tuple(parts))
     return node("store", (x, i, value), x.type)
+
+
+def listed(kind, parts):
+    """A list of its elements; one of equal elements is that element repeated."""
+    if parts and all(p is parts[0] for p in parts):
+        return node("repeat", (parts[0],), kind)
+    return node("array", parts, kind)
 
 
 def add(a, b):
@@ -127,10 +134,22 @@ _SWAPPED = {">": "<", ">=": "<="}
 COMPARISONS = {"==", "!=", "<", "<="}
 
 
+SHIFTS = {"<<", ">>"}
+
+
+def shift_count(x):
+    """By how much is shifted counts, and not the type in which it is said."""
+    if is_const(x):
+        return const("u32", x.args[0])
+    return x.args[0] if x.op == "cast" and x.args[0].type in ("u8", "u16", "u32") else x
+
+
 def binary(op, kind, a, b):
     """An operation on operands of one type; a > b is b < a, of floats too, NaN or not."""
     if op in _SWAPPED:
         op, a, b = _SWAPPED[op], b, a
+    if op in SHIFTS:
+        b = shift_count(b)
     return node("bin", (op, kind, a, b), "bool" if op in COMPARISONS else kind)
 
 

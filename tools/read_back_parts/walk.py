@@ -11,12 +11,18 @@ from . import nodes
 from .rattle import Unread
 
 UNSET = "unset"
+WHOLE = {"u8", "u16", "u32", "u64"}
+PARTIAL = {"/", "%"} | nodes.SHIFTS
 
 
 class Lent:
     """A reference that can be written through: a variable, or a part of it, with the count of elements of a slice."""
     def __init__(self, root, offset=None, count=None):
         self.root, self.offset, self.count = root, offset, count
+
+
+def all_of(lent, low, count):
+    return lent.offset is None and nodes.is_const(low) and low.args[0] == 0 and count is lent.count
 
 
 class Left(Exception):
@@ -60,7 +66,7 @@ class Walk:
     def __init__(self, function, side, program, choices):
         self.side, self.program, self.choices = side, program, choices
         self.trace, self.facts, self.taken, self.loops = [], {}, [], 0
-        self.state, self.kinds = {}, {}
+        self.state, self.kinds, self.partial = {}, {}, set()
         self.writable = []
         for i, (name, kind) in enumerate(function.parameters):
             self.kinds[name] = kind
@@ -124,8 +130,9 @@ class Walk:
             kinds = [kind for _, kind in self.program.structs[whole.type[1]]]
             self.store(place[1], nodes.with_field(whole, place[2], value, kinds))
         elif place[0] == "index":
-            whole = self.load(place[1])
-            self.store(place[1], nodes.stored(whole, self.value(place[2]), value))
+            whole, at = self.load(place[1]), self.value(place[2])
+            self.needs(nodes.node("index", (whole, at), value.type))
+            self.store(place[1], nodes.stored(whole, at, value))
         elif place[0] == "deref":
             target = self.value(place[1])
             if not isinstance(target, Lent) or target.offset is not None:
@@ -148,7 +155,15 @@ class Walk:
         return nodes.const(e[1], e[2])
 
     def of_var(self, e):
-        return self.state[e[1]]
+        found = self.state[e[1]]
+        if isinstance(found, nodes.Node) and found.op == UNSET:
+            raise Unread(f"the variable {e[1].split('#')[0]} is read before it is set")
+        return found
+
+    def needs(self, x):
+        """Notes an operation that is defined for some operands only."""
+        self.partial.add(x)
+        return x
 
     def of_field(self, e):
         return nodes.field(self.value(e[1]), e[2], e[3][2] if e[3][0] == "ref" else e[3])
@@ -163,7 +178,9 @@ class Walk:
 
     def of_index(self, e):
         whole = self.value(e[1])
-        return nodes.element(whole, self.value(e[2]), e[3])
+        place = self.value(e[2])
+        self.needs(nodes.node("index", (whole, place), e[3]))
+        return nodes.element(whole, place, e[3])
 
     def of_deref(self, e):
         x = self.value(e[1])
@@ -188,7 +205,12 @@ class Walk:
 
     def of_piece(self, e):
         """A part by its first place and its count."""
-        return nodes.part(self.value(e[1]), self.value(e[2]), self.value(e[3]))
+        low, count = self.value(e[2]), self.value(e[3])
+        if e[1][0] == "deref":
+            whole = self.value(e[1][1])
+            if isinstance(whole, Lent) and all_of(whole, low, count):
+                return self.lent(whole)
+        return nodes.part(self.value(e[1]), low, count)
 
     def of_ref(self, e):
         place = e[1]
@@ -201,7 +223,7 @@ class Walk:
             if isinstance(whole, Lent) and whole.offset is None:
                 low, count = self.span(place, whole.count) if place[0] == "part" else (
                     self.value(place[2]), self.value(place[3]))
-                if nodes.is_const(low) and low.args[0] == 0 and count is whole.count:
+                if all_of(whole, low, count):
                     return whole
                 return Lent(whole.root, low, count)
         raise Unread("a place that is lent in a way that is not known")
@@ -209,7 +231,8 @@ class Walk:
     def of_bin(self, e):
         _, op, kind, a, b = e
         left = self.value(a)
-        return nodes.binary(op, kind, left, self.value(b))
+        found = nodes.binary(op, kind, left, self.value(b))
+        return self.needs(found) if kind in WHOLE and op in PARTIAL else found
 
     def of_neg(self, e):
         return nodes.negated(self.value(e[1]))
@@ -224,7 +247,9 @@ class Walk:
         return nodes.TRUE if self.holds(self.value(e[1])) else self.value(e[2])
 
     def of_cast(self, e):
-        return nodes.cast(self.value(e[2]), e[1])
+        x = self.value(e[2])
+        found = nodes.cast(x, e[1])
+        return self.needs(found) if x.type == "f64" and e[1] != "f64" else found
 
     def of_struct(self, e):
         parts = {i: self.value(part) for i, part in e[2]}
@@ -234,7 +259,7 @@ class Walk:
         return nodes.variant(e[1], e[2], tuple(self.value(part) for part in e[3]))
 
     def of_array(self, e):
-        return nodes.node("array", tuple(self.value(part) for part in e[2]), e[1])
+        return nodes.listed(e[1], tuple(self.value(part) for part in e[2]))
 
     def of_repeat(self, e):
         return nodes.node("repeat", (self.value(e[2]),), e[1])
@@ -246,7 +271,7 @@ class Walk:
         _, name, given, kinds, result = e
         values = [self.value(a) for a in given]
         passed = tuple(self.lent(v) if isinstance(v, Lent) else v for v in values)
-        made = nodes.node("call", (name,) + passed, result[2] if result[0] == "ref" else result)
+        made = self.needs(nodes.node("call", (name,) + passed, result[2] if result[0] == "ref" else result))
         written = [(i, v) for i, (v, kind) in enumerate(zip(values, kinds)) if kind[0] == "ref" and kind[1]]
         if written:
             self.trace.append(("call", made))
