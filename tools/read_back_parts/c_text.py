@@ -23,10 +23,10 @@ WIDTH = {"u8": 8, "u16": 16, "u32": 32, "u64": 64}
 ORDERS = {"==", "!=", "<", "<=", ">", ">="}
 # What the file takes from the C library, and nothing more of it. FLT_EVAL_METHOD and the others are what it asks for.
 HEADERS = {
+    "stddef.h": "typedef unsigned long size_t;", "stdbool.h": "typedef _Bool bool;",
     "stdint.h": "typedef unsigned char uint8_t; typedef unsigned short uint16_t; typedef unsigned int uint32_t;"
                 "typedef unsigned long uint64_t; typedef signed char int8_t; typedef short int16_t; typedef int int32_t; typedef long int64_t;"
                 "\n#define UINT64_C(c) c##ul",
-    "stddef.h": "typedef unsigned long size_t;", "stdbool.h": "typedef _Bool bool;",
     "string.h": "void *memcpy(void *to, const void *from, size_t count);",
     "float.h": "#define FLT_EVAL_METHOD 0\n#define FLT_RADIX 2\n#define DBL_MANT_DIG 53\n#define DBL_MAX_EXP 1024\n#define DBL_MIN_EXP (-1021)",
 }
@@ -229,7 +229,8 @@ class Program:
 
 
 def prelude():
-    return " ".join(re.sub(r"#.*", "", content) for name, content in HEADERS.items() if name != "string.h")
+    """The types of the headers above, for a text that is not preprocessed."""
+    return '# 1 "prelude.h"\n' + " ".join(re.sub(r"#.*", "", content) for content in HEADERS.values()) + '\n# 1 "text"\n'
 
 
 def declared(item):

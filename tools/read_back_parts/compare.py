@@ -171,12 +171,14 @@ class Result:
         self.differences, self.functions, self.paths, self.types = [], 0, 0, 0
 
     def note(self, name, work):
-        """What some work gives; where it finds a difference, that is noted under a name."""
+        """What some work gives; where it finds a difference, that is noted under a name. What cannot be followed is not the same."""
         try:
             return work()
-        except (Differs, Unread, ValueError, KeyError, RecursionError) as error:
-            self.differences.append((name, str(error) or type(error).__name__))
-            return None
+        except (Differs, Unread) as error:
+            self.differences.append((name, str(error)))
+        except Exception as error:
+            self.differences.append((name, f"cannot be followed: {type(error).__name__}: {error}"))
+        return None
 
 
 def same_program(sources, printed, only=None):

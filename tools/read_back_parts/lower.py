@@ -393,7 +393,9 @@ class Lowering:
         if kind[0] != "struct":
             self.fail(f"a field of {kind}")
         fields = self.sources.structs[kind[1]]
-        i = [f for f, _ in fields].index(e[2])
+        i = next((i for i, (f, _) in enumerate(fields) if f == e[2]), None)
+        if i is None:
+            self.fail(f"{kind[1]} has no field {e[2]}")
         return ("field", code, i, fields[i][1]), fields[i][1]
 
     def of_index(self, e):
