@@ -19,7 +19,7 @@ from .rattle import Unread
 
 NUMBERS = {"uint8_t": "u8", "uint16_t": "u16", "uint32_t": "u32", "uint64_t": "u64", "size_t": "size_t", "double": "f64", "bool": "bool",
            "void": "unit"}
-WIDTH = {"u8": 8, "u16": 16, "u32": 32, "u64": 64}
+WIDTH = nodes.WIDTH
 ORDERS = {"==", "!=", "<", "<=", ">", ">="}
 # What the file takes from the C library, and nothing more of it. FLT_EVAL_METHOD and the others are what it asks for.
 HEADERS = {

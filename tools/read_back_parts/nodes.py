@@ -5,6 +5,7 @@ A type is 'u8' .. 'u64', 'f64', 'bool', 'unit', ('struct', name), ('enum', name)
 """
 import struct
 
+WIDTH = {"u8": 8, "u16": 16, "u32": 32, "u64": 64}
 _kept = {}
 
 
@@ -141,7 +142,8 @@ def shift_count(x):
     """By how much is shifted counts, and not the type in which it is said."""
     if is_const(x):
         return const("u32", x.args[0])
-    return x.args[0] if x.op == "cast" and x.args[0].type in ("u8", "u16", "u32") else x
+    widened = x.op == "cast" and WIDTH.get(x.args[0].type, 99) <= WIDTH[x.type]
+    return x.args[0] if widened else x
 
 
 def binary(op, kind, a, b):

@@ -11,7 +11,6 @@ from . import nodes
 from .rattle import Unread
 
 UNSET = "unset"
-WHOLE = {"u8", "u16", "u32", "u64"}
 PARTIAL = {"/", "%"} | nodes.SHIFTS
 
 
@@ -232,7 +231,7 @@ class Walk:
         _, op, kind, a, b = e
         left = self.value(a)
         found = nodes.binary(op, kind, left, self.value(b))
-        return self.needs(found) if kind in WHOLE and op in PARTIAL else found
+        return self.needs(found) if kind in nodes.WIDTH and op in PARTIAL else found
 
     def of_neg(self, e):
         return nodes.negated(self.value(e[1]))
