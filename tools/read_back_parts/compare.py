@@ -145,8 +145,8 @@ def same_function(source, printed, program):
 
 def same_type(name, sources, printed):
     """A struct or an enumeration has the same fields or variants, in the same order and of the same types."""
-    path = next((p for p, item in sources.items.items() if item[0] in ("struct", "enum") and "_".join(p) == name), None)
-    if path is None:
+    path = sources.paths.get(name)
+    if path is None or sources.items[path][0] == "fn":
         raise Differs("a type of the C that the sources do not have")
     kind, _ = sources.named(path)
     if name not in (printed.structs if kind == "struct" else printed.enums):

@@ -53,11 +53,11 @@ class Sources:
         self.texts = dict(files)
         for path, text in files:
             self.add(path, rattle.read(text, "/".join(path)))
-        names = {}
+        self.paths = {}
         for path, item in self.items.items():
             name = mangled(path, item)
-            if item[0] in ("fn", "struct", "enum") and names.setdefault(name, path) != path:
-                raise Unread(f"{path} and {names[name]} have one name in C: rename one")
+            if item[0] in ("fn", "struct", "enum") and self.paths.setdefault(name, path) != path:
+                raise Unread(f"{path} and {self.paths[name]} have one name in C: rename one")
 
     def add(self, path, items):
         uses = self.uses.setdefault(path, {})
@@ -378,10 +378,7 @@ class Lowering:
             return ("len", code), "u64"
         if kind[0] not in ("struct", "enum"):
             self.fail(f"the method {name} of {kind}")
-        for path, item in self.sources.items.items():
-            if item[0] == kind[0] and "_".join(path) == kind[1]:
-                return self.called(path + (name,), [subject] + given)
-        return self.fail(f"the type {kind} is not known")
+        return self.called(self.sources.paths[kind[1]] + (name,), [subject] + given)
 
     def opened(self, code, kind):
         """What a reference refers to."""
