@@ -6,6 +6,7 @@ a change of one function leaves the places in all others as they are. An edit th
 exchanges equal values, is none.
 """
 import copy
+import functools
 import hashlib
 import math
 import re
@@ -22,6 +23,7 @@ sys.dont_write_bytecode = True
 sys.setrecursionlimit(20000)
 from read_back_parts import c_text, compare, lower, rattle  # noqa: E402
 
+rattle.read = functools.lru_cache(maxsize=None)(rattle.read)
 SEED = 46
 PLACES = 6
 TEXT = (ROOT / "c" / "dihkelu.c").read_text()
@@ -259,24 +261,26 @@ class Printed(unittest.TestCase):
 class WholeFile(unittest.TestCase):
     """Changes outside of functions, and the command."""
 
-    def differ(self, was, put, count=1):
-        changed = re.sub(was, put, TEXT, count=count, flags=re.M | re.S)
-        self.assertNotEqual(changed, TEXT)
-        return found_in(c_text.Program(c_text.parsed(c_text.preprocessed(changed, ROOT / "c"))), set())
+    WRONG = [
+        ("ieee_spare", r"^static double ieee_powi2\(", "static double ieee_spare(double x) {\n    return x;\n}\n\n\\g<0>"),
+        ("ieee_powi5", r"^static double ieee_powi5\(.*?^\}\n", ""),
+        ("fresnel_Reflectances", r"double rs;\n    double rp;", "double rp;\n    double rs;"),
+        ("refusal_Refusal", r"uint32_t number;", "uint64_t number;"),
+        ("thin_film_coating_Coating", r"(thin_film_coating_Coating_IdealAr),\n(\s+)(\w+)", r"\3,\n\2\1"),
+        ("gate_Gated", r"uint32_t Admitted;", "uint64_t Admitted;"),
+        ("sheet_Standing", r"uint32_t part0; uint32_t part1; uint32_t part2;", "uint32_t part0; uint32_t part2; uint32_t part1;"),
+        ("to_bits", r"memcpy\(&bits, &x, sizeof bits\)", "memcpy(&bits, &x, 4)"),
+        ("leading_zeros", r"zeros < 64 &&", "zeros < 63 &&"),
+    ]
 
-    def test_functions_there_and_not_there(self):
-        self.assertIn("ieee_spare", self.differ(r"^static double ieee_powi2\(", "static double ieee_spare(double x) {\n    return x;\n}\n\n\\g<0>"))
-        self.assertIn("ieee_powi5", self.differ(r"^static double ieee_powi5\(.*?^\}\n", ""))
-
-    def test_types(self):
-        self.assertIn("fresnel_Reflectances", self.differ(r"double rs;\n    double rp;", "double rp;\n    double rs;"))
-        self.assertIn("refusal_Refusal", self.differ(r"uint32_t number;", "uint64_t number;"))
-        self.assertIn("thin_film_coating_Coating", self.differ(r"(thin_film_coating_Coating_IdealAr),\n(\s+)(\w+)", r"\3,\n\2\1"))
-        self.assertIn("gate_Gated", self.differ(r"uint32_t Admitted;", "uint64_t Admitted;"))
-
-    def test_operations_that_c_lacks(self):
-        self.assertIn("to_bits", self.differ(r"memcpy\(&bits, &x, sizeof bits\)", "memcpy(&bits, &x, 4)"))
-        self.assertIn("leading_zeros", self.differ(r"zeros < 64 &&", "zeros < 63 &&"))
+    def test_functions_and_types(self):
+        """One that is wrong, missing or too many: all at once, and each is named."""
+        text = TEXT
+        for _, was, put in self.WRONG:
+            text, count = re.subn(was, put, text, count=1, flags=re.M | re.S)
+            self.assertEqual(count, 1, was)
+        found = found_in(c_text.Program(c_text.parsed(c_text.preprocessed(text, ROOT / "c"))), set())
+        self.assertEqual(set(found), {name for name, _, _ in self.WRONG})
 
     def test_what_hangs_on_the_compiler(self):
         for put in ("#define double float\n", "#if __GNUC__\nstatic int spare;\n#endif\n"):

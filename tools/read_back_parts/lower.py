@@ -11,6 +11,7 @@ A program here has functions of expressions, tuples whose first entry names the 
 A shared reference is the value that it refers to: while it lives, nothing writes there (the language's borrow rule). A reference
 that can be written through is ('ref', place).
 """
+import functools
 import pathlib
 
 from . import nodes, rattle
@@ -140,6 +141,7 @@ class Sources:
             self.functions[path] = Lowering(self, module, owner, path, item).function
         return self.functions[path]
 
+    @functools.lru_cache(maxsize=None)
     def reached(self):
         """By its name in C, each function that an export of the crate dihkelu reaches."""
         todo = [path for path, item in self.items.items() if item[0] == "fn" and item[5] and path[0] == "dihkelu"]
