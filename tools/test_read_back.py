@@ -328,8 +328,20 @@ class Small(unittest.TestCase):
     """Programs of a few lines: what is the same though it is written otherwise, and what is not though it looks so."""
     HEAD = '#[no_mangle] pub extern "C" fn dihkelu_f'
 
+    PARTS = (
+        "(a: &[f64], i: usize) -> f64 { g(&a[i..]) }\nfn g(a: &[f64]) -> f64 { 1.0 }",
+        "static double dihkelu_g(slice_f64 a) { return 1.0; }\n"
+        "double dihkelu_f(const double *a_at, size_t a_count, uint64_t i) { slice_f64 a = {a_at, a_count};",
+        "(a: &mut [f64], n: usize) -> f64 { g(&mut a[..n]) }\nfn g(a: &mut [f64]) -> f64 { 1.0 }",
+        "static double dihkelu_g(slice_mut_f64 a) { return 1.0; }\n"
+        "double dihkelu_f(double *a_at, size_t a_count, uint64_t n) { slice_mut_f64 a = {a_at, a_count};",
+    )
+
     def test_same(self):
+        part, c_part, part_put, c_part_put = self.PARTS
         for rust, c in [
+            (part, c_part + "return dihkelu_g((slice_f64){i == 0 ? a.at : a.at + i, a.count - i}); }"),
+            (part_put, c_part_put + "return dihkelu_g((slice_mut_f64){a.at, n}); }"),
             ("(a: u64) -> u64 { if a < 3 { 1 } else { a } }", "uint64_t dihkelu_f(uint64_t a) { if (a < 3) { return 1; } return a; }"),
             ("(a: u64) -> bool { if a > 3 { a < 9 } else { false } }", "bool dihkelu_f(uint64_t a) { return 3 < a && a < 9; }"),
             ("(a: f64) -> f64 { let b = a * a; let c = b + 1.0; c / b }", "double dihkelu_f(double a) { return (a * a + 1.0) / (a * a); }"),
@@ -345,6 +357,7 @@ class Small(unittest.TestCase):
     def test_not_same(self):
         put = "fn put(x: &mut f64) -> f64 { *x = 1.0; 2.0 }\n"
         c_put = "static double dihkelu_put(double *x) { *x = 1.0; return 2.0; }\n"
+        part, c_part, part_put, c_part_put = self.PARTS
         for rust, c in [
             # a division before the test that makes it safe
             ("(a: u64, b: u64) -> u64 { if b == 0 { return 0; } a / b }",
@@ -372,9 +385,10 @@ class Small(unittest.TestCase):
             # a product of u16, which C works out in int
             ("(a: u16) -> u16 { a * a }", "uint16_t dihkelu_f(uint16_t a) { return (uint16_t)(a * a); }"),
             # a null pointer that is moved
-            ("(a: &[f64], i: usize) -> f64 { g(&a[i..]) }\nfn g(a: &[f64]) -> f64 { 1.0 }",
-             "static double dihkelu_g(slice_f64 a) { return 1.0; }\ndouble dihkelu_f(const double *a_at, size_t a_count, uint64_t i) {"
-             "slice_f64 a = {a_at, a_count}; return dihkelu_g((slice_f64){i == 1 ? a.at : a.at + i, a.count - i}); }"),
+            (part, c_part + "return dihkelu_g((slice_f64){a.at + i, a.count - i}); }"),
+            (part, c_part + "return dihkelu_g((slice_f64){i == 1 ? a.at : a.at + i, a.count - i}); }"),
+            # a part of a list that is changed whole
+            (part_put, c_part_put + "return dihkelu_g(a); }"),
         ]:
             with self.subTest(rust=rust):
                 self.assertFalse(same(self.HEAD + rust, c))

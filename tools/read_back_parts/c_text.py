@@ -20,6 +20,7 @@ from .rattle import Unread
 NUMBERS = {"uint8_t": "u8", "uint16_t": "u16", "uint32_t": "u32", "uint64_t": "u64", "size_t": "size_t", "double": "f64", "bool": "bool",
            "void": "unit"}
 WIDTH = nodes.WIDTH
+NOWHERE = ("lit", "u64", 0)
 ORDERS = {"==", "!=", "<", "<=", ">", ">="}
 # What the file takes from the C library, and nothing more of it. FLT_EVAL_METHOD and the others are what it asks for.
 HEADERS = {
@@ -517,34 +518,40 @@ class Reading:
         return self.fail(e, "another count of elements than the list has")
 
     def lent(self, e, kind):
-        """Rule 'part': {list.at + a, n} is the part of n elements from a on. With 'a == 0 ? list.at : list.at + a' no null pointer is
-        moved, and the pointer is the same."""
+        """Rule 'part': {list.at + a, n} is the part of n elements from a on. A list that is lent may be at a null pointer, which may not be
+        moved, not by 0 either: 'a == 0 ? list.at : list.at + a' is the same pointer, and does not."""
         if len(e.exprs) != 2 or any(isinstance(x, (c_ast.NamedInitializer, c_ast.InitList)) for x in e.exprs):
             self.fail(e, "a list of other parts than a pointer and a count")
-        place, mutable, inner, offset = self.pointer(e.exprs[0])
-        if inner != kind[2][1] or kind[1] and not mutable:
+        if isinstance(e.exprs[0], c_ast.TernaryOp):
+            place, kind_of, offset = self.guarded(e.exprs[0])
+        else:
+            place, kind_of, offset = self.pointer(e.exprs[0])
+            if kind_of[3] and offset != NOWHERE:
+                self.fail(e, "a pointer that may be null is moved")
+        if kind_of[2] != kind[2][1] or kind[1] and not kind_of[1]:
             self.fail(e, "a list of another type")
         piece = ("piece", place, offset, self.given(e.exprs[1], "u64"))
         return ("ref", piece) if kind[1] else piece
 
+    def guarded(self, e):
+        """A pointer that is moved only where its offset is not 0."""
+        first, later = self.pointer(e.iftrue), self.pointer(e.iffalse)
+        test, _ = self.expression(e.cond)
+        if first[:2] != later[:2] or first[2] != NOWHERE or test != ("bin", "==", "u64", later[2], NOWHERE):
+            self.fail(e, "a pointer by a test that is not of its offset")
+        return later
+
     def pointer(self, e):
-        """The list that a pointer points into, whether it may be written, the type of its elements, and the place."""
-        if isinstance(e, c_ast.TernaryOp):
-            first, later = self.pointer(e.iftrue), self.pointer(e.iffalse)
-            test, _ = self.expression(e.cond)
-            zero = ("lit", "u64", 0)
-            if first[:3] != later[:3] or first[3] != zero or test != ("bin", "==", "u64", later[3], zero):
-                self.fail(e, "a pointer by a test that is not of its offset")
-            return later
+        """The list that a pointer points into, the pointer's type, and the place."""
         if isinstance(e, c_ast.BinaryOp) and e.op == "+":
-            place, mutable, inner, offset = self.pointer(e.left)
-            if offset != ("lit", "u64", 0):
+            place, kind, offset = self.pointer(e.left)
+            if offset != NOWHERE:
                 self.fail(e, "a pointer that is moved twice")
-            return place, mutable, inner, self.given(e.right, "u64")
+            return place, kind, self.given(e.right, "u64")
         place, kind = self.expression(e)
         if kind[0] != "pointer":
             self.fail(e, "no pointer of a list")
-        return place, kind[1], kind[2], ("lit", "u64", 0)
+        return place, kind, NOWHERE
 
     # ---- expressions: the code and its type
 
@@ -668,9 +675,9 @@ class Reading:
         if kind[0] == "ref" and kind[2][0] == "slice" and name == "count":
             return ("len", code), "u64"
         if kind[0] == "ref" and kind[2][0] == "slice" and name == "at":
-            return ("deref", code), ("pointer", kind[1], kind[2][1])
+            return ("deref", code), ("pointer", kind[1], kind[2][1], True)
         if kind[0] == "array" and name == "at":
-            return code, ("pointer", True, kind[1])
+            return code, ("pointer", True, kind[1], False)
         if kind[0] == "struct":
             for i, (f, inner) in enumerate(self.program.structs[kind[1]]):
                 if f == name:

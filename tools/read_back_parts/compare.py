@@ -181,14 +181,14 @@ class Result:
         return None
 
 
-def same_program(sources, printed, only=None):
-    """Compares all functions and types, or those in `only`."""
+def same_program(sources, printed, only=None, also=()):
+    """Compares all that the exports reach and what is reached `also`: types, which functions there are, and these or those in `only`."""
     result = Result()
-    reached = sources.reached()
+    reached = sources.reached(also)
     for name in sorted(set(reached) - set(printed.definitions)):
-        result.differences.append((name, "an export reaches this function, and the C does not have it"))
+        result.differences.append((name, "a function that is reached in the sources and is not in the C"))
     for name in sorted(set(printed.definitions) - set(reached) - printed.own):
-        result.differences.append((name, "the C has this function, and no export of the sources reaches it"))
+        result.differences.append((name, "a function of the C that is not reached in the sources"))
     for name in sorted(set(printed.structs) | set(printed.enums)):
         result.note(name, lambda: same_type(name, sources, printed))
         result.types += 1

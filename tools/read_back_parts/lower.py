@@ -142,9 +142,9 @@ class Sources:
         return self.functions[path]
 
     @functools.lru_cache(maxsize=None)
-    def reached(self):
-        """By its name in C, each function that an export of the crate dihkelu reaches."""
-        todo = [path for path, item in self.items.items() if item[0] == "fn" and item[5] and path[0] == "dihkelu"]
+    def reached(self, also=()):
+        """By its name in C, each function that an export of the crate dihkelu reaches, or one of the paths `also`."""
+        todo = [*also] + [path for path, item in self.items.items() if item[0] == "fn" and item[5] and path[0] == "dihkelu"]
         found = {}
         while todo:
             path = todo.pop()

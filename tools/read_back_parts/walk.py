@@ -20,10 +20,6 @@ class Lent:
         self.root, self.offset, self.count = root, offset, count
 
 
-def all_of(lent, low, count):
-    return lent.offset is None and nodes.is_const(low) and low.args[0] == 0 and count is lent.count
-
-
 class Left(Exception):
     """The function is left."""
 
@@ -205,10 +201,9 @@ class Walk:
     def of_piece(self, e):
         """A part by its first place and its count."""
         low, count = self.value(e[2]), self.value(e[3])
-        if e[1][0] == "deref":
-            whole = self.value(e[1][1])
-            if isinstance(whole, Lent) and all_of(whole, low, count):
-                return self.lent(whole)
+        whole = self.value(e[1][1]) if e[1][0] == "deref" else None
+        if isinstance(whole, Lent) and whole.offset is None and nodes.is_const(low) and low.args[0] == 0 and count is whole.count:
+            return self.lent(whole)
         return nodes.part(self.value(e[1]), low, count)
 
     def of_ref(self, e):
@@ -217,15 +212,18 @@ class Walk:
             return self.value(place[1])
         if place[0] == "var":
             return Lent(place[1])
-        if place[0] in ("part", "piece") and place[1][0] == "deref":
-            whole = self.value(place[1][1])
-            if isinstance(whole, Lent) and whole.offset is None:
-                low, count = self.span(place, whole.count) if place[0] == "part" else (
-                    self.value(place[2]), self.value(place[3]))
-                if all_of(whole, low, count):
-                    return whole
-                return Lent(whole.root, low, count)
+        if place[0] in ("part", "piece"):
+            return self.lent_part(place)
         raise Unread("a place that is lent in a way that is not known")
+
+    def lent_part(self, place):
+        """A part of a list, lent to be written; the whole of it is the list."""
+        whole = self.of_ref(("ref", place[1]))
+        if whole.offset is not None:
+            raise Unread("a part of a part is lent")
+        count = nodes.length(self.lent(whole)) if whole.count is None else whole.count
+        low, many = self.span(place, count) if place[0] == "part" else (self.value(place[2]), self.value(place[3]))
+        return whole if nodes.is_const(low) and low.args[0] == 0 and many is count else Lent(whole.root, low, many)
 
     def of_bin(self, e):
         _, op, kind, a, b = e
