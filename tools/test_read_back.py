@@ -269,6 +269,7 @@ class WholeFile(unittest.TestCase):
         ("thin_film_coating_Coating", r"(thin_film_coating_Coating_IdealAr),\n(\s+)(\w+)", r"\3,\n\2\1"),
         ("gate_Gated", r"uint32_t Admitted;", "uint64_t Admitted;"),
         ("sheet_Standing", r"uint32_t part0; uint32_t part1; uint32_t part2;", "uint32_t part0; uint32_t part2; uint32_t part1;"),
+        ("gate_Note", r"uint16_t place;", "uint8_t place;"),
         ("to_bits", r"memcpy\(&bits, &x, sizeof bits\)", "memcpy(&bits, &x, 4)"),
         ("leading_zeros", r"zeros < 64 &&", "zeros < 63 &&"),
     ]
@@ -286,8 +287,9 @@ class WholeFile(unittest.TestCase):
         for put in ("#define double float\n", "#if __GNUC__\nstatic int spare;\n#endif\n"):
             with self.assertRaises(rattle.Unread):
                 c_text.preprocessed(TEXT.replace("// ==== types\n", put, 1), ROOT / "c")
-        with self.assertRaises(rattle.Unread):
-            c_text.Program(c_text.parsed(c_text.preprocessed(TEXT + "static int spare;\n", ROOT / "c")))
+        for put in ("static int spare;\n", "typedef struct { uint32_t number : 8; uint32_t place; } spare;\n", "typedef union { double x; } spare;\n"):
+            with self.assertRaises(rattle.Unread):
+                c_text.Program(c_text.parsed(c_text.prelude() + put))
 
     def test_command(self):
         done = subprocess.run([ROOT / "tools/read_back"], capture_output=True, text=True)
@@ -387,6 +389,11 @@ class Small(unittest.TestCase):
             # a null pointer that is moved
             (part, c_part + "return dihkelu_g((slice_f64){a.at + i, a.count - i}); }"),
             (part, c_part + "return dihkelu_g((slice_f64){i == 1 ? a.at : a.at + i, a.count - i}); }"),
+            # a part before the test that there is one
+            ("(a: &[f64], n: usize) -> f64 { if n > a.len() { return 0.0; } g(&a[..n]) }\nfn g(a: &[f64]) -> f64 { 1.0 }",
+             c_part.replace("i)", "n)") + "slice_f64 b = {a.at, n}; if (a.count < n) { return 0.0; } return dihkelu_g(b); }"),
+            # a variable that outlives its call
+            ("(n: u64) -> u64 { let a = n; a + 1 }", "uint64_t dihkelu_f(uint64_t n) { static uint64_t a = n; return a + 1; }"),
             # a part of a list that is changed whole
             (part_put, c_part_put + "return dihkelu_g(a); }"),
         ]:

@@ -178,6 +178,8 @@ class Program:
             raise Unread(f"a type {name} that is not known")
 
     def struct(self, name, decls):
+        if any(d.bitsize for d in decls):
+            raise Unread(f"{name} has a field of some bits")
         members = [d.name for d in decls]
         if members == ["at"] and isinstance(decls[0].type, c_ast.ArrayDecl):
             return self.array(name, decls[0].type)
@@ -192,6 +194,8 @@ class Program:
 
     def array(self, name, decl):
         """C has no empty list: one that is named _x0 has a place that nothing reads."""
+        if not isinstance(decl.dim, c_ast.Constant):
+            raise Unread(f"{name} has a count that is no number")
         count = int(decl.dim.value, 0)
         if name.endswith("_x0") and count == 1:
             count = 0
@@ -320,6 +324,8 @@ class Reading:
         return self.block(s.block_items)
 
     def do_Decl(self, s):
+        if s.storage or s.bitsize:
+            self.fail(s, f"the variable {s.name} does not live as long as its block")
         kind = self.program.kind(s.type)
         code = None if s.init is None else self.ordered(s, self.given(s.init, kind))
         return ("let", self.bind(s.name, kind), kind, code)

@@ -324,10 +324,10 @@ class Lowering:
 
     def of_constant(self, full, item):
         """A named constant is its value, worked out where it is used."""
-        module, self.module = self.module, full[:-1]
+        module, self.module, scopes, self.scopes = self.module, full[:-1], self.scopes, [{}]
         kind = self.sources.type_of(self.module, item[2])
         code, found = self.expression(item[3])
-        self.module = module
+        self.module, self.scopes = module, scopes
         return self.fit(code, found, kind), kind
 
     def arguments(self, given, kinds):

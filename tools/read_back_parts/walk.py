@@ -194,9 +194,14 @@ class Walk:
         high = self.value(e[3])
         return low, high if e[2] is None else nodes.binary("-", "u64", high, low)
 
+    def cut(self, x, low, count):
+        """A part of a list, which must be within it."""
+        found = nodes.part(x, low, count)
+        return found if found is x else self.needs(found)
+
     def of_part(self, e):
         x = self.value(e[1])
-        return nodes.part(x, *self.span(e, nodes.length(x)))
+        return self.cut(x, *self.span(e, nodes.length(x)))
 
     def of_piece(self, e):
         """A part by its first place and its count."""
@@ -204,7 +209,7 @@ class Walk:
         whole = self.value(e[1][1]) if e[1][0] == "deref" else None
         if isinstance(whole, Lent) and whole.offset is None and nodes.is_const(low) and low.args[0] == 0 and count is whole.count:
             return self.lent(whole)
-        return nodes.part(self.value(e[1]), low, count)
+        return self.cut(self.value(e[1]), low, count)
 
     def of_ref(self, e):
         place = e[1]
@@ -223,7 +228,10 @@ class Walk:
             raise Unread("a part of a part is lent")
         count = nodes.length(self.lent(whole)) if whole.count is None else whole.count
         low, many = self.span(place, count) if place[0] == "part" else (self.value(place[2]), self.value(place[3]))
-        return whole if nodes.is_const(low) and low.args[0] == 0 and many is count else Lent(whole.root, low, many)
+        if nodes.is_const(low) and low.args[0] == 0 and many is count:
+            return whole
+        self.cut(self.state[whole.root], low, many)
+        return Lent(whole.root, low, many)
 
     def of_bin(self, e):
         _, op, kind, a, b = e
