@@ -287,7 +287,8 @@ class WholeFile(unittest.TestCase):
         for put in ("#define double float\n", "#if __GNUC__\nstatic int spare;\n#endif\n"):
             with self.assertRaises(rattle.Unread):
                 c_text.preprocessed(TEXT.replace("// ==== types\n", put, 1), ROOT / "c")
-        for put in ("static int spare;\n", "typedef struct { uint32_t number : 8; uint32_t place; } spare;\n", "typedef union { double x; } spare;\n"):
+        bits = "typedef struct { uint32_t number : 8; uint32_t place; } spare;\n"
+        for put in ("static int spare;\n", bits, "typedef union { double x; } spare;\n"):
             with self.assertRaises(rattle.Unread):
                 c_text.Program(c_text.parsed(c_text.prelude() + put))
 
@@ -359,6 +360,10 @@ class Small(unittest.TestCase):
     def test_not_same(self):
         put = "fn put(x: &mut f64) -> f64 { *x = 1.0; 2.0 }\n"
         c_put = "static double dihkelu_put(double *x) { *x = 1.0; return 2.0; }\n"
+        both = "fn both(x: &mut [f64; 4], y: &mut [f64; 4]) -> f64 { x[0] = 1.0; y[0] }\n"
+        c_both = "static double dihkelu_both(f64_x4 *x, f64_x4 *y) { x->at[0] = 1.0; return y->at[0]; }\n"
+        read = "fn read(y: &[f64; 4], x: &mut [f64; 4]) -> f64 { x[0] = 1.0; y[0] }\n"
+        c_read = "static double dihkelu_read(const f64_x4 *y, f64_x4 *x) { x->at[0] = 1.0; return y->at[0]; }\n"
         part, c_part, part_put, c_part_put = self.PARTS
         for rust, c in [
             # a division before the test that makes it safe
@@ -392,6 +397,15 @@ class Small(unittest.TestCase):
             # a part before the test that there is one
             ("(a: &[f64], n: usize) -> f64 { if n > a.len() { return 0.0; } g(&a[..n]) }\nfn g(a: &[f64]) -> f64 { 1.0 }",
              c_part.replace("i)", "n)") + "slice_f64 b = {a.at, n}; if (a.count < n) { return 0.0; } return dihkelu_g(b); }"),
+            # a list that is read through a pointer after it was changed, where the source reads a copy
+            ("(a: f64) -> f64 { let mut x = [a; 4]; let y = x; x[0] = 1.0; g(&y) }\nfn g(a: &[f64]) -> f64 { 1.0 }",
+             "static double dihkelu_g(slice_f64 a) { return 1.0; }\ndouble dihkelu_f(double a) { f64_x4 x;"
+             "for (size_t each = 0; each < 4; each++) { x.at[each] = a; } slice_f64 y = {x.at, 4}; x.at[0] = 1.0; return dihkelu_g(y); }"),
+            # two lists that are equal, and one of them lent twice
+            (f"(a: f64) -> f64 {{ let mut x = [a; 4]; let mut y = [a; 4]; both(&mut x, &mut y) }}\n{both}",
+             f"{c_both}double dihkelu_f(double a) {{ f64_x4 x = {{{{a, a, a, a}}}}; f64_x4 y = {{{{a, a, a, a}}}}; return dihkelu_both(&x, &x); }}"),
+            (f"(a: f64) -> f64 {{ let mut x = [a; 4]; let y = [a; 4]; read(&y, &mut x) }}\n{read}",
+             f"{c_read}double dihkelu_f(double a) {{ f64_x4 x = {{{{a, a, a, a}}}}; f64_x4 y = {{{{a, a, a, a}}}}; return dihkelu_read(&x, &x); }}"),
             # a variable that outlives its call
             ("(n: u64) -> u64 { let a = n; a + 1 }", "uint64_t dihkelu_f(uint64_t n) { static uint64_t a = n; return a + 1; }"),
             # a part of a list that is changed whole

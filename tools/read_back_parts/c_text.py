@@ -16,6 +16,7 @@ from pycparser import c_ast, c_generator, c_parser
 from . import nodes
 from .lower import MAXIMUM, Function
 from .rattle import Unread
+from .walk import root
 
 NUMBERS = {"uint8_t": "u8", "uint16_t": "u16", "uint32_t": "u32", "uint64_t": "u64", "size_t": "size_t", "double": "f64", "bool": "bool",
            "void": "unit"}
@@ -51,7 +52,8 @@ def preprocessed(text, folder):
     with tempfile.TemporaryDirectory() as there:
         for name, content in HEADERS.items():
             (Path(there) / name).write_text(content + "\n")
-        command = ["cc", "-E", "-undef", "-nostdinc", "-std=c11", "-D__attribute__(x)=", "-DDIHKELU_TRUST_ENVIRONMENT", f"-I{there}", f"-I{folder}", "-"]
+        defined = ["-undef", "-D__attribute__(x)=", "-DDIHKELU_TRUST_ENVIRONMENT"]
+        command = ["cc", "-E", "-std=c11", *defined, "-nostdinc", f"-I{there}", f"-I{folder}", "-"]
         done = subprocess.run(command, input=text, capture_output=True, text=True)
     if done.returncode:
         raise Unread(f"cc -E refused the C: {done.stderr[-500:]}")
@@ -221,6 +223,13 @@ class Program:
                 parts[d.name] = [(None, self.kind(d.type))]
         return [(v, parts[v]) for v in variants]
 
+    def holds_reference(self, kind):
+        if kind[0] == "array":
+            return self.holds_reference(kind[1])
+        if kind[0] == "struct":
+            return any(self.holds_reference(k) for _, k in self.structs[kind[1]])
+        return kind[0] == "ref"
+
     def kind(self, decl):
         if isinstance(decl, c_ast.PtrDecl):
             return ("ref", "const" not in decl.type.quals, self.kind(decl.type))
@@ -259,7 +268,7 @@ class Reading:
     """One function."""
 
     def __init__(self, program, definition, exported):
-        self.program, self.count, self.scopes = program, 0, [{}]
+        self.program, self.count, self.scopes, self.kinds = program, 0, [{}], {}
         name = definition.decl.name
         self.function = Function(name, f"C:{definition.coord.line}")
         self.function.exported = exported
@@ -297,8 +306,9 @@ class Reading:
 
     def bind(self, name, kind):
         self.count += 1
-        self.scopes[-1][name] = (f"{name}#{self.count}", kind)
-        return self.scopes[-1][name][0]
+        unique = f"{name}#{self.count}"
+        self.scopes[-1][name], self.kinds[unique] = (unique, kind), kind
+        return unique
 
     def local(self, e):
         for scope in reversed(self.scopes):
@@ -327,14 +337,14 @@ class Reading:
         if s.storage or s.bitsize:
             self.fail(s, f"the variable {s.name} does not live as long as its block")
         kind = self.program.kind(s.type)
-        code = None if s.init is None else self.ordered(s, self.given(s.init, kind))
+        code = None if s.init is None else self.kept(s, self.ordered(s, self.given(s.init, kind)), kind)
         return ("let", self.bind(s.name, kind), kind, code)
 
     def do_Assignment(self, s):
         if s.op != "=":
             self.fail(s, f"the assignment {s.op}")
         place, kind = self.expression(s.lvalue)
-        code = self.ordered(s, self.given(s.rvalue, kind))
+        code = self.kept(s, self.ordered(s, self.given(s.rvalue, kind)), kind)
         if place[0] != "var" and writing(code):
             self.fail(s, "a call that writes, beside a place that it may write")
         return ("set", place, code)
@@ -345,7 +355,7 @@ class Reading:
     def do_Return(self, s):
         if s.expr is None:
             return ("return", None)
-        return ("return", self.ordered(s, self.given(s.expr, self.function.result)))
+        return ("return", self.kept(s, self.ordered(s, self.given(s.expr, self.function.result)), self.function.result))
 
     def do_If(self, s):
         condition = self.ordered(s, self.given(s.cond, "bool"))
@@ -445,6 +455,30 @@ class Reading:
             self.fail(s, "a call that writes, beside other operands")
         return code
 
+    # ---- references
+
+    def shared(self, place):
+        """Whether a place lies behind a shared reference of a caller, where nothing is written until this function returns."""
+        kind = self.kinds[root(place)]
+        return self.program.holds_reference(kind) and not (kind[0] == "ref" and kind[1])
+
+    def kept(self, s, code, kind):
+        """Rule 'kept': a shared reference is taken for the value that is there when it is made. In C it is a pointer, and would see what is
+        written later. So one that is kept, in a variable or in what is returned, is never of a variable of this function or of
+        what this function may write."""
+        if self.program.holds_reference(kind):
+            for e in within(code):
+                if e[0] == "ref" and len(e) == 2 or e[0] in ("lend", "piece", "deref") and not self.shared(e[1]):
+                    self.fail(s, "a pointer is kept to what may be written")
+        return code
+
+    def apart(self, e, given, kinds):
+        """Rule 'apart': what a call may write, no other argument of it points to. The source's borrow rule says so of the source."""
+        roots = pointed(given, kinds)
+        for code, kind in zip(given, kinds):
+            if kind[0] == "ref" and kind[1] and roots.count(root(code)) != 1:
+                self.fail(e, "two arguments point to what the call may write")
+
     # ---- values for a place
 
     def given(self, e, want):
@@ -464,7 +498,7 @@ class Reading:
         if kind in WIDTH and want in WIDTH and WIDTH[kind] < WIDTH[want]:
             return ("cast", want, code)
         if kind[0] == "ref" and want == ("ref", False, kind[2]):
-            return code[1] if code[0] == "ref" else ("deref", code)
+            return ("lend", code[1]) if code[0] == "ref" else ("deref", code)
         return self.fail(e, f"{kind} where {want} is wanted")
 
     def zero(self, e, kind):
@@ -727,7 +761,9 @@ class Reading:
         if len(parameters) != len(given):
             self.fail(e, f"another count of arguments of {name}")
         kinds = [kind for _, kind in parameters]
-        return ("call", name, [self.given(x, kind) for x, kind in zip(given, kinds)], kinds, result), result
+        codes = [self.given(x, kind) for x, kind in zip(given, kinds)]
+        self.apart(e, codes, kinds)
+        return ("call", name, codes, kinds, result), result
 
 
 # ---- questions about trees and code
@@ -738,6 +774,25 @@ def names_in(e):
         return {e.name}
     children = [e.name] if isinstance(e, c_ast.StructRef) else [child for _, child in e.children()]
     return set().union(*map(names_in, children))
+
+
+def within(code):
+    """All expressions within code, itself among them."""
+    if isinstance(code, tuple) and code and isinstance(code[0], str):
+        yield code
+    for part in code if isinstance(code, (tuple, list)) else ():
+        yield from within(part)
+
+
+def pointed(given, kinds):
+    """The variables that arguments point to, also by way of a call among them that returns a part of what it is lent."""
+    found = []
+    for code, kind in zip(given, kinds):
+        if code[0] == "call":
+            found += pointed(code[2], code[3])
+        elif kind[0] == "ref":
+            found.append(root(code))
+    return found
 
 
 def leaves(statements):

@@ -181,6 +181,10 @@ class Walk:
         x = self.value(e[1])
         return self.lent(x) if isinstance(x, Lent) else x
 
+    def of_lend(self, e):
+        """A place that is lent to be read."""
+        return self.value(e[1])
+
     def of_len(self, e):
         x = self.value(e[1])
         if isinstance(x, Lent):
