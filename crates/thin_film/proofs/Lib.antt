@@ -1,5 +1,6 @@
 -- Known answers; that both evaluations refuse alike; and what stays in the glass.
 pub mod Known
+pub mod Coatings
 pub mod Alike
 pub mod InTheGlass
 pub mod Decimals
