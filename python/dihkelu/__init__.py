@@ -22,6 +22,7 @@ from .calls import (
     Train,
     WrongEnvironment,
     answers,
+    answers_at,
     band,
     bragg_mirror,
     coating_from_name,
@@ -54,6 +55,7 @@ from .calls import (
     surface_fresnel_jones,
     to_mueller,
     to_stokes,
+    trim,
     version,
 )
 from .library import LibraryMissing
