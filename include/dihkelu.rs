@@ -53,6 +53,14 @@ extern "C" {
         list: *mut f64,
         list_count: usize,
     ) -> u64;
+    fn dihkelu_answers_at(
+        sheet: *const u8,
+        sheet_count: usize,
+        surface: u32,
+        wavelength_nm: f64,
+        list: *mut f64,
+        list_count: usize,
+    ) -> u64;
     fn dihkelu_evaluate(
         code: u32,
         design_wavelength_nm: f64,
@@ -166,6 +174,7 @@ extern "C" {
     ) -> u64;
     fn dihkelu_coating_from_name(name: *const u8, name_count: usize) -> u64;
     fn dihkelu_coating_name(code: u32, output: *mut u8, output_count: usize) -> u64;
+    fn dihkelu_trim(name: *const u8, name_count: usize, place: *mut u64, length: *mut u64) -> u64;
     fn dihkelu_to_stokes(
         field: *const f64,
         field_count: usize,
@@ -411,6 +420,19 @@ pub fn answers(sheet: &[u8], surface: u32, list: &mut [f64]) -> Result<u32, Refu
     outcome(unsafe { dihkelu_answers(sheet.as_ptr(), sheet.len(), surface, at, count) })
 }
 
+/// The same where the train is retuned to a wavelength right before that surface is stepped.
+pub fn answers_at(
+    sheet: &[u8],
+    surface: u32,
+    wavelength_nm: f64,
+    list: &mut [f64],
+) -> Result<u32, Refusal> {
+    let (at, count) = (list.as_mut_ptr(), list.len());
+    outcome(unsafe {
+        dihkelu_answers_at(sheet.as_ptr(), sheet.len(), surface, wavelength_nm, at, count)
+    })
+}
+
 /// The light that meets a coated surface, from one index to the other. An array has its numbers in this order.
 #[derive(Clone, Copy, Debug, PartialEq)]
 pub struct Incidence {
@@ -653,6 +675,13 @@ pub const NAME: usize = 6;
 pub fn coating_name(code: u32, output: &mut [u8]) -> Result<u32, Refusal> {
     let (at, count) = (output.as_mut_ptr(), output.len());
     outcome(unsafe { dihkelu_coating_name(code, at, count) })
+}
+
+/// Where the trimmed part of a name lies in it: the call takes all bytes and refuses none.
+pub fn trim(name: &[u8]) -> std::ops::Range<usize> {
+    let (mut place, mut length) = (0, 0);
+    unsafe { dihkelu_trim(name.as_ptr(), name.len(), &mut place, &mut length) };
+    place as usize..(place + length) as usize
 }
 
 /// The Stokes vector of a Jones vector: writes it, gives 4.

@@ -23,6 +23,7 @@ from .calls import (
     StokesFigures,
     Train,
     answers,
+    answers_at,
     band,
     bragg_mirror,
     coating_from_name,
@@ -55,6 +56,7 @@ from .calls import (
     surface_fresnel_jones,
     to_mueller,
     to_stokes,
+    trim,
     version,
 )
 from .library import LibraryMissing, WrongEnvironment, environment_ok

@@ -200,14 +200,24 @@ class Answers:
     response: Response | None
 
 
-def answers(sheet: SheetLike, surface: int) -> Answers:
-    """Of a sheet's surface, counted from 0, at the wavelength that steps alone meet it with."""
+def _answers(call: str, sheet: SheetLike, surface: int, *wavelength_nm: float) -> Answers:
+    """A surface's answers by a call; no sheet has a surface 64."""
     data = _bytes(sheet)
     out = _numbers(count=69)
-    count = answered(_library.dihkelu_answers(data, len(data), _within(surface, 0xFFFFFFFF), out, len(out)), "answers")
+    count = answered(getattr(_library, "dihkelu_" + call)(data, len(data), _within(surface, 0xFFFFFFFF), *wavelength_nm, out, len(out)), call)
     x = out[:count]
     matrices = _matrix(x[5:13]), _matrix(x[13:21]), _mueller(x[21:37]), _mueller(x[37:53])
     return Answers(x[0] == 1.0, x[1], x[2], x[3], x[4], *matrices, _response(x[53:]) if count > 53 else None)
+
+
+def answers(sheet: SheetLike, surface: int) -> Answers:
+    """Of a sheet's surface, counted from 0, at the wavelength that steps alone meet it with."""
+    return _answers("answers", sheet, surface)
+
+
+def answers_at(sheet: SheetLike, surface: int, wavelength_nm: float) -> Answers:
+    """The same where the train is retuned to a wavelength right before that surface is stepped."""
+    return _answers("answers_at", sheet, surface, float(wavelength_nm))
 
 
 def _layer(place: int, x: Any) -> tuple[float, float, float]:
@@ -491,6 +501,14 @@ def coating_name(code: int) -> str:
     out = (ctypes.c_uint8 * 6)()
     count = answered(_library.dihkelu_coating_name(_within(code, 9), out, len(out)), "coating_name")
     return bytes(out[:count]).decode()
+
+
+def trim(name: str | bytes) -> tuple[int, bytes]:
+    """The trimmed part of a name, as `coating_from_name` reads it: its place among the name's bytes, and its bytes."""
+    data = name.encode() if isinstance(name, str) else name
+    place, length = ctypes.c_uint64(), ctypes.c_uint64()
+    answered(_library.dihkelu_trim(data, len(data), place, length), "trim")
+    return place.value, data[place.value : place.value + length.value]
 
 
 def to_stokes(field: Sequence[complex]) -> Stokes:

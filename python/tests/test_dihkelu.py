@@ -172,6 +172,9 @@ class Refusals(unittest.TestCase):
             (dihkelu.OutOfGrammar, 5, 8, lambda: dihkelu.gate(out_of_grammar)),
             (dihkelu.OutsideLimits, 6, 1, lambda: dihkelu.run(outside)),
             (dihkelu.NoSuchSurface, 7, 0, lambda: dihkelu.answers(BARE, 1)),
+            (dihkelu.NoSuchSurface, 7, 0, lambda: dihkelu.answers(BARE, 1 << 32)),
+            (dihkelu.NoSuchSurface, 7, 0, lambda: dihkelu.answers_at(BARE, -1, 99.0)),
+            (dihkelu.WavelengthRefused, 11, 0, lambda: dihkelu.answers_at(BARE, 0, 99.0)),
             (dihkelu.NoStack, 9, 3, lambda: dihkelu.stack("H^32H", 2.3, 1.46)),
             (dihkelu.StackTooLong, 10, 0, lambda: dihkelu.stack("(H^31)^31", 2.3, 1.46)),
             (dihkelu.Retuned, 12, 8, lambda: dihkelu.edition_1(RETUNED)),
@@ -230,6 +233,15 @@ class Surfaces(unittest.TestCase):
         self.assertEqual(a.reflectance_s, a.response.reflectance_s)
         self.assertEqual(a.jones_reflected[0][0], a.response.rs)
         self.assertEqual(dihkelu.to_mueller(a.jones_reflected), a.mueller_reflected)
+
+    def test_answers_after_a_retune(self):
+        glass = (Glass(2.2, 0.03, 0.001, 60.0),)
+        faces = [Surface(Coating.CUSTOM, 1.0, 1.5, 0.5, layers=glass), Surface(Coating.MGF2, 1.0, 1.52, 0.3, retune_nm=800.0)]
+        sheet = Sheet(550.0, 1.0, 1.0, tuple(faces), edition=2)
+        at = lambda nm: Sheet(nm, 1.0, 1.0, (faces[0],), edition=2)
+        self.assertEqual(dihkelu.answers_at(sheet, 0, 632.8), dihkelu.answers(at(632.8), 0))
+        self.assertNotEqual(dihkelu.answers_at(sheet, 0, 632.8), dihkelu.answers(sheet, 0))
+        self.assertEqual(dihkelu.answers_at(sheet, 1, 632.8), dihkelu.answers(sheet, 1))
 
     def test_lists(self):
         angles = [0.0, 0.25, 0.5]
@@ -376,6 +388,10 @@ class Surfaces(unittest.TestCase):
             self.assertEqual(dihkelu.coating_name(code), name)
             self.assertEqual(dihkelu.coating_from_name(name), code)
         self.assertEqual([dihkelu.coating_name(code) for code in range(5, 9)], ["CUSTOM"] * 4)
+        for name in ("", " ", " \t\n\v\f\r MgF2 \r", "a b", "\x00 \x1f", "\xa0AR\x85", b"\xff \x80 "):
+            data = name.encode() if isinstance(name, str) else name
+            part = data.strip(b"\t\n\v\f\r ")
+            self.assertEqual(dihkelu.trim(name), (data.index(part), part))
 
     def test_polarization(self):
         self.assertEqual(dihkelu.to_stokes((1.0, 1j)), (2.0, 0.0, 0.0, 2.0))
