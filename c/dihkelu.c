@@ -183,6 +183,12 @@ typedef struct {
     uint64_t len;
 } name_bytes_Span;
 
+// A part of a lent name, with its place in it.
+typedef struct {
+    slice_u8 bytes;
+    uint64_t place;
+} name_bytes_Part;
+
 // One film: letter 0, 1 or 2 is H, L or M. The multiplier is 0 where none is written.
 typedef struct {
     uint8_t letter;
@@ -1124,6 +1130,32 @@ static slice_u8 name_bytes_trimmed(slice_u8 name) {
     uint64_t a = s.place;
     uint64_t e = a + s.len;
     return (slice_u8){a == 0 ? name.at : name.at + a, e - a};
+}
+
+// Where the trimmed part of a name begins in it.
+static uint64_t name_bytes_place(slice_u8 name) {
+    name_bytes_Span s = name_bytes_trim_span(name);
+    return s.place;
+}
+
+// The trimmed part of the caller's name, with its place in it.
+static name_bytes_Part name_bytes_trim(slice_u8 name) {
+    return (name_bytes_Part){.bytes = name_bytes_trimmed(name), .place = name_bytes_place(name)};
+}
+
+// Where a part lies, and how long it is.
+static name_bytes_Span name_bytes_span_of(slice_u8 bytes, uint64_t place) {
+    return (name_bytes_Span){.place = place, .len = bytes.count};
+}
+
+// The numbers of a part.
+static name_bytes_Span name_bytes_numbers(name_bytes_Part part) {
+    return name_bytes_span_of(part.bytes, part.place);
+}
+
+// Those of the trimmed part of a name, for callers who are handed no reference.
+static name_bytes_Span name_bytes_trim_numbers(slice_u8 name) {
+    return name_bytes_numbers(name_bytes_trim(name));
 }
 
 // p stands at the beginning of s.
@@ -5710,7 +5742,8 @@ static uint64_t c_presets_bragg_mirror(double n_high, double n_low, uint32_t pai
 
 // ==== c_names
 //
-// Names of coatings for callers in C: the code that a name stands for, and the name of a code's coating.
+// Names of coatings for callers in C: the code that a name stands for, the name of a code's coating, and the trimmed part
+// of a name.
 
 // The code of a coating of the user's own.
 static uint32_t c_names_custom_code(thin_film_coating_Coating coating) {
@@ -5811,6 +5844,14 @@ static uint64_t c_names_coating_name(uint32_t code, slice_mut_u8 output) {
         return c_names_put_name(coating, output);
     }
     return 0x200000000u;
+}
+
+// The trimmed part of a name: writes its place in the name and its length in bytes; takes all bytes and returns 0.
+static uint64_t c_names_trim(slice_u8 name, uint64_t *place, uint64_t *length) {
+    name_bytes_Span span = name_bytes_trim_numbers(name);
+    *place = span.place;
+    *length = span.len;
+    return 0;
 }
 
 // ==== c_polarization
@@ -6534,10 +6575,20 @@ static bool gate_holds(slice_u8 src, uint32_t done, uint32_t count, double wavel
 // The surfaces of a sheet by their numbers, counted from 0: document 01, section 7. Each call is handed
 // the sheet's bytes and gates them anew.
 
+// A refusal, beside which every number is zero.
 static sheet_surfaces_SurfaceReply sheet_surfaces_refused(refusal_Refusal refusal) {
     surface_AnswersReply reply = surface_refused(refusal.number);
     surface_Answers answers = reply.answers;
     return (sheet_surfaces_SurfaceReply){.refusal = refusal, .answers = answers};
+}
+
+// Of the SURFACE at a place, with the layers after it, met with a wavelength.
+static sheet_surfaces_SurfaceReply sheet_surfaces_answers_met(slice_u8 src, uint64_t at, double wavelength_nm) {
+    uint64_t n = sheet_layer_run(src, at);
+    gate_limits_Surface surface = sheet_values_surface_at(src, at);
+    surface_AnswersReply reply = sheet_answers_answers_at(src, at, n, surface, wavelength_nm);
+    surface_Answers answers = reply.answers;
+    return (sheet_surfaces_SurfaceReply){.refusal = {.number = reply.refusal, .place = 0}, .answers = answers};
 }
 
 // Of the i-th surface, counted from 0, at the wavelength that a list of steps alone meets it with.
@@ -6548,13 +6599,8 @@ static sheet_surfaces_SurfaceReply sheet_surfaces_surface_answers(slice_u8 src, 
         if (count <= i) {
             return sheet_surfaces_refused((refusal_Refusal){.number = 7, .place = 0});
         }
-        uint64_t at = sheet_place_of(src, i);
-        uint64_t n = sheet_layer_run(src, at);
-        gate_limits_Surface surface = sheet_values_surface_at(src, at);
         double wavelength_nm = sheet_values_wavelength_of(src, i);
-        surface_AnswersReply reply = sheet_answers_answers_at(src, at, n, surface, wavelength_nm);
-        surface_Answers answers = reply.answers;
-        return (sheet_surfaces_SurfaceReply){.refusal = {.number = reply.refusal, .place = 0}, .answers = answers};
+        return sheet_surfaces_answers_met(src, sheet_place_of(src, i), wavelength_nm);
     }
     refusal_Refusal r = value.as.Refused;
     return sheet_surfaces_refused(r);
@@ -6902,6 +6948,30 @@ static gate_Gated train_steps_run(slice_u8 src, slice_mut_f64 list) {
     }
     refusal_Refusal r = value.as.Refused;
     return (gate_Gated){.tag = gate_Gated_Refused, .as.Refused = r};
+}
+
+// ==== sheet_retuned
+//
+// Document 02, slip 5: the answers of a sheet's surface where the train is retuned right before it is stepped. The call is
+// handed the sheet's bytes and gates them anew.
+
+// Of the i-th surface, counted from 0: at the wavelength of the retune, or at that of a kind 7 before the surface.
+static sheet_surfaces_SurfaceReply sheet_retuned_answers_at(slice_u8 src, uint32_t i, double wavelength_nm) {
+    gate_Gated value = gate_gate(src);
+    if (value.tag == gate_Gated_Admitted) {
+        uint32_t count = value.as.Admitted;
+        if (count <= i) {
+            return sheet_surfaces_refused((refusal_Refusal){.number = 7, .place = 0});
+        }
+        if (!gate_holds(src, i, count, wavelength_nm)) {
+            return sheet_surfaces_refused((refusal_Refusal){.number = 11, .place = 0});
+        }
+        uint64_t begin = sheet_begin_of(src, i);
+        double met_nm = sheet_values_met_with(src, begin, wavelength_nm);
+        return sheet_surfaces_answers_met(src, sheet_onto(src, begin), met_nm);
+    }
+    refusal_Refusal r = value.as.Refused;
+    return sheet_surfaces_refused(r);
 }
 
 // ==== band
@@ -7319,6 +7389,14 @@ uint64_t dihkelu_coating_name(uint32_t code, uint8_t *output_at, size_t output_c
     return c_names_coating_name(code, output);
 }
 
+// The trimmed part of a name: bytes 0x09 to 0x0D and 0x20 go from both ends. Writes its place in the name and its length
+// in bytes, and returns 0; a name without any other byte has a part of length 0 at place 0. It takes all bytes and
+// refuses none.
+uint64_t dihkelu_trim(const uint8_t *name_at, size_t name_count, uint64_t *place, uint64_t *length) {
+    slice_u8 name = {name_at, name_count};
+    return c_names_trim(name, place, length);
+}
+
 // JonesVector::to_stokes: writes S0 to S3 and returns 4.
 static uint64_t dihkelu_to_stokes_body(const double *field_at, size_t field_count, double *list_at,
         size_t list_count) {
@@ -7683,13 +7761,8 @@ uint64_t dihkelu_band(const uint8_t *sheet_at, size_t sheet_count, const double 
     return returned;
 }
 
-// Of a sheet's surface, counted from 0: writes its answers and returns the count of their numbers; or
-// a refusal: 4, 5, 6, 7 where there is no such surface, then 8.
-static uint64_t dihkelu_answers_body(const uint8_t *sheet_at, size_t sheet_count, uint32_t surface, double *list_at,
-        size_t list_count) {
-    slice_u8 sheet = {sheet_at, sheet_count};
-    slice_mut_f64 list = {list_at, list_count};
-    sheet_surfaces_SurfaceReply reply = sheet_surfaces_surface_answers(sheet, surface);
+// Answers, or the refusal that stands beside them.
+static uint64_t dihkelu_put_surface(sheet_surfaces_SurfaceReply reply, slice_mut_f64 list) {
     refusal_Refusal refusal = reply.refusal;
     if (refusal.number != 0) {
         return c_call_packed(refusal);
@@ -7698,11 +7771,38 @@ static uint64_t dihkelu_answers_body(const uint8_t *sheet_at, size_t sheet_count
     return c_call_put_answers(answers, list);
 }
 
+// Of a sheet's surface, counted from 0: writes its answers and returns the count of their numbers; or
+// a refusal: 4, 5, 6, 7 where there is no such surface, then 8.
+static uint64_t dihkelu_answers_body(const uint8_t *sheet_at, size_t sheet_count, uint32_t surface, double *list_at,
+        size_t list_count) {
+    slice_u8 sheet = {sheet_at, sheet_count};
+    slice_mut_f64 list = {list_at, list_count};
+    return dihkelu_put_surface(sheet_surfaces_surface_answers(sheet, surface), list);
+}
+
 uint64_t dihkelu_answers(const uint8_t *sheet_at, size_t sheet_count, uint32_t surface, double *list_at,
         size_t list_count) {
     uint64_t (*LOOKED_UP body)(const uint8_t *, size_t, uint32_t, double *, size_t) = dihkelu_answers_body;
     environment caller = environment_enter();
     uint64_t returned = body(sheet_at, sheet_count, surface, list_at, list_count);
+    environment_leave(caller);
+    return returned;
+}
+
+// The same where the train is retuned to a wavelength right before that surface is stepped; a kind 7 before the surface
+// acts over it. Refuses with 4, 5, 6, 7, then 11 where that retune is refused, then 8.
+static uint64_t dihkelu_answers_at_body(const uint8_t *sheet_at, size_t sheet_count, uint32_t surface,
+        double wavelength_nm, double *list_at, size_t list_count) {
+    slice_u8 sheet = {sheet_at, sheet_count};
+    slice_mut_f64 list = {list_at, list_count};
+    return dihkelu_put_surface(sheet_retuned_answers_at(sheet, surface, wavelength_nm), list);
+}
+
+uint64_t dihkelu_answers_at(const uint8_t *sheet_at, size_t sheet_count, uint32_t surface, double wavelength_nm,
+        double *list_at, size_t list_count) {
+    uint64_t (*LOOKED_UP body)(const uint8_t *, size_t, uint32_t, double, double *, size_t) = dihkelu_answers_at_body;
+    environment caller = environment_enter();
+    uint64_t returned = body(sheet_at, sheet_count, surface, wavelength_nm, list_at, list_count);
     environment_leave(caller);
     return returned;
 }

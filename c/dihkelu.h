@@ -32,8 +32,8 @@
  *   9  stack: no text can have the byte at this place; the place is the count of bytes where the text stops early, and
  *      255 for a text over 255 bytes
  *  10  stack: more than 64 layers
- *  11  step, retune: the wavelength is NaN or outside 100 to 10,000 nm, or a layer still to come fails at it, of those up
- *      to the next kind 7
+ *  11  step, retune, answers_at: the wavelength is NaN or outside 100 to 10,000 nm, or a layer still to come fails at it, of
+ *      those up to the next kind 7
  *  12  edition_1, band: the kind 7 at this place, the first of the sheet
  *  13  reflectance_range: a low end is above its high end, or an end is NaN or outside 1 to 4
  *  14  quarter_waves: n is outside 1 to 4, the thickness outside 0 to 100,000 or the wavelength outside 100 to 10,000, or
@@ -62,7 +62,8 @@
  *   - The list or the output overlaps neither the sheet nor the text nor the layers nor the Jones matrix nor the band nor the angles, and
  *     no other thread writes
  *     any of them meanwhile.
- *   - One double that is written, remainder_nm, is a pointer that is not null, to a double that is there, aligned and writable.
+ *   - One number that is written, remainder_nm, or place and length, is a pointer that is not null, to a number that is there,
+ *     aligned and writable; place and length are apart from each other and from the name.
  *
  * THE FLOATING-POINT ENVIRONMENT. The library that is built from C (c/) works in any: a call sets what its answers are
  * proved for, rounding to nearest, subnormal numbers kept, no exception trapped, and gives the caller's environment back
@@ -220,6 +221,12 @@ DIHKELU_MUST_USE uint64_t dihkelu_band(const uint8_t *sheet, size_t sheet_count,
 DIHKELU_MUST_USE uint64_t dihkelu_answers(const uint8_t *sheet, size_t sheet_count, uint32_t surface, double *list,
                                           size_t list_count);
 
+/* The same where the train is retuned to wavelength_nm right before that surface is stepped: at this wavelength, or
+ * at that of a kind 7 before the surface, which acts over the retune. Refuses with 4, 5, 6, 7, then 11 as
+ * dihkelu_retune does with so many surfaces done, then 8. */
+DIHKELU_MUST_USE uint64_t dihkelu_answers_at(const uint8_t *sheet, size_t sheet_count, uint32_t surface,
+                                             double wavelength_nm, double *list, size_t list_count);
+
 /* SurfaceCoating::evaluate. Codes: 1 IdealAr, 2 MgF2 (at the design wavelength), 3 BroadbandAr,
  * 4 HighReflectanceMirror, 5 Custom layers, 6 Custom beamsplitter, 7 Custom mirror, 8 Custom IdealAr. The layers are
  * n, k, thickness in nm of one after the other, from the side of the lower index (from the incident side where both are
@@ -337,6 +344,11 @@ DIHKELU_MUST_USE uint64_t dihkelu_coating_from_name(const uint8_t *name, size_t 
  * dihkelu_coating_from_name gives the code of the name back, but 1 for CUSTOM. Refuses with 2 for any other code, then
  * with 8. */
 DIHKELU_MUST_USE uint64_t dihkelu_coating_name(uint32_t code, uint8_t *output, size_t output_count);
+
+/* The trimmed part of a name, as dihkelu_coating_from_name reads it: bytes 0x09 to 0x0D and 0x20 go from both ends. Writes
+ * its place in the name and its length in bytes, and returns 0. A name without any other byte has a part of length 0 at
+ * place 0. Takes all bytes and refuses none. */
+DIHKELU_MUST_USE uint64_t dihkelu_trim(const uint8_t *name, size_t name_count, uint64_t *place, uint64_t *length);
 
 /* ---- Jones and Stokes vectors. A Jones vector is 4 doubles, Ex and Ey, each re, im; a Stokes vector is S0 to S3; a Jones
  * matrix is 8 doubles, as dihkelu_to_mueller takes it; a Mueller matrix is 16, row after row. A list of another count is
