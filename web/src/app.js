@@ -228,9 +228,12 @@ function sweepPicture(over) {
   };
   csv = sweepCsv(points, over === "angle" ? "angle_deg" : "wavelength_nm", plan);
   const refused = points.filter((point) => point.refused);
-  const metals = over === "wavelength" && hasFixedMetals(plan) ? `${FIXED_METALS} ` : "";
-  by("picture-said").textContent = metals;
-  if (refused.length) by("picture-said").textContent = `${metals}Refused at ${counted(refused.length, "point")} of ${points.length}, the first at ${short(refused[0].at, 8)}: ${refused[0].refused}`;
+  const retuned = plan.faces.findIndex((face) => face.retune !== null);
+  const said = [];
+  if (over === "wavelength" && hasFixedMetals(plan)) said.push(FIXED_METALS);
+  if (over === "wavelength" && retuned >= 0) said.push(`From surface ${retuned + 1} on the wavelength is ${short(plan.faces[retuned].retune)} nm, by its own cell.`);
+  if (refused.length) said.push(`Refused at ${counted(refused.length, "point")} of ${points.length}, the first at ${short(refused[0].at, 8)}: ${refused[0].refused}`);
+  by("picture-said").textContent = said.join(" ");
 }
 
 function bandPicture() {

@@ -44,7 +44,7 @@ export function resultsOf(model) {
     sheet = sheetOf(plan);
     bytes = toBytes(sheet);
     const after = run(bytes);
-    const more = { notes: notes(plan, sheet), hints: hints(model, sheet, COATINGS), edition: editionOf(sheet) };
+    const more = { notes: notes(plan, sheet), hints: hints(model, sheet, COATINGS, after), edition: editionOf(sheet) };
     return { plan, problems, sheet, bytes, losses: lossesOf(sheet, bytes, after), total: totalOf(sheet, after), ...more };
   } catch (error) {
     if (error instanceof Wrong) return { plan, problems: [{ path: error.path, sentence: error.message }] };

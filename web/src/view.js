@@ -60,7 +60,7 @@ function layerFields(path, layer, where) {
   if (layer.kind === "quarter") {
     return [n, labelled("quarter waves", input(`${path}.count`, layer.count, of("quarter waves"), { size: 4 })), labelled("at", input(`${path}.design`, layer.design, of("design wavelength")))];
   }
-  return [n, labelled("thickness", input(`${path}.thickness`, layer.thickness, of("thickness"))), labelled("k", input(`${path}.k`, layer.k, of("k"), { size: 5, placeholder: "0" }))];
+  return [n, labelled("thickness", input(`${path}.thickness`, layer.thickness, of("thickness"))), labelled("k", input(`${path}.k`, layer.k, of("k"), { size: 5 }))];
 }
 
 function layerLine(path, layer, place, where) {
