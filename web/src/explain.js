@@ -226,16 +226,18 @@ function presetHint(surface, nm, name, called) {
 // A number behind a bracket belongs to the letter after it.
 function stackHints(model) {
   const coats = model.rows.flatMap((row) => (row.kind === "window" ? [row.front, ...(row.alike ? [] : [row.back])] : [row.coat]));
-  const texts = coats.filter((coat) => coat.name === "custom").flatMap((coat) => coat.layers.filter((layer) => layer.kind === "stack").map((layer) => layer.text));
-  return texts.flatMap((text) => {
-    const found = /(\([^()]*\))\s*([0-9]+)\s*([HLM])/.exec(text);
-    return found ? [`in '${text}' the ${found[2]} makes the ${found[3]} behind it ${found[2]} quarter waves thick; to repeat the bracket write ${found[1]}^${found[2]}`] : [];
+  const layers = coats.filter((coat) => coat.name === "custom").flatMap((coat) => coat.layers);
+  return layers.filter((layer) => layer.kind === "stack").flatMap(({ text }) => {
+    const [, bracket, digits, letter] = /(\([^()]*\))\s*([0-9]+)\s*([HLM])/.exec(text) || [];
+    const thick = `in '${text}' the ${digits} makes the ${letter} behind it ${digits} quarter waves thick`;
+    return bracket ? [`${thick}; to repeat the bracket write ${bracket}^${digits}`] : [];
   });
 }
 
 function angleHint(surface, name) {
   if (Math.abs(surface.angle) <= Math.PI / 2) return [];
-  return [`${name} is at ${written(surface.angle)} rad, ${(surface.angle / DEGREE).toFixed(2)} deg, more than a right angle; where degrees are meant write deg`];
+  const degrees = `${(surface.angle / DEGREE).toFixed(2)} deg, more than a right angle`;
+  return [`${name} is at ${written(surface.angle)} rad, ${degrees}; where degrees are meant write deg`];
 }
 
 export function hints(model, sheet, names, after) {
