@@ -34,8 +34,38 @@ function kAt(index, nm) {
 // The index of what a surface lies between, which has no k.
 function clearAt(index, nm) {
   const k = kAt(index, nm);
-  if (k !== 0) throw new Wrong(`${index.material.name} has k ${written(k)} at ${written(nm)} nm, and a surface lies between indices without k: make it a layer`);
+  const has = () => `${index.material.name} has k ${written(k)} at ${written(nm)} nm`;
+  if (k !== 0) throw new Wrong(`${has()}, and a surface lies between indices without k: make it a layer`);
   return indexAt(index, nm);
+}
+
+// ---- materials that have a table
+
+// The words of each line of a table that has some.
+export function tableWords(cell) {
+  const lines = cell.split("\n").map((line) => line.trim().split(/\s+/).filter(Boolean).flatMap(apart));
+  return lines.filter((words) => words.length);
+}
+
+const LINE_FORM = "write it as 1064 nm 0.26 6.97, the wavelength, n and k";
+
+function tablePoint(words) {
+  const [nm, name, n, k] = words.length === 3 ? [words[0], "nm", words[1], words[2]] : words;
+  if (words.length < 3 || words.length > 4 || !LENGTH.includes(unit(name))) throw new Wrong(`'${words.join(" ")}' is no line: ${LINE_FORM}`);
+  return { nm: quantity(`${nm} ${name}`, LENGTH).value, n: number(n), k: number(k) };
+}
+
+// The lines of a material's table, each a wavelength, n and k.
+function pointsOf(cell) {
+  const points = tableWords(cell).map(tablePoint);
+  if (!points.length) throw new Wrong(`a table has a line for each wavelength: ${LINE_FORM}`);
+  points.forEach((one, i) => {
+    const twice = points.findIndex((other) => other.nm === one.nm) !== i;
+    if (twice || ![one.nm, one.n, one.k].every(Number.isFinite)) {
+      throw new Wrong(`there is a line for ${written(one.nm)} nm already, or a number of it is not finite: mend it`);
+    }
+  });
+  return points;
 }
 
 // ---- stacks in shorthand
@@ -116,23 +146,6 @@ class Reader {
     this.problems.push({ path, sentence });
   }
 
-  // The lines of a material's table, each a wavelength, n and k.
-  points(path) {
-    const read = (cell) => {
-      const lines = cell.split("\n").map((line) => line.trim().split(/\s+/).filter(Boolean).flatMap(apart)).filter((words) => words.length);
-      if (!lines.length) throw new Wrong("a table has a line for each wavelength: write it as 1064 nm 0.26 6.97, the wavelength, n and k");
-      const points = lines.map((words) => {
-        const [nm, name, n, k] = words.length === 3 ? [words[0], "nm", words[1], words[2]] : words;
-        if (words.length < 3 || words.length > 4 || !LENGTH.includes(unit(name))) throw new Wrong(`'${words.join(" ")}' is no line: write it as 1064 nm 0.26 6.97, the wavelength, n and k`);
-        return { nm: quantity(`${nm} ${name}`, LENGTH).value, n: number(n), k: number(k) };
-      });
-      const twice = points.find((one, i) => points.findIndex((other) => other.nm === one.nm) !== i || ![one.nm, one.n, one.k].every(Number.isFinite));
-      if (twice) throw new Wrong(`there is a line for ${written(twice.nm)} nm already, or a number of it is not finite: mend it`);
-      return points;
-    };
-    return this.cell(path, read, []);
-  }
-
   material(path) {
     const one = at(this.model, path);
     const name = one.name.trim();
@@ -144,7 +157,7 @@ class Reader {
     } else if (this.materials.has(small)) {
       this.wrong(`${path}.name`, `there is a material '${name}' already: take another name`);
     }
-    if (one.kind === "table") return void this.materials.set(small, { name: small, points: this.points(`${path}.lines`) });
+    if (one.kind === "table") return void this.materials.set(small, { name: small, points: this.cell(`${path}.lines`, pointsOf, []) });
     const [a, b, c] = ["a", "b", "c"].map((part) => this.number(`${path}.${part}`));
     this.materials.set(small, { name: small, a, b, c, k: one.k.trim() ? this.number(`${path}.k`) : 0 });
   }

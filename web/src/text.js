@@ -1,6 +1,6 @@
 // The text of a sheet that people write and read (docs/SHEETS.md), to the table and back.
 import { newCoat, newMaterial } from "./model.js";
-import { indexOf, plainStack } from "./plan.js";
+import { indexOf, plainStack, tableWords } from "./plan.js";
 import { COATINGS } from "./sheet.js";
 import { BEGINS_NUMBER, Wrong, apart, number, plain, quantity, unit, written } from "./words.js";
 
@@ -237,7 +237,8 @@ function linesOf(bytes) {
   const lines = whole.split(/\r\n|\n|\r/);
   lines.forEach((content, i) => {
     const control = /[\0-\x08\x0b-\x1f\x7f]/.exec(content);
-    if (control) throw new Wrong(`line ${i + 1}: the control byte 0x${control[0].charCodeAt(0).toString(16).toUpperCase().padStart(2, "0")} stands in the text: take it out`);
+    const digits = control && control[0].charCodeAt(0).toString(16).toUpperCase().padStart(2, "0");
+    if (control) throw new Wrong(`line ${i + 1}: the control byte 0x${digits} stands in the text: take it out`);
   });
   return lines;
 }
@@ -323,9 +324,9 @@ function rowLines(row) {
 
 function materialLinesOf(one) {
   const begin = `material ${one.name.trim()}`;
-  if (one.kind !== "table") return [`${begin} a ${wordText(one.a)} b ${wordText(one.b)} c ${wordText(one.c)}${one.k.trim() ? ` k ${wordText(one.k)}` : ""}`];
-  const points = one.lines.split("\n").map((line) => line.trim().split(/\s+/).filter(Boolean).flatMap(apart)).filter((words) => words.length);
-  return points.map((words) => `${begin} at ${lengthText(words.slice(0, -2).join(" "))} n ${wordText(words.at(-2))} k ${wordText(words.at(-1))}`);
+  const k = one.k.trim() ? ` k ${wordText(one.k)}` : "";
+  if (one.kind !== "table") return [`${begin} a ${wordText(one.a)} b ${wordText(one.b)} c ${wordText(one.c)}${k}`];
+  return tableWords(one.lines).map((words) => `${begin} at ${lengthText(words.slice(0, -2).join(" "))} n ${wordText(words.at(-2))} k ${wordText(words.at(-1))}`);
 }
 
 // The text of a table whose cells can all be read.

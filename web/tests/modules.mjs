@@ -231,6 +231,7 @@ test("hints", () => {
   const said = (text) => resultsOf(read(text)).hints.join("\n");
   assert.match(said(BEAM + "surface mirror reflected from 1 to 1.52 at 45 deg\n"), /preset mirror, designed for 550 nm; the light has 1064 nm/);
   assert.match(said("beam 550 nm s 1 p 1\n"), /add up to 2/);
+  assert.match(said(BEAM + "window 2 at 0 deg\n"), /surface 2 is the second face of a plate: .* would add 1\.3 % to s and 1\.3 % to p/); // R 1/9: 1/81 over 80/81
   assert.match(said(BEAM + "surface custom reflected from 1 to 1.5 at 0 deg\nstack (HL)7 H with H 2.3 L 1.46 at 1064 nm\n"), /to repeat the bracket write \(HL\)\^7/);
   assert.match(said(BEAM + "surface bare transmitted from 1 to 1.5 at 45 rad\n"), /more than a right angle; where degrees are meant write deg/);
   assert.match(said(BEAM + "surface bare transmitted from 1 to 1.5 at 30 deg\nsurface bare transmitted from 1.5 to 1 at 30 deg\n"), /in a plate with parallel faces it is at 19\.47 deg/);
