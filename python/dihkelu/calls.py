@@ -349,10 +349,13 @@ def _evaluate_cases(code: int, design: float, columns: dict[str, Any], flat: Buf
             raise BY_NUMBER[number](number, place, "evaluate")
 
 
+CASES = 1 << 24  # of one call, below the library's own limit
+
+
 def _runs(n0: Any, n1: Any, count: int) -> Iterator[tuple[int, int, float, float]]:
     """Where the pair of indices stays the same: begin, end and the two."""
     if not isinstance(n0, ctypes.Array) and not isinstance(n1, ctypes.Array):
-        yield from [(0, count, n0, n1)] if count else []
+        yield from ((begin, min(begin + CASES, count), n0, n1) for begin in range(0, count, CASES))
         return
     begin = 0
     for (first, second), run_ in itertools.groupby(zip(_each(n0, count), _each(n1, count))):
