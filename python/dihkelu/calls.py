@@ -348,21 +348,26 @@ def _evaluate_cases(code: int, design: float, columns: dict[str, Any], flat: Buf
     """One call of the library for each run of cases with the same two indices."""
     n0, n1, angles, wavelengths = columns.values()
     angles, wavelengths = (x if isinstance(x, ctypes.Array) else _lent(array.array("d", [x]) * count) for x in (angles, wavelengths))
+    angles_at, wavelengths_at, out_at = (ctypes.addressof(x) for x in (angles, wavelengths, out))
+    call, films, numbers = _library.dihkelu_evaluate_list, ctypes.addressof(flat), len(flat)
     for begin, end, first, second in _runs(n0, n1, count):
         size, at = end - begin, 8 * begin
-        lists = [ctypes.byref(angles, at), size, ctypes.byref(wavelengths, at), size, flat, len(flat), ctypes.byref(out, 16 * at), 16 * size]
-        returned = _library.dihkelu_evaluate_list(code, design, first, second, *lists)
+        returned = call(code, design, first, second, angles_at + at, size, wavelengths_at + at, size, films, numbers, out_at + 16 * at, 16 * size)
+        if not returned >> 32:
+            continue
         number, place = returned >> 32, begin + (returned & 0xFFFFFFFF)
         if number == 1:
             raise InvalidParameter(1, place, "evaluate", invalid_argument(first, second, angles[place], wavelengths[place]) or "code")
-        if number:
-            raise BY_NUMBER[number](number, place, "evaluate")
+        raise BY_NUMBER[number](number, place, "evaluate")
+
+
+CASES = 1 << 24  # of one call, below the library's own limit
 
 
 def _runs(n0: Any, n1: Any, count: int) -> Iterator[tuple[int, int, float, float]]:
     """Where the pair of indices stays the same: begin, end and the two."""
     if not isinstance(n0, ctypes.Array) and not isinstance(n1, ctypes.Array):
-        yield from [(0, count, n0, n1)] if count else []
+        yield from ((begin, min(begin + CASES, count), n0, n1) for begin in range(0, count, CASES))
         return
     begin = 0
     for (first, second), run_ in itertools.groupby(zip(_each(n0, count), _each(n1, count))):

@@ -8,6 +8,7 @@ import decimal
 import io
 import json
 import math
+import re
 import sys
 from pathlib import Path
 from typing import Any, Iterable, NoReturn, Sequence
@@ -17,6 +18,7 @@ from .calls import version
 from .files import Failed
 from .library import LibraryMissing, WrongEnvironment
 from .plans import MOST_ALONE, Index, Made, Plan, index_at
+from .sheet import Layer
 from .words import Wrong, apart, counted, decimal_text, in_line, number, printable, quoted, unit, written
 
 MOST_POINTS = 100_000  # of a sweep
@@ -167,7 +169,7 @@ def band(given: argparse.Namespace) -> int:
     except Failed as failed:
         raise Failed(f"the band's file {given.lines}: {failed}") from None
     mean, each = reports.band_means(made, lines), reports.band_each(made, lines)
-    fixed = [f"glasses by name have their index at {written(made.sheet.wavelength_nm)} nm in every line"] if made.coloured else []
+    fixed = [f"{what} have their {number_} at {written(made.sheet.wavelength_nm)} nm in every line" for what, number_ in kept_in_a_band(made)]
     say(given, [], fixed)
     draw(given, lambda: plots.band(lines, each, mean, title(given)))
     rows = [{"wavelength_nm": nm, "weight": weight, "s": s, "p": p, "sum": s + p} for (nm, weight, _), (s, p) in zip(lines, each)]
@@ -175,6 +177,12 @@ def band(given: argparse.Namespace) -> int:
     whole["hints"] += fixed
     put_rows(given, reports.band_table(lines, each, mean), rows, whole)
     return 0
+
+
+def kept_in_a_band(made: Made) -> list[tuple[str, str]]:
+    """What does not follow the colour from line to line."""
+    metals = any(isinstance(layer, Layer) and layer.k != 0 for surface in made.sheet.surfaces for layer in surface.layers)
+    return [("glasses by name", "index")] * bool(made.coloured) + [("metal films", "n and k")] * metals
 
 
 def steps(first: decimal.Decimal, last: decimal.Decimal, step: decimal.Decimal) -> list[float]:
@@ -492,7 +500,11 @@ def whole(word: str) -> int:
 
 
 class Parser(argparse.ArgumentParser):
-    """One whose errors are a line, whatever was given."""
+    """One whose errors are a line, whatever was given, and that takes a negative number with its unit for no option."""
+
+    def __init__(self, *words: Any, **more: Any):
+        super().__init__(*words, **more)
+        self._negative_number_matcher = re.compile(r"-[0-9.,]")
 
     def error(self, message: str) -> NoReturn:
         super().error(printable(message if len(message) <= 400 else message[:398] + ".."))

@@ -355,7 +355,7 @@ def crossing_hints(one: Crossing | None, two: Crossing, plate: bool) -> list[str
         said += angle_hints(one, two)
     elif one is not None and two.n0 != (comes := one.n0 if one.reflected else one.n1):
         said.append(f"begins in index {written(two.n0)}; the light comes in index {written(comes)}")
-    if not -STEEP <= two.angle <= STEEP:
+    if not -STEEP <= two.angle <= STEEP and math.isfinite(two.angle):
         said.append(turned_hint(two.angle))
     if two.coating in PRESET_INDICES and abs(two.nm - PRESET_NM) > PRESET_NM / 10:
         called = Coating(two.coating).name.lower().replace("_", "-")
@@ -377,7 +377,7 @@ def angle_hints(one: Crossing, two: Crossing) -> list[str]:
 
 
 def turned_hint(angle: float) -> str:
-    if not math.isfinite(angle) or abs(angle) <= FAR:
+    if abs(angle) <= FAR:
         return f"is at {written(angle)} rad, {math.degrees(angle):.2f} deg, more than a right angle; where degrees are meant write deg"
     return f"is at {written(angle)} rad, beyond 2^20, where the library's sine and cosine drift away from the angle's; give it without whole turns"
 

@@ -243,6 +243,7 @@ class Sweeps(Folder):
     def test_steps(self):
         _, rows = self.rows("--angle", "0", "0.3", "0.1")
         self.assertEqual([row["angle_deg"] for row in rows], ["0.0", "0.1", "0.2", "0.3"])
+        self.assertEqual(self.rows("--angle", "-8,5\u00b0", "0", "8.5deg"), self.rows("--angle", "-8.5", "0", "8.5"))
         _, rows = self.rows("--angle", "-10", "-20", "-5")
         self.assertEqual([row["angle_deg"] for row in rows], ["-10.0", "-15.0", "-20.0"])
         for words in (["0", "1", "0"], ["0", "1", "-1"], ["0", "1", "1e-9"], ["0", "1e300", "1e-300"], ["0", "1e999999999", "1"], ["0", "0x7FF8000000000000", "1"]):
@@ -379,6 +380,8 @@ class Bands(Folder):
     def test_glasses_by_name(self):
         said = run("band", "-", EXAMPLES / "daylight.lines", given=SCANNER)[2]
         self.assertIn("hint: glasses by name have their index at 1064 nm in every line", said)
+        gold = "beam 1064 nm s 0.5 p 0.5\nsurface custom reflected from 1 to 1.5 at 0 deg\nlayer 0.26 thickness 40 nm k 6.97\n"
+        self.assertEqual(run("band", "-", EXAMPLES / "daylight.lines", given=gold)[2], "-: hint: metal films have their n and k at 1064 nm in every line\n")
 
     def test_refused(self):
         lines = self.file("x.lines", "500 nm weight 0\n")
