@@ -198,6 +198,12 @@ class Release(unittest.TestCase):
         self.assertEqual(int(found("crates/dihkelu/src/lib.rt", r"dihkelu_version\(\)[^{]*\{[^}]*\}\n\{\n    (\w+)"), 16), (major << 16) + minor)
         self.assertEqual(found("c/dihkelu.c", r"^uint32_t dihkelu_version\(void\) \{\n    return (\d+);"), str((major << 16) + minor))
 
+    def test_the_name_of_debians_package(self):
+        folder = ROOT / "packaging" / "debian"
+        name = "libdihkelu" + header.version(HEADER).rsplit(".", 1)[0]
+        self.assertEqual(set(re.findall(r"libdihkelu[\d.]+", (folder / "control").read_text())), {name})
+        self.assertEqual([p.stem for p in folder.glob("libdihkelu[0-9]*")], [name])
+
     def test_two_versions_in_the_header(self):
         with self.assertRaises(ValueError):
             header.version(HEADER.replace("DIHKELU_VERSION_TEXT \"0.", "DIHKELU_VERSION_TEXT \"9."))
