@@ -1,9 +1,9 @@
 #!/usr/bin/env python3
 """Tests of tools/read_back: the printed C passes as it is, and each of many wrong prints is found, with its function named.
 
-A wrong print is an edit of the C's text, made at several places that a seeded walk over all functions chooses. The walk goes by names, so that
-a change of one function leaves the places in all others as they are. An edit that would leave the program as it is, such as one that
-exchanges equal values, is none.
+A wrong print is an edit of the C's text, made at several places that a seeded walk over all functions chooses. The walk goes by names, so
+that a change of one function leaves the places in all others as they are. An edit that would leave the program as it is, such as one
+that exchanges equal values, is none.
 """
 import copy
 import functools
@@ -69,11 +69,10 @@ def next_float(match):
 
 def exchanged(match):
     """Two parts of a match, in each other's place."""
-    a, b = match["a"], match["b"]
-    if match.re.groupindex.get("x") and match["x"] == match["y"]:
+    if "x" in match.re.groupindex and match["x"] == match["y"]:
         return match[0]
-    return match[0][:match.start("a") - match.start()] + b + match[0][match.end("a") - match.start():match.start("b") - match.start()] + a + match[
-        0][match.end("b") - match.start():]
+    between = match.string[match.end("a"):match.start("b")]
+    return match.string[match.start():match.start("a")] + match["b"] + between + match["a"] + match.string[match.end("b"):match.end()]
 
 
 def swap(one, other):
@@ -138,8 +137,10 @@ WRONG = [
     ("sin for cos", r"(?<=\w)\.(?:sin|cos)\b(?! =)", swap(".sin", ".cos")),
     ("reflected for transmitted", r"\.(?:reflectance|transmittance)(?=_[sp]\b(?! =))", swap(".reflectance", ".transmittance")),
     ("two fields of a struct exchanged", r"\{(?P<a>\.\w+) = (?P<x>[^,{}]+), (?P<b>\.\w+) = (?P<y>[^,{}]+)", exchanged),
-    ("two dependent statements exchanged", rf"(?P<a>{LINE}\w+ (?P<v>\w+) = [^;{{}}]*;\n)(?P<b>{LINE}[^;{{}}\n]*\b(?P=v)\b[^;{{}}]*;\n)", exchanged),
-    ("two settings exchanged", rf"(?P<a>{LINE}(?P<v>\w+) = [^;{{}}]*;\n)(?P<b>{LINE}[^;{{}}\n]*= [^;{{}}]*\b(?P=v)\b[^;{{}}]*;\n)", exchanged),
+    ("two dependent statements exchanged",
+     rf"(?P<a>{LINE}\w+ (?P<v>\w+) = [^;{{}}]*;\n)(?P<b>{LINE}[^;{{}}\n]*\b(?P=v)\b[^;{{}}]*;\n)", exchanged),
+    ("two settings exchanged",
+     rf"(?P<a>{LINE}(?P<v>\w+) = [^;{{}}]*;\n)(?P<b>{LINE}[^;{{}}\n]*= [^;{{}}]*\b(?P=v)\b[^;{{}}]*;\n)", exchanged),
     ("two stores exchanged", rf"(?P<a>{LINE}\w+(?:->|\.)at\[[^;]*;\n)(?P<b>{LINE}\w+(?:->|\.)at\[[^;]*;\n)", exchanged),
     ("a wrong callee", CALLED, same_signature),
     ("two arguments exchanged", r"\b\w+\((?P<a>\w+), (?P<b>\w+)\b(?=[,)])", lambda m: m[0] if m["a"] == m["b"] else exchanged(m)),
@@ -223,7 +224,8 @@ class Printed(unittest.TestCase):
         """Each wrong print of a function is found in it and nowhere else."""
         tried = 0
         for title, pattern, put in WRONG + WRONG_HEADS:
-            made = list(heads(title, pattern, put) if (title, pattern, put) in WRONG_HEADS else edits(title, pattern, put, FUNCTIONS, PLACES))
+            head = (title, pattern, put) in WRONG_HEADS
+            made = list(heads(title, pattern, put) if head else edits(title, pattern, put, FUNCTIONS, PLACES))
             self.assertTrue(made, f"no place for: {title}")
             for name, text in made:
                 with self.subTest(wrong=title, function=name):
@@ -360,6 +362,7 @@ class Small(unittest.TestCase):
     def test_not_same(self):
         put = "fn put(x: &mut f64) -> f64 { *x = 1.0; 2.0 }\n"
         c_put = "static double dihkelu_put(double *x) { *x = 1.0; return 2.0; }\n"
+        four = "{{a, a, a, a}}"
         both = "fn both(x: &mut [f64; 4], y: &mut [f64; 4]) -> f64 { x[0] = 1.0; y[0] }\n"
         c_both = "static double dihkelu_both(f64_x4 *x, f64_x4 *y) { x->at[0] = 1.0; return y->at[0]; }\n"
         read = "fn read(y: &[f64; 4], x: &mut [f64; 4]) -> f64 { x[0] = 1.0; y[0] }\n"
@@ -403,9 +406,9 @@ class Small(unittest.TestCase):
              "for (size_t each = 0; each < 4; each++) { x.at[each] = a; } slice_f64 y = {x.at, 4}; x.at[0] = 1.0; return dihkelu_g(y); }"),
             # two lists that are equal, and one of them lent twice
             (f"(a: f64) -> f64 {{ let mut x = [a; 4]; let mut y = [a; 4]; both(&mut x, &mut y) }}\n{both}",
-             f"{c_both}double dihkelu_f(double a) {{ f64_x4 x = {{{{a, a, a, a}}}}; f64_x4 y = {{{{a, a, a, a}}}}; return dihkelu_both(&x, &x); }}"),
+             f"{c_both}double dihkelu_f(double a) {{ f64_x4 x = {four}; f64_x4 y = {four}; return dihkelu_both(&x, &x); }}"),
             (f"(a: f64) -> f64 {{ let mut x = [a; 4]; let y = [a; 4]; read(&y, &mut x) }}\n{read}",
-             f"{c_read}double dihkelu_f(double a) {{ f64_x4 x = {{{{a, a, a, a}}}}; f64_x4 y = {{{{a, a, a, a}}}}; return dihkelu_read(&x, &x); }}"),
+             f"{c_read}double dihkelu_f(double a) {{ f64_x4 x = {four}; f64_x4 y = {four}; return dihkelu_read(&x, &x); }}"),
             # a variable that outlives its call
             ("(n: u64) -> u64 { let a = n; a + 1 }", "uint64_t dihkelu_f(uint64_t n) { static uint64_t a = n; return a + 1; }"),
             # a part of a list that is changed whole
@@ -440,6 +443,12 @@ class Environment(unittest.TestCase):
 
     def test_wrapped(self):
         self.assertTrue(same(self.RUST, WRAPPED))
+
+    def test_wrapped_without_arguments(self):
+        text = re.sub(r"(?<=dihkelu_f)(_body)?\([^()]*a_at[^()]*\)", r"\1(void)", WRAPPED)
+        text = text.replace("(*body)(const double *, size_t, double, double)", "(*body)(void)").replace("body(a_at, a_count, b, c)", "body()")
+        text = re.sub(r"    slice_f64 .*?    return 0;", "    return 7;", text, flags=re.S)
+        self.assertTrue(same(Small.HEAD + "() -> u64 { 7 }", text))
 
     def test_wrongly_wrapped(self):
         for was, put in [("body(a_at, a_count, b, c);", "body(a_at, a_count, c, b);"), ("= dihkelu_f_body", "= dihkelu_g_body"),

@@ -3,8 +3,8 @@
 Each expression gets its type by C's own rules. Only these conversions are taken, and each by the rule named here:
     literal    a whole number that fits the type that it is converted to is that number of that type
     widened    an unsigned number converted to a wider unsigned type keeps its value: a cast of the common form
-    narrow     u8 and u16 are worked with as int in C: (uint8_t)(a + b) is a + b of u8, since int holds a + b, and the cast cuts it as u8 does
-    usize      u64. A size_t is only the count that is lent beside a pointer, and is widened, or counts the elements of a list that is filled
+    narrow     C works with u8 and u16 as int: (uint8_t)(a + b) is a + b of u8, since int holds a + b, and the cast cuts it as u8 does
+    usize      is u64. A size_t is only the count that is lent beside a pointer, and is widened, or counts elements of a list that is filled
 """
 import re
 import subprocess
@@ -139,10 +139,13 @@ class Program:
         return self.functions[name]
 
     def wrapper(self, definition, body):
-        name, parameters = definition.decl.name, definition.decl.type.args.params
-        if self.signature(name) != self.signature(name + "_body") or "static" in definition.decl.storage or "static" not in body.decl.storage:
-            raise Unread(f"{name} and {name}_body take other arguments, or are not a call and a static function")
-        kinds = [re.sub(r"\b%s$" % p.name, "", same_text(p)).strip() for p in parameters]
+        name = definition.decl.name
+        if self.signature(name) != self.signature(name + "_body"):
+            raise Unread(f"{name} and {name}_body take other arguments")
+        if "static" in definition.decl.storage or "static" not in body.decl.storage:
+            raise Unread(f"{name} and {name}_body are not a call and a static function")
+        parameters = [p for p in (definition.decl.type.args.params if definition.decl.type.args else []) if p.name]
+        kinds = [re.sub(r"\b%s$" % p.name, "", same_text(p)).strip() for p in parameters] or ["void"]
         result = same_text(definition.decl.type.type).replace(name, "").strip()
         wanted = parsed(prelude() + f"""typedef int environment;
             void f(void) {{
