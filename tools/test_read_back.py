@@ -319,11 +319,12 @@ typedef struct { double at[4]; } f64_x4;
 
 
 def same(rust, c):
-    """Whether a function of the sources and one of C are the same program."""
+    """Whether the functions of a source and of a C text are the same program."""
     sources = lower.Sources([(("dihkelu",), rust)])
     printed = c_text.Program(c_text.parsed(c_text.prelude() + C_TYPES + c))
     try:
-        compare.same_function(sources.reached()["dihkelu_f"], printed.function("dihkelu_f"), sources)
+        for name, function in sources.reached().items():
+            compare.same_function(function, printed.function(name), sources)
     except (compare.Differs, rattle.Unread):
         return False
     return True
@@ -347,6 +348,15 @@ class Small(unittest.TestCase):
         for rust, c in [
             (part, c_part + "return dihkelu_g((slice_f64){i == 0 ? a.at : a.at + i, a.count - i}); }"),
             (part_put, c_part_put + "return dihkelu_g((slice_mut_f64){a.at, n}); }"),
+            # a struct that holds a reference
+            ("(a: &[f64]) -> u64 { count(new(a, 7)) }\npub struct Part<'a> { pub numbers: &'a [f64], pub place: usize }\n"
+             "fn new<'a>(a: &'a [f64], place: usize) -> Part<'a> { Part { numbers: a, place } }\n"
+             "fn count<'a>(p: Part<'a>) -> u64 { p.numbers.len() as u64 + p.place as u64 }",
+             "typedef struct { slice_f64 numbers; uint64_t place; } dihkelu_Part;\n"
+             "static dihkelu_Part dihkelu_new(slice_f64 a, uint64_t place) { return (dihkelu_Part){.numbers = a, .place = place}; }\n"
+             "static uint64_t dihkelu_count(dihkelu_Part p) { return p.numbers.count + p.place; }\n"
+             "uint64_t dihkelu_f(const double *a_at, size_t a_count) { slice_f64 a = {a_at, a_count};"
+             "dihkelu_Part p = dihkelu_new(a, 7); return dihkelu_count(p); }"),
             ("(a: u64) -> u64 { if a < 3 { 1 } else { a } }", "uint64_t dihkelu_f(uint64_t a) { if (a < 3) { return 1; } return a; }"),
             ("(a: u64) -> bool { if a > 3 { a < 9 } else { false } }", "bool dihkelu_f(uint64_t a) { return 3 < a && a < 9; }"),
             ("(a: f64) -> f64 { let b = a * a; let c = b + 1.0; c / b }", "double dihkelu_f(double a) { return (a * a + 1.0) / (a * a); }"),
