@@ -289,6 +289,11 @@ class WholeFile(unittest.TestCase):
         for put in ("#define double float\n", "#if __GNUC__\nstatic int spare;\n#endif\n"):
             with self.assertRaises(rattle.Unread):
                 c_text.preprocessed(TEXT.replace("// ==== types\n", put, 1), ROOT / "c")
+        inside = "#if defined(DIHKELU_TRUST_ENVIRONMENT)\n#define LOOKED_UP\nstatic inline int environment_enter(void) {\n    return 0;\n}\n"
+        c_text.unconditional(inside + "#endif\n")
+        for put in ("static int spare;\n", "#define double float\n", "static inline double ieee_abs(double x) {\n", "typedef float real;\n"):
+            with self.assertRaises(rattle.Unread):
+                c_text.unconditional(inside + put + "#endif\n")
         bits = "typedef struct { uint32_t number : 8; uint32_t place; } spare;\n"
         for put in ("static int spare;\n", bits, "typedef union { double x; } spare;\n"):
             with self.assertRaises(rattle.Unread):

@@ -54,7 +54,10 @@ def preprocessed(text, folder):
             (Path(there) / name).write_text(content + "\n")
         defined = ["-undef", "-D__attribute__(x)=", "-DDIHKELU_TRUST_ENVIRONMENT"]
         command = ["cc", "-E", "-std=c11", *defined, "-nostdinc", f"-I{there}", f"-I{folder}", "-"]
-        done = subprocess.run(command, input=text, capture_output=True, text=True)
+        try:
+            done = subprocess.run(command, input=text, capture_output=True, text=True)
+        except FileNotFoundError:
+            raise Unread("cc is needed to preprocess the C: install a C compiler") from None
     if done.returncode:
         raise Unread(f"cc -E refused the C: {done.stderr[-500:]}")
     return done.stdout
@@ -90,7 +93,7 @@ def unconditional(text):
             elif word not in ("include", "error", "pragma", "elif", "else"):
                 raise Unread(f"the directive {line.strip()} may change what is compiled")
         elif depth and line.strip():
-            if not environment:
+            if not environment or not re.match(r"\s|\}|typedef\b|static inline\b", line):
                 raise Unread(f"{line.strip()} is compiled under a condition only")
             defined.update(re.findall(r"^(?:static inline|typedef)\b.*?(\w+)(?:\(|;)", line))
             defined.update(re.findall(r"^\} (\w+);", line))
@@ -104,7 +107,7 @@ class Program:
 
     def __init__(self, tree):
         self.types, self.structs, self.enums, self.enumerators = {}, {}, {}, {}
-        self.functions, self.definitions, self.signatures, self.wrapped = {}, {}, {}, {}
+        self.functions, self.definitions, self.signatures = {}, {}, {}
         for item in tree.ext:
             if item.coord and item.coord.file.endswith(".h"):
                 continue
@@ -117,7 +120,8 @@ class Program:
             elif not isinstance(item, (c_ast.Pragma, c_ast.StaticAssert)) and not declared(item):
                 raise Unread(f"line {item.coord}: neither a type nor a function: teach tools/read_back_parts/c_text.py this form")
         self.helpers = {item.decl.name: item for item in parsed(prelude() + HELPERS).ext if isinstance(item, c_ast.FuncDef)}
-        self.bodies = {name + "_body" for name in self.definitions if name + "_body" in self.definitions}
+        called = [name for name, item in self.definitions.items() if "static" not in item.decl.storage]
+        self.bodies = {name + "_body" for name in called if name + "_body" in self.definitions}
         self.own = set(self.helpers) | (ENVIRONMENT & set(self.definitions)) | self.bodies
 
     def check_own(self, name):
