@@ -1,9 +1,9 @@
 #!/usr/bin/env python3
 """Tests of tools/read_back: the printed C passes as it is, and each of many wrong prints is found, with its function named.
 
-A wrong print is an edit of the C's text, made at several places that a seeded walk over all functions chooses. The walk goes by names, so that
-a change of one function leaves the places in all others as they are. An edit that would leave the program as it is, such as one that
-exchanges equal values, is none.
+A wrong print is an edit of the C's text, made at several places that a seeded walk over all functions chooses. The walk goes by names, so
+that a change of one function leaves the places in all others as they are. An edit that would leave the program as it is, such as one
+that exchanges equal values, is none.
 """
 import copy
 import functools
@@ -69,11 +69,10 @@ def next_float(match):
 
 def exchanged(match):
     """Two parts of a match, in each other's place."""
-    a, b = match["a"], match["b"]
-    if match.re.groupindex.get("x") and match["x"] == match["y"]:
+    if "x" in match.re.groupindex and match["x"] == match["y"]:
         return match[0]
-    return match[0][:match.start("a") - match.start()] + b + match[0][match.end("a") - match.start():match.start("b") - match.start()] + a + match[
-        0][match.end("b") - match.start():]
+    between = match.string[match.end("a"):match.start("b")]
+    return match.string[match.start():match.start("a")] + match["b"] + between + match["a"] + match.string[match.end("b"):match.end()]
 
 
 def swap(one, other):
@@ -138,8 +137,10 @@ WRONG = [
     ("sin for cos", r"(?<=\w)\.(?:sin|cos)\b(?! =)", swap(".sin", ".cos")),
     ("reflected for transmitted", r"\.(?:reflectance|transmittance)(?=_[sp]\b(?! =))", swap(".reflectance", ".transmittance")),
     ("two fields of a struct exchanged", r"\{(?P<a>\.\w+) = (?P<x>[^,{}]+), (?P<b>\.\w+) = (?P<y>[^,{}]+)", exchanged),
-    ("two dependent statements exchanged", rf"(?P<a>{LINE}\w+ (?P<v>\w+) = [^;{{}}]*;\n)(?P<b>{LINE}[^;{{}}\n]*\b(?P=v)\b[^;{{}}]*;\n)", exchanged),
-    ("two settings exchanged", rf"(?P<a>{LINE}(?P<v>\w+) = [^;{{}}]*;\n)(?P<b>{LINE}[^;{{}}\n]*= [^;{{}}]*\b(?P=v)\b[^;{{}}]*;\n)", exchanged),
+    ("two dependent statements exchanged",
+     rf"(?P<a>{LINE}\w+ (?P<v>\w+) = [^;{{}}]*;\n)(?P<b>{LINE}[^;{{}}\n]*\b(?P=v)\b[^;{{}}]*;\n)", exchanged),
+    ("two settings exchanged",
+     rf"(?P<a>{LINE}(?P<v>\w+) = [^;{{}}]*;\n)(?P<b>{LINE}[^;{{}}\n]*= [^;{{}}]*\b(?P=v)\b[^;{{}}]*;\n)", exchanged),
     ("two stores exchanged", rf"(?P<a>{LINE}\w+(?:->|\.)at\[[^;]*;\n)(?P<b>{LINE}\w+(?:->|\.)at\[[^;]*;\n)", exchanged),
     ("a wrong callee", CALLED, same_signature),
     ("two arguments exchanged", r"\b\w+\((?P<a>\w+), (?P<b>\w+)\b(?=[,)])", lambda m: m[0] if m["a"] == m["b"] else exchanged(m)),
@@ -223,7 +224,8 @@ class Printed(unittest.TestCase):
         """Each wrong print of a function is found in it and nowhere else."""
         tried = 0
         for title, pattern, put in WRONG + WRONG_HEADS:
-            made = list(heads(title, pattern, put) if (title, pattern, put) in WRONG_HEADS else edits(title, pattern, put, FUNCTIONS, PLACES))
+            head = (title, pattern, put) in WRONG_HEADS
+            made = list(heads(title, pattern, put) if head else edits(title, pattern, put, FUNCTIONS, PLACES))
             self.assertTrue(made, f"no place for: {title}")
             for name, text in made:
                 with self.subTest(wrong=title, function=name):
@@ -287,6 +289,11 @@ class WholeFile(unittest.TestCase):
         for put in ("#define double float\n", "#if __GNUC__\nstatic int spare;\n#endif\n"):
             with self.assertRaises(rattle.Unread):
                 c_text.preprocessed(TEXT.replace("// ==== types\n", put, 1), ROOT / "c")
+        inside = "#if defined(DIHKELU_TRUST_ENVIRONMENT)\n#define LOOKED_UP\nstatic inline int environment_enter(void) {\n    return 0;\n}\n"
+        c_text.unconditional(inside + "#endif\n")
+        for put in ("static int spare;\n", "#define double float\n", "static inline double ieee_abs(double x) {\n", "typedef float real;\n"):
+            with self.assertRaises(rattle.Unread):
+                c_text.unconditional(inside + put + "#endif\n")
         bits = "typedef struct { uint32_t number : 8; uint32_t place; } spare;\n"
         for put in ("static int spare;\n", bits, "typedef union { double x; } spare;\n"):
             with self.assertRaises(rattle.Unread):
@@ -317,11 +324,12 @@ typedef struct { double at[4]; } f64_x4;
 
 
 def same(rust, c):
-    """Whether a function of the sources and one of C are the same program."""
+    """Whether the functions of a source and of a C text are the same program."""
     sources = lower.Sources([(("dihkelu",), rust)])
     printed = c_text.Program(c_text.parsed(c_text.prelude() + C_TYPES + c))
     try:
-        compare.same_function(sources.reached()["dihkelu_f"], printed.function("dihkelu_f"), sources)
+        for name, function in sources.reached().items():
+            compare.same_function(function, printed.function(name), sources)
     except (compare.Differs, rattle.Unread):
         return False
     return True
@@ -345,6 +353,15 @@ class Small(unittest.TestCase):
         for rust, c in [
             (part, c_part + "return dihkelu_g((slice_f64){i == 0 ? a.at : a.at + i, a.count - i}); }"),
             (part_put, c_part_put + "return dihkelu_g((slice_mut_f64){a.at, n}); }"),
+            # a struct that holds a reference
+            ("(a: &[f64]) -> u64 { count(new(a, 7)) }\npub struct Part<'a> { pub numbers: &'a [f64], pub place: usize }\n"
+             "fn new<'a>(a: &'a [f64], place: usize) -> Part<'a> { Part { numbers: a, place } }\n"
+             "fn count<'a>(p: Part<'a>) -> u64 { p.numbers.len() as u64 + p.place as u64 }",
+             "typedef struct { slice_f64 numbers; uint64_t place; } dihkelu_Part;\n"
+             "static dihkelu_Part dihkelu_new(slice_f64 a, uint64_t place) { return (dihkelu_Part){.numbers = a, .place = place}; }\n"
+             "static uint64_t dihkelu_count(dihkelu_Part p) { return p.numbers.count + p.place; }\n"
+             "uint64_t dihkelu_f(const double *a_at, size_t a_count) { slice_f64 a = {a_at, a_count};"
+             "dihkelu_Part p = dihkelu_new(a, 7); return dihkelu_count(p); }"),
             ("(a: u64) -> u64 { if a < 3 { 1 } else { a } }", "uint64_t dihkelu_f(uint64_t a) { if (a < 3) { return 1; } return a; }"),
             ("(a: u64) -> bool { if a > 3 { a < 9 } else { false } }", "bool dihkelu_f(uint64_t a) { return 3 < a && a < 9; }"),
             ("(a: f64) -> f64 { let b = a * a; let c = b + 1.0; c / b }", "double dihkelu_f(double a) { return (a * a + 1.0) / (a * a); }"),
@@ -360,6 +377,7 @@ class Small(unittest.TestCase):
     def test_not_same(self):
         put = "fn put(x: &mut f64) -> f64 { *x = 1.0; 2.0 }\n"
         c_put = "static double dihkelu_put(double *x) { *x = 1.0; return 2.0; }\n"
+        four = "{{a, a, a, a}}"
         both = "fn both(x: &mut [f64; 4], y: &mut [f64; 4]) -> f64 { x[0] = 1.0; y[0] }\n"
         c_both = "static double dihkelu_both(f64_x4 *x, f64_x4 *y) { x->at[0] = 1.0; return y->at[0]; }\n"
         read = "fn read(y: &[f64; 4], x: &mut [f64; 4]) -> f64 { x[0] = 1.0; y[0] }\n"
@@ -403,9 +421,9 @@ class Small(unittest.TestCase):
              "for (size_t each = 0; each < 4; each++) { x.at[each] = a; } slice_f64 y = {x.at, 4}; x.at[0] = 1.0; return dihkelu_g(y); }"),
             # two lists that are equal, and one of them lent twice
             (f"(a: f64) -> f64 {{ let mut x = [a; 4]; let mut y = [a; 4]; both(&mut x, &mut y) }}\n{both}",
-             f"{c_both}double dihkelu_f(double a) {{ f64_x4 x = {{{{a, a, a, a}}}}; f64_x4 y = {{{{a, a, a, a}}}}; return dihkelu_both(&x, &x); }}"),
+             f"{c_both}double dihkelu_f(double a) {{ f64_x4 x = {four}; f64_x4 y = {four}; return dihkelu_both(&x, &x); }}"),
             (f"(a: f64) -> f64 {{ let mut x = [a; 4]; let y = [a; 4]; read(&y, &mut x) }}\n{read}",
-             f"{c_read}double dihkelu_f(double a) {{ f64_x4 x = {{{{a, a, a, a}}}}; f64_x4 y = {{{{a, a, a, a}}}}; return dihkelu_read(&x, &x); }}"),
+             f"{c_read}double dihkelu_f(double a) {{ f64_x4 x = {four}; f64_x4 y = {four}; return dihkelu_read(&x, &x); }}"),
             # a variable that outlives its call
             ("(n: u64) -> u64 { let a = n; a + 1 }", "uint64_t dihkelu_f(uint64_t n) { static uint64_t a = n; return a + 1; }"),
             # a part of a list that is changed whole
@@ -440,6 +458,12 @@ class Environment(unittest.TestCase):
 
     def test_wrapped(self):
         self.assertTrue(same(self.RUST, WRAPPED))
+
+    def test_wrapped_without_arguments(self):
+        text = re.sub(r"(?<=dihkelu_f)(_body)?\([^()]*a_at[^()]*\)", r"\1(void)", WRAPPED)
+        text = text.replace("(*body)(const double *, size_t, double, double)", "(*body)(void)").replace("body(a_at, a_count, b, c)", "body()")
+        text = re.sub(r"    slice_f64 .*?    return 0;", "    return 7;", text, flags=re.S)
+        self.assertTrue(same(Small.HEAD + "() -> u64 { 7 }", text))
 
     def test_wrongly_wrapped(self):
         for was, put in [("body(a_at, a_count, b, c);", "body(a_at, a_count, c, b);"), ("= dihkelu_f_body", "= dihkelu_g_body"),

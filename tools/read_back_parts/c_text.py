@@ -3,8 +3,8 @@
 Each expression gets its type by C's own rules. Only these conversions are taken, and each by the rule named here:
     literal    a whole number that fits the type that it is converted to is that number of that type
     widened    an unsigned number converted to a wider unsigned type keeps its value: a cast of the common form
-    narrow     u8 and u16 are worked with as int in C: (uint8_t)(a + b) is a + b of u8, since int holds a + b, and the cast cuts it as u8 does
-    usize      u64. A size_t is only the count that is lent beside a pointer, and is widened, or counts the elements of a list that is filled
+    narrow     C works with u8 and u16 as int: (uint8_t)(a + b) is a + b of u8, since int holds a + b, and the cast cuts it as u8 does
+    usize      is u64. A size_t is only the count that is lent beside a pointer, and is widened, or counts elements of a list that is filled
 """
 import re
 import subprocess
@@ -54,7 +54,10 @@ def preprocessed(text, folder):
             (Path(there) / name).write_text(content + "\n")
         defined = ["-undef", "-D__attribute__(x)=", "-DDIHKELU_TRUST_ENVIRONMENT"]
         command = ["cc", "-E", "-std=c11", *defined, "-nostdinc", f"-I{there}", f"-I{folder}", "-"]
-        done = subprocess.run(command, input=text, capture_output=True, text=True)
+        try:
+            done = subprocess.run(command, input=text, capture_output=True, text=True)
+        except FileNotFoundError:
+            raise Unread("cc is needed to preprocess the C: install a C compiler") from None
     if done.returncode:
         raise Unread(f"cc -E refused the C: {done.stderr[-500:]}")
     return done.stdout
@@ -90,7 +93,7 @@ def unconditional(text):
             elif word not in ("include", "error", "pragma", "elif", "else"):
                 raise Unread(f"the directive {line.strip()} may change what is compiled")
         elif depth and line.strip():
-            if not environment:
+            if not environment or not re.match(r"\s|\}|typedef\b|static inline\b", line):
                 raise Unread(f"{line.strip()} is compiled under a condition only")
             defined.update(re.findall(r"^(?:static inline|typedef)\b.*?(\w+)(?:\(|;)", line))
             defined.update(re.findall(r"^\} (\w+);", line))
@@ -104,7 +107,7 @@ class Program:
 
     def __init__(self, tree):
         self.types, self.structs, self.enums, self.enumerators = {}, {}, {}, {}
-        self.functions, self.definitions, self.signatures, self.wrapped = {}, {}, {}, {}
+        self.functions, self.definitions, self.signatures = {}, {}, {}
         for item in tree.ext:
             if item.coord and item.coord.file.endswith(".h"):
                 continue
@@ -117,7 +120,8 @@ class Program:
             elif not isinstance(item, (c_ast.Pragma, c_ast.StaticAssert)) and not declared(item):
                 raise Unread(f"line {item.coord}: neither a type nor a function: teach tools/read_back_parts/c_text.py this form")
         self.helpers = {item.decl.name: item for item in parsed(prelude() + HELPERS).ext if isinstance(item, c_ast.FuncDef)}
-        self.bodies = {name + "_body" for name in self.definitions if name + "_body" in self.definitions}
+        called = [name for name, item in self.definitions.items() if "static" not in item.decl.storage]
+        self.bodies = {name + "_body" for name in called if name + "_body" in self.definitions}
         self.own = set(self.helpers) | (ENVIRONMENT & set(self.definitions)) | self.bodies
 
     def check_own(self, name):
@@ -139,10 +143,13 @@ class Program:
         return self.functions[name]
 
     def wrapper(self, definition, body):
-        name, parameters = definition.decl.name, definition.decl.type.args.params
-        if self.signature(name) != self.signature(name + "_body") or "static" in definition.decl.storage or "static" not in body.decl.storage:
-            raise Unread(f"{name} and {name}_body take other arguments, or are not a call and a static function")
-        kinds = [re.sub(r"\b%s$" % p.name, "", same_text(p)).strip() for p in parameters]
+        name = definition.decl.name
+        if self.signature(name) != self.signature(name + "_body"):
+            raise Unread(f"{name} and {name}_body take other arguments")
+        if "static" in definition.decl.storage or "static" not in body.decl.storage:
+            raise Unread(f"{name} and {name}_body are not a call and a static function")
+        parameters = [p for p in (definition.decl.type.args.params if definition.decl.type.args else []) if p.name]
+        kinds = [re.sub(r"\b%s$" % p.name, "", same_text(p)).strip() for p in parameters] or ["void"]
         result = same_text(definition.decl.type.type).replace(name, "").strip()
         wanted = parsed(prelude() + f"""typedef int environment;
             void f(void) {{

@@ -159,15 +159,20 @@ def mangled(path, item):
     return item[1] if item[0] == "fn" and item[5] else "_".join(path)
 
 
-def load(root):
-    """The sources of a checkout."""
+def load(root, wanted=("dihkelu", "train_text")):
+    """The sources of some crates of a checkout, and of those that they depend on."""
+    lines = [line.split("#")[0].partition(":") for line in (root / "crates.txt").read_text().splitlines()]
+    needs = {name.strip(): names.split() for name, _, names in lines if name.strip()}
+    todo, crates = list(wanted), set()
+    while todo:
+        crate = todo.pop()
+        if crate in needs and crate not in crates:
+            crates.add(crate)
+            todo += needs[crate]
     files = [(("std", "num"), (pathlib.Path(__file__).parent / "std_num.rt").read_text()), (("std",), "pub mod num;")]
-    for line in (root / "crates.txt").read_text().splitlines():
-        crate = line.split("#")[0].partition(":")[0].strip()
-        folder = root / "crates" / crate / "src"
-        if crate and (folder / "lib.rt").exists():
-            files.append(((crate,), (folder / "lib.rt").read_text()))
-            files += [((crate, f.stem), f.read_text()) for f in sorted(folder.glob("*.rt")) if f.stem != "lib"]
+    for crate in sorted(crates):
+        for file in sorted((root / "crates" / crate / "src").glob("*.rt")):
+            files.append(((crate,) if file.stem == "lib" else (crate, file.stem), file.read_text()))
     return files
 
 

@@ -109,9 +109,6 @@ class Walk:
 
     # ---- places
 
-    def load(self, place):
-        return self.value(place)
-
     def lent(self, x):
         """The content of a lent place."""
         content = self.state[x.root]
@@ -121,11 +118,11 @@ class Walk:
         if place[0] == "var":
             self.state[place[1]] = value
         elif place[0] == "field":
-            whole = self.load(place[1])
+            whole = self.value(place[1])
             kinds = [kind for _, kind in self.program.structs[whole.type[1]]]
             self.store(place[1], nodes.with_field(whole, place[2], value, kinds))
         elif place[0] == "index":
-            whole, at = self.load(place[1]), self.value(place[2])
+            whole, at = self.value(place[1]), self.value(place[2])
             self.needs(nodes.node("index", (whole, at), value.type))
             self.store(place[1], nodes.stored(whole, at, value))
         elif place[0] == "deref":
