@@ -11,5 +11,5 @@ known-exports = record {
   run = λ list. refl;
   edition-1 = λ output. refl;
   band = λ s p. refl;
-  version-0-3 = refl;
+  version-0-4 = refl;
 }

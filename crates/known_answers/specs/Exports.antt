@@ -33,5 +33,5 @@ pub record KnownExports : Type 0 where
   pub edition-1 : (output : List ℕ) → rewritten (record { result = answer 36; output = output }) ≡ copied 36 output
   -- dihkelu_band: the lines are returned, s and p written
   pub band : (s p : Float) → banded (record { lines = 4; s = s; p = p }) ≡ reply 4 (s ∷ p ∷ [])
-  -- dihkelu_version: 0.3
-  pub version-0-3 : version ≡ 3
+  -- dihkelu_version: 0.4
+  pub version-0-4 : version ≡ 4
