@@ -309,11 +309,11 @@ class WholeFile(unittest.TestCase):
         self.assertEqual(done.returncode, 1)
         self.assertRegex(done.stdout, "^ieee_powi2: what is returned differs: the source has .* the C has .*\n$")
 
-    @unittest.skipUnless(shutil.which("rt"), "LEFT OUT: the toolchain's std::num is not held to std_num.rt, since rt is not there")
+    @unittest.skipUnless(shutil.which("rt"), "LEFT OUT: the toolchain's std::num is not held to std_num.txt, since rt is not there")
     def test_std(self):
         kit = Path(subprocess.run(["rt", "doc"], capture_output=True, text=True, check=True).stdout.strip()).parent.parent
         theirs = (kit / "libs/std/src/num.rt").read_text()
-        for mine in rattle.read((ROOT / "tools/read_back_parts/std_num.rt").read_text(), "std_num.rt"):
+        for mine in rattle.read((ROOT / "tools/read_back_parts/std_num.txt").read_text(), "std_num.txt"):
             text = re.search(rf"^pub fn {mine[1]}\(.*?^\}}\n", theirs, re.M | re.S)[0]
             self.assertEqual(rattle.read(text, "num.rt")[0][:-1], mine[:-1])
 

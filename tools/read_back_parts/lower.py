@@ -169,7 +169,7 @@ def load(root, wanted=("dihkelu", "train_text")):
         if crate in needs and crate not in crates:
             crates.add(crate)
             todo += needs[crate]
-    files = [(("std", "num"), (pathlib.Path(__file__).parent / "std_num.rt").read_text()), (("std",), "pub mod num;")]
+    files = [(("std", "num"), (pathlib.Path(__file__).parent / "std_num.txt").read_text()), (("std",), "pub mod num;")]
     for crate in sorted(crates):
         for file in sorted((root / "crates" / crate / "src").glob("*.rt")):
             files.append(((crate,) if file.stem == "lib" else (crate, file.stem), file.read_text()))
