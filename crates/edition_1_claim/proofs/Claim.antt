@@ -18,6 +18,7 @@ use Rattle.sheet_untuned.specs.Claim.{Untuned, FirstTuning}
 use Rattle.sheet_untuned.proofs.Claim.{untuned-claim}
 use Rattle.edition_1_claim.specs.Claim.{RunsAlike, IsWritten, Untouched, Edition1Claim}
 use Rattle.edition_1_claim.proofs.Plain.{same-sheet, new-formed, new-within, new-untuned}
+use Rattle.edition_1_claim.proofs.Words.{unchanged-words}
 use Rattle.edition_1_claim.proofs.Runs.{runs, starts, steps-alike, lists, told-alike, answers-alike}
 
 -- what comes of some bytes, by what is said of them before
@@ -96,4 +97,10 @@ unfolding to-edition-1 edition-1
 turned-back src number place e output = ap (by-sheet output) (untuned-claim .turned-back src number place e)
 
 pub edition-1-claim : Edition1Claim
-edition-1-claim = record { alike = alike; written = is-written; twelve = twelve; turned-back = turned-back }
+edition-1-claim = record {
+  alike = alike;
+  unchanged = λ src bs x g. (sym (is-src src bs x g), unchanged-words x (formed src bs x g));
+  written = is-written;
+  twelve = twelve;
+  turned-back = turned-back;
+}

@@ -2,3 +2,4 @@
 mod Plain
 mod Runs
 pub mod Claim
+pub mod Words

@@ -6,10 +6,10 @@ use mathlib.Core.List.{List, reverse}
 use Prim.Native.Nat.{ℕ, _+_, _*_, _/_, _%_, _<_}
 use native.Mathlib.Omega.{arith}
 use lib.Dec.{eqb, ltb}
-use lib.ListN.{length}
+use lib.ListN.{length, drop}
 use lib.Ieee.{Float, nan, inf, fin, up, down, below, level, lt, eq, le}
 use borrow.Author.Tests.{eq-eqb, eqb-true, lt-ltb, ltb-true, le-ltb}
-use Rattle.refusal.specs.Outcome.{Outcome, answer, map, bind}
+use Rattle.refusal.specs.Outcome.{Outcome, answer, refusal, map, bind}
 use Rattle.thin_film_solver.specs.declared.ThinFilmLayer.{ThinFilmLayer}
 use Rattle.thin_film_layers.specs.Evaluation.{ordered}
 use Rattle.thin_film_coating.specs.declared.Coating.the-variants as C
@@ -20,14 +20,19 @@ use Rattle.thin_film.specs.Evaluate.{rust-evaluate-surface, evaluate-surface}
 use Rattle.gate_limits.specs.declared.Interface.{Interface}
 use Rattle.gate_limits.specs.declared.Interface.the-variants.{Bare, Coated}
 use Rattle.gate_limits.specs.Coating.{coded, interface}
+use Rattle.thin_film_solver.specs.declared.CoatingResponse.{CoatingResponse}
 use Rattle.c_layers.specs.Evaluate as Call
+use Rattle.c_scan.specs.Scan.{responses, too-many-cases, paired, evaluate-list}
 use Rattle.surface.specs.declared.Answers.{Answers}
-use Rattle.surface.specs.Answers.{coated-answers, answers-of, answers}
+use Rattle.surface.specs.Answers.{coated-answers, answers-of}
 use Rattle.sheet.specs.Sheet.{Sheet, SheetSurface, nth}
-use Rattle.sheet_values.specs.Values.{value, films, surface-value, met-at}
+use Rattle.sheet_values.specs.Values.{value, films, surface-value, met-with, met-at}
 use Rattle.gate.specs.Gate.{gated}
-use Rattle.sheet_surfaces.specs.Surfaces.{answers-to, surface-answers}
-use Rattle.far_side_claim.specs.Claim.{Turned, FarSide}
+use Rattle.gate.specs.Wavelength.{holds}
+use Rattle.sheet_surfaces.specs.Surfaces.{its-answers, answers-to, surface-answers}
+use Rattle.sheet_retuned.specs.Retuned.{retuned-before, answers-at}
+use Rattle.train_steps.specs.Train.{chosen-of, chosen-powers}
+use Rattle.far_side_claim.specs.Claim.{Turned, evaluated, FarSide}
 
 -- ---- what is at most something is not above it
 not-both : false ≡ true → ⊥
@@ -102,29 +107,35 @@ module _ (layers : List ThinFilmLayer) (n-incident n-substrate angle wavelength 
   explicit = refl
 
 -- ---- a sheet's surface
-module _ (src : List ℕ) (x : Sheet) (e : gated src ≡ answer x) (i : ℕ) (there : i < length (x .surfaces)) (five : nth (x .surfaces) i .payload / 2 ≡ 5) where
-  abbrev y : SheetSurface
-  y = nth (x .surfaces) i
-
-  abbrev w : Float
-  w = met-at (value (x .wavelength)) (x .surfaces) i
-
-  abbrev evaluated : List ThinFilmLayer → Outcome Answers
-  evaluated l = map coated-answers (evaluate-coating C.Multilayer l (value (y .n-incident)) (value (y .n-substrate)) (value (y .angle)) w)
+module _ (w : Float) (y : SheetSurface) (five : y .payload / 2 ≡ 5) where
+  abbrev in-order : Outcome Answers
+  in-order = evaluated w y (ordered (lt (value (y .n-substrate)) (value (y .n-incident))) (films w (y .layers)))
 
   custom : interface (y .payload / 2) ≡ Coated (S.Custom C.Multilayer)
   unfolding interface coded
   custom = ap interface five
 
-  met : answers w (surface-value y) (films w (y .layers)) ≡ evaluated (ordered (lt (value (y .n-substrate)) (value (y .n-incident))) (films w (y .layers)))
+  met : its-answers w y ≡ in-order
   unfolding answers-of
   met =
       ap (λ (k : Interface). answers-of k w (surface-value y) (films w (y .layers))) custom
       ∙ ap (map coated-answers) (explicit (films w (y .layers)) (value (y .n-incident)) (value (y .n-substrate)) (value (y .angle)) w)
 
-  sheet-surface : surface-answers src i ≡ evaluated (ordered (lt (value (y .n-substrate)) (value (y .n-incident))) (films w (y .layers)))
+  chosen-met : chosen-powers w y ≡ chosen-of (surface-value y .reflected) (map (λ (a : Answers). a .powers) in-order)
+  unfolding chosen-powers
+  chosen-met = ap (λ (o : Outcome Answers). chosen-of (surface-value y .reflected) (map (λ (a : Answers). a .powers) o)) met
+
+module _ (src : List ℕ) (x : Sheet) (e : gated src ≡ answer x) (i : ℕ) (there : i < length (x .surfaces)) (five : nth (x .surfaces) i .payload / 2 ≡ 5) where
+  abbrev y : SheetSurface
+  y = nth (x .surfaces) i
+
+  sheet-surface : surface-answers src i ≡ in-order (met-at (value (x .wavelength)) (x .surfaces) i) y five
   unfolding surface-answers
-  sheet-surface = ap (answers-to i) e ∙ simp (lt-ltb i (length (x .surfaces)) there) met
+  sheet-surface = ap (answers-to i) e ∙ simp (lt-ltb i (length (x .surfaces)) there) (met (met-at (value (x .wavelength)) (x .surfaces) i) y five)
+
+  retuned-surface : (v : Float) → holds v (drop i (x .surfaces)) ≡ true → answers-at src i v ≡ in-order (met-with v (y .tuning)) y five
+  unfolding answers-at
+  retuned-surface v h = ap (λ (o : Outcome Sheet). bind o (retuned-before i v)) e ∙ rw (lt-ltb i (length (x .surfaces)) there, h) (met (met-with v (y .tuning)) y five)
 
 -- ---- dihkelu_evaluate
 module _ (design n-incident n-substrate angle wavelength : Float) (flat : List Float) (whole : length flat % 3 ≡ 0) where
@@ -133,11 +144,26 @@ module _ (design n-incident n-substrate angle wavelength : Float) (flat : List F
   unfolding Call.evaluate Call.evaluate-coded Call.call-coating coded
   call = simp (eq-eqb (length flat % 3) 0 whole) (explicit (Call.layers flat) n-incident n-substrate angle wavelength)
 
+-- ---- dihkelu_evaluate_list: the same of each case
+abbrev cases : Float → Float → List Float → List Float → List ThinFilmLayer → Outcome (List CoatingResponse)
+cases n-incident n-substrate angles wavelengths l =
+    cond (paired angles wavelengths) (responses (λ angle wavelength. evaluate-coating C.Multilayer l n-incident n-substrate angle wavelength) 0 angles wavelengths) (refusal 1 too-many-cases)
+
+all-cases : (design n-incident n-substrate : Float) (flat : List Float) → length flat % 3 ≡ 0 → (angles wavelengths : List Float)
+    → evaluate-list 5 design n-incident n-substrate angles wavelengths flat ≡ cases n-incident n-substrate angles wavelengths (ordered (lt n-substrate n-incident) (Call.layers flat))
+unfolding evaluate-list
+all-cases design n-incident n-substrate flat whole angles wavelengths =
+    λ k. cond (paired angles wavelengths) (responses (λ angle wavelength. call design n-incident n-substrate angle wavelength flat whole k) 0 angles wavelengths) (refusal 1 too-many-cases)
+
 pub far-side : FarSide
 far-side = record {
   of-surface = λ layers n-incident n-substrate angle wavelength.
       turned n-incident n-substrate (λ l. evaluate-coating C.Multilayer l n-incident n-substrate angle wavelength) layers _ (explicit layers n-incident n-substrate angle wavelength);
   of-sheet = λ src x e i there five. turned _ _ _ _ _ (sheet-surface src x e i there five);
+  of-sheet-at = λ src x e i there five v h. turned _ _ _ _ _ (retuned-surface src x e i there five v h);
+  of-train = λ w y five. turned (value (y .n-incident)) (value (y .n-substrate)) (λ l. chosen-of (surface-value y .reflected) (map (λ (a : Answers). a .powers) (evaluated w y l))) (films w (y .layers)) _ (chosen-met w y five);
   of-call = λ design n-incident n-substrate angle wavelength flat whole.
       turned n-incident n-substrate (λ l. evaluate-coating C.Multilayer l n-incident n-substrate angle wavelength) (Call.layers flat) _ (call design n-incident n-substrate angle wavelength flat whole);
+  of-cases = λ design n-incident n-substrate angles wavelengths flat whole.
+      turned n-incident n-substrate (cases n-incident n-substrate angles wavelengths) (Call.layers flat) _ (all-cases design n-incident n-substrate flat whole angles wavelengths);
 }

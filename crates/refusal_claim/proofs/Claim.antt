@@ -6,10 +6,11 @@ use mathlib.Core.List.{List, [], _∷_, _++_, map as map-list}
 use Prim.Native.Nat.{ℕ, zero, suc, _*_, _%_, _≤_, _<_}
 use native.Mathlib.Omega.{arith}
 use lib.Dec.{T, eqb, leb, ltb, lit≤, lit<}
-use lib.ListN.{length, getD, drop, replicate}
+use lib.ListN.{length, getD, drop, replicate, length-replicate}
 use lib.Ieee as Ieee
 use lib.Ieee.{Float, nan, lt, ofBits}
-use borrow.Author.Tests.{ltb-true, le-ltb}
+use lib.Ieee.Bits.{is-true}
+use borrow.Author.Tests.{eq-eqb, ne-eqb, ltb-true, ltb-false, le-ltb}
 use Rattle.ieee.specs.Functions.{zero-f, one, finite-positive}
 use Rattle.refusal.specs.Outcome.{Outcome, answer, refusal, map, bind, invalid-parameter, too-many-layers}
 use Rattle.thin_film_solver.specs.declared.ThinFilmLayer.{ThinFilmLayer}
@@ -18,18 +19,24 @@ use Rattle.thin_film_solver.specs.Absorptance.{with-absorptance}
 use Rattle.thin_film_solver.specs.Solve as Solve
 use Rattle.thin_film_layers.specs.Evaluation.{ordered, no-layer}
 use Rattle.thin_film_valid.specs.Valid.{valid}
+use Rattle.thin_film_valid.specs.Ideal.{rust-ideal-ar}
 use Rattle.thin_film_presets.specs.Layers.{bragg-layers}
 use Rattle.thin_film_coating.specs.declared.Coating.{Coating}
 use Rattle.thin_film_coating.specs.declared.Coating.the-variants as C
 use Rattle.thin_film_coating.specs.declared.Layers.{Layers}
 use Rattle.thin_film_coating.specs.declared.Built as Declared
 use Rattle.thin_film_coating.specs.Coating as Built
+use Rattle.thin_film_coating.specs.Coating.{quarter-wave-layers}
 use Rattle.thin_film_coating.specs.Evaluate.{rust-respond, rust-evaluate-coating, evaluate-coating}
 use Rattle.thin_film.specs.declared.SurfaceCoating.{SurfaceCoating}
 use Rattle.thin_film.specs.declared.SurfaceCoating.the-variants as S
 use Rattle.thin_film.specs.Coating.{standard-wavelength, coating-of, layers-of, to-coating}
 use Rattle.thin_film_grammar.specs.Claim as Gives
+use Rattle.thin_film_grammar.specs.Films.{film}
+use Rattle.thin_film_grammar.specs.Reading.{counted, ended, read-from, reading}
+use Rattle.thin_film_shorthand.specs.Stack as Stack
 use Rattle.thin_film_shorthand.specs.Stack.{stack}
+use Rattle.reflectance_range.specs.declared.ReflectanceRange.{ReflectanceRange}
 use Rattle.reflectance_range.specs.Range.{index-valid, range-valid, reflectance-range}
 use Rattle.thin_film_shorthand.specs.Claim as Shorthand
 use Rattle.thin_film_shorthand.proofs.Claim.{shorthand}
@@ -38,8 +45,29 @@ use Rattle.gate_limits.specs.declared.Interface.{Interface}
 use Rattle.gate_limits.specs.declared.Interface.the-variants as I
 use Rattle.gate_limits.specs.Coating.{coded}
 use Rattle.c_layers.specs.Evaluate.{layers, call-coating, evaluate-coded, evaluate}
-use Rattle.c_scan.specs.Scan.{at-case, responses, paired, evaluate-list}
-use Rattle.c_names.specs.Names.{name-of, coating-name}
+use Rattle.c_scan.specs.Scan.{at-case, responses, paired, evaluate-list, all-numbers, scanned}
+use Rattle.c_scan.specs.Argument.{invalid-argument}
+use Rattle.math_trig.specs.Trig.{sin, cos}
+use Rattle.name_bytes.specs.Trim.{span}
+use Rattle.fresnel.specs.Fresnel.{fresnel-dielectric, fresnel-unpolarized, schlick-approx}
+use Rattle.polarization_stokes.specs.Jones.{intensity, normalize, to-stokes}
+use Rattle.polarization_mueller.specs.declared.JonesMatrix.{JonesMatrix}
+use Rattle.polarization_mueller.specs.declared.MuellerMatrix.{MuellerMatrix}
+use Rattle.polarization_mueller.specs.Jones.{linear-polarizer, retarder, quarter-wave-plate, half-wave-plate, diattenuator, apply, mul}
+use Rattle.polarization_mueller.specs.Mueller.{to-mueller, apply-mueller}
+use Rattle.polarization_born_wolf.specs.Conversion.{to-mueller-born-wolf}
+use Rattle.surface.specs.declared.Answers.{Answers}
+use Rattle.c_call.specs.Call.{Reply}
+use Rattle.c_call.specs.Layout.{evaluated, response-numbers, common, surface-answered, rows, alone, entries}
+use Rattle.c_stack.specs.Stack.{flat as flat-layers, stacked}
+use Rattle.c_mueller.specs.Mueller.{jones, converted}
+use Rattle.c_range.specs.Range.{ranged}
+use Rattle.c_fresnel.specs.Fresnel.{reflectances, totals, matrices}
+use Rattle.c_presets.specs.Presets.{mirror}
+use Rattle.c_polarization.specs.Numbers.{of, of-two, vector, stokes, mueller, parts, parameters, figures}
+use Rattle.c_names.specs.Names.{name-of, coating-name, name-said}
+use Rattle.polarization.specs.declared.SurfaceJones.{SurfaceJones}
+use Rattle.polarization.specs.Surface as Bare
 use Rattle.polarization.specs.Surface.{indices-valid, surface-fresnel-jones}
 use Rattle.name_bytes.specs.Ascii.{first-over}
 use Rattle.name_coating.specs.Name.{from-format-name}
@@ -61,7 +89,11 @@ use Rattle.sheet_surfaces.specs.Surfaces.{of-surface, surface-of, numbered, lay
 use Rattle.sheet_surfaces.proofs.Answers.{nth-answered}
 use Rattle.train_steps.specs.declared.State.{State}
 use Rattle.train_steps.specs.Train.{fresh, start, after-one, stepped, step, with-wavelength, retuned, retune, Ran, ran, run}
+use Rattle.train_claim.specs.Claim.{EveryCall}
 use Rattle.train_claim.proofs.Claim.{train-claim}
+use Rattle.sheet_retuned.specs.Retuned.{answers-at}
+use Rattle.dihkelu.specs.Numbers.{said}
+use Rattle.dihkelu.specs.Band.{banded}
 use Rattle.sheet_edition_1.specs.Edition.{translated, edition-1, Written, written, to-edition-1}
 use Rattle.edition_1_claim.proofs.Claim.{edition-1-claim}
 use Rattle.sheet_untuned.specs.Untuned.{no-tuning, without-tuning}
@@ -71,7 +103,7 @@ use Rattle.band.specs.declared.BandPowers.{BandPowers}
 use Rattle.band.specs.Band.{each-line, tested, powers, band}
 use Rattle.band.specs.Claim as Band
 use Rattle.band.proofs.Claim.{band-claim}
-use Rattle.refusal_claim.specs.Claim.{one-of, Only, Refuses, Sheet, Numbers, at, RefusalClaim}
+use Rattle.refusal_claim.specs.Claim.{one-of, Only, Refuses, Sheet, Numbers, at, listed, always, RefusalClaim}
 
 -- ---- numbers of refusals
 wider : (n : ℕ) (ms ks : List ℕ) → T (one-of n ms) → T (one-of n (ms ++ ks))
@@ -500,8 +532,8 @@ of-surface-only f i (answer x) t h = by (ltb i (length (x .surfaces))) refl (h x
     by false e h = tt
 of-surface-only f i (refusal number place) t h = t
 
-said : {A : Type 0} (f : Float → Data.SheetSurface → Outcome A) (i : ℕ) (o : Outcome Data.Sheet) (number place : ℕ) → o ≡ refusal number place → of-surface f i o ≡ refusal number place
-said f i o number place e = ap (of-surface f i) e
+as-gated : {A : Type 0} (f : Float → Data.SheetSurface → Outcome A) (i : ℕ) (o : Outcome Data.Sheet) (number place : ℕ) → o ≡ refusal number place → of-surface f i o ≡ refusal number place
+as-gated f i o number place e = ap (of-surface f i) e
 
 past : {A : Type 0} (f : Float → Data.SheetSurface → Outcome A) → of-surface f 16 (gated (whole .src)) ≡ refusal 7 0
 past f = ap (of-surface f 16) admitted ∙ rw (le-ltb 16 (length (panes .surfaces)) (omega (arith, sixteen)))
@@ -515,7 +547,7 @@ of-answers = record {
   only = λ x.
       of-surface-only _ (x .1) (gated (x .0 .src)) (all-seven (x .0 .src))
       (λ y e lt. let g = gate-claim .admits (x .0 .src) (x .0 .bytes) y .0 e .0 in rw (nth-answered y (g .0) (g .1) (x .1) lt .is) tt);
-  each = (((none, 0), (0, said _ 0 _ 4 0 four)), (((blank, 0), (0, said _ 0 _ 5 0 five)), (((unlit, 0), (1, said _ 0 _ 6 1 six)), (((whole, 16), (0, past _)), tt))));
+  each = (((none, 0), (0, as-gated _ 0 _ 4 0 four)), (((blank, 0), (0, as-gated _ 0 _ 5 0 five)), (((unlit, 0), (1, as-gated _ 0 _ 6 1 six)), (((whole, 16), (0, past _)), tt))));
 }
 
 of-nth-surface : Refuses (λ (x : Sheet × ℕ). nth-surface (x .0 .src) (x .1)) (4 ∷ 5 ∷ 6 ∷ 7 ∷ [])
@@ -538,8 +570,8 @@ of-nth-layer = record {
       of-surface-only _ (x .1 .0) (gated (x .0 .src)) (all-seven (x .0 .src))
       (λ y e lt. either seven (ltb (x .1 .1) (length (nth (y .surfaces) (x .1 .0) .layers))) (answer _) (refusal 7 0) tt tt);
   each = (
-    ((none, (0, 0)), (0, said _ 0 _ 4 0 four)),
-    (((blank, (0, 0)), (0, said _ 0 _ 5 0 five)), (((unlit, (0, 0)), (1, said _ 0 _ 6 1 six)), (((whole, (16, 0)), (0, past (layer-of 0))), tt))),
+    ((none, (0, 0)), (0, as-gated _ 0 _ 4 0 four)),
+    (((blank, (0, 0)), (0, as-gated _ 0 _ 5 0 five)), (((unlit, (0, 0)), (1, as-gated _ 0 _ 6 1 six)), (((whole, (16, 0)), (0, past (layer-of 0))), tt))),
   );
 }
 
@@ -602,6 +634,267 @@ of-quarter-waves = record {
   each = ((lit, (0, refl)), tt);
 }
 
+-- ---- through C: a list that is too short
+module _ {X A : Type 0} (layout : A → Reply) (call : X → Outcome A) where
+  told-last : (ns : List ℕ) → T (one-of 8 (ns ++ 8 ∷ []))
+  told-last [] = tt
+  told-last (n ∷ ns) = by (eqb 8 n) (told-last ns)
+    where
+      by : (b : Bool) → T (one-of 8 (ns ++ 8 ∷ [])) → T (b || one-of 8 (ns ++ 8 ∷ []))
+      by true t = tt
+      by false t = t
+
+  said-only : (ns : List ℕ) (o : Outcome A) (list : List Float) → Only ns o → Only (ns ++ 8 ∷ []) (said layout o list)
+  said-only ns (answer a) list t = either (ns ++ 8 ∷ []) (leb (length (layout a .numbers)) (length list)) (answer (layout a .returned)) (refusal 8 0) tt (told-last ns)
+  said-only ns (refusal number place) list t = wider number ns (8 ∷ []) t
+
+  said-each : (ns : List ℕ) → All (Refused call) ns → Refused (listed layout call) 8 → All (Refused (listed layout call)) (ns ++ 8 ∷ [])
+  said-each [] a e = (e, tt)
+  said-each (n ∷ ns) a e = let r = a .0 in (((r .0, []), (r .1 .0, ap (λ (o : Outcome A). said layout o []) (r .1 .1))), said-each ns (a .1) e)
+
+  -- with arguments that are answered by numbers
+  with-8 : (ns : List ℕ) → Refuses call ns → (x : X) (a : A) → call x ≡ answer a → leb (length (layout a .numbers)) 0 ≡ false → Refuses (listed layout call) (ns ++ 8 ∷ [])
+  with-8 ns r x a e l = record {
+    only = λ y. said-only ns (call (y .0)) (y .1) (r .only (y .0));
+    each = said-each ns (r .each) ((x, []), (0, ap (λ (o : Outcome A). said layout o []) e ∙ rw l));
+  }
+
+none-refused : {X A : Type 0} (call : X → A) → Refuses (always call) []
+none-refused call = record { only = λ x. tt; each = tt }
+
+-- a call that is never refused, and writes numbers
+module _ {X A : Type 0} (layout : A → Reply) (call : X → A) where
+  only-8 : (x : X) → leb (length (layout (call x) .numbers)) 0 ≡ false → Refuses (listed layout (always call)) (8 ∷ [])
+  only-8 x l = with-8 layout (always call) [] (none-refused call) x (call x) refl l
+
+-- ---- a surface of a sheet that is answered
+first-answered : let w = met-at (value (panes .wavelength)) (panes .surfaces) 0 in (a : Answers) × (surface-answers (whole .src) 0 ≡ answer a)
+first-answered =
+    let r = nth-answered panes (train-claim .one .formed) (train-claim .one .within) 0 (omega (arith, sixteen)) in
+    (r .value, train-claim .every-call (whole .src) (whole .bytes) panes admitted .answered 0 (omega (arith, sixteen)) ∙ r .is)
+
+has-numbers : (a : Answers) → leb (length (surface-answered a .numbers)) 0 ≡ false
+has-numbers a = go (a .coated)
+  where
+    go : (b : Bool) → leb (length (common a ++ cond b (response-numbers (a .response)) [])) 0 ≡ false
+    go true = refl
+    go false = refl
+
+c-answers : Refuses (listed surface-answered (λ (x : Sheet × ℕ). surface-answers (x .0 .src) (x .1))) (4 ∷ 5 ∷ 6 ∷ 7 ∷ 8 ∷ [])
+c-answers = with-8 surface-answered (λ (x : Sheet × ℕ). surface-answers (x .0 .src) (x .1)) (4 ∷ 5 ∷ 6 ∷ 7 ∷ []) of-answers (whole, 0) (first-answered .0) (first-answered .1) (has-numbers (first-answered .0))
+
+-- ---- after a retune made right before it is stepped
+abbrev after-retune : Sheet × (ℕ × Float) → Outcome Answers
+after-retune x = answers-at (x .0 .src) (x .1 .0) (x .1 .1)
+
+abbrev step-numbers : List ℕ
+step-numbers = 4 ∷ 5 ∷ 6 ∷ 7 ∷ 11 ∷ []
+
+abbrev begun : State
+begun = fresh panes
+
+begun-tuned : retune (whole .src) begun (value (panes .wavelength)) ≡ answer (with-wavelength (value (panes .wavelength)) begun)
+begun-tuned = train-claim .every-call (whole .src) (whole .bytes) panes admitted .tuned begun (value (panes .wavelength)) (is-true _ (train-claim .one .within .holds))
+
+of-answers-at : Refuses after-retune step-numbers
+of-answers-at = record {
+  only = λ x. by (x .0) (x .1 .0) (x .1 .1);
+  each = (
+    ((none, (0, nan)), (0, train-claim .turned-back (none .src) 4 0 four .answered-at 0 nan)),
+    (
+      ((blank, (0, nan)), (0, train-claim .turned-back (blank .src) 5 0 five .answered-at 0 nan)),
+      (
+        ((unlit, (0, nan)), (1, train-claim .turned-back (unlit .src) 6 1 six .answered-at 0 nan)),
+        (
+          ((whole, (16, nan)), (0, train-claim .every-call (whole .src) (whole .bytes) panes admitted .no-surface-at 16 nan (omega (arith, sixteen)))),
+          (((whole, (0, nan)), (0, train-claim .every-call (whole .src) (whole .bytes) panes admitted .untuned-at lost nan (omega (arith, sixteen)) 11 0 (train-claim .every-call (whole .src) (whole .bytes) panes admitted .untuned lost nan (no-wavelength (drop 0 (panes .surfaces)))))), tt),
+        ),
+      ),
+    ),
+  );
+}
+  where
+    any-state : (i : ℕ) → State
+    any-state i = record { done = i; s = zero-f; p = zero-f; «wavelength_nm» = zero-f }
+
+    on-admitted : (x : Sheet) (y : Data.Sheet) → gated (x .src) ≡ answer y → (i : ℕ) (w : Float) → Only step-numbers (answers-at (x .src) i w)
+    on-admitted x y e i w = go (ltb i (length (y .surfaces))) refl
+      where
+        call : EveryCall (x .src) y
+        call = train-claim .every-call (x .src) (x .bytes) y e
+
+        tested : (o : Outcome State) → retune (x .src) (any-state i) w ≡ o → Only (4 ∷ 5 ∷ 6 ∷ 11 ∷ []) o → i < length (y .surfaces) → Only step-numbers (answers-at (x .src) i w)
+        tested (answer next) r t l = let u = call .tuned-at (any-state i) w l next r in subst (Only step-numbers) (sym (u .1 .1 .0 ∙ u .1 .1 .1 .is)) tt
+        tested (refusal number place) r t l = subst (Only step-numbers) (sym (call .untuned-at (any-state i) w l number place r)) (elevens number t)
+          where
+            elevens : (n : ℕ) → T (one-of n (4 ∷ 5 ∷ 6 ∷ 11 ∷ [])) → T (one-of n step-numbers)
+            elevens n t = pick (eqb n 4) (eqb n 5) (eqb n 6) (eqb n 7) (eqb n 11) t
+              where
+                pick : (a b c d e : Bool) → T (a || (b || (c || (e || false)))) → T (a || (b || (c || (d || (e || false)))))
+                pick true b c d e t = tt
+                pick false true c d e t = tt
+                pick false false true d e t = tt
+                pick false false false true e t = tt
+                pick false false false false e t = t
+
+        go : (b : Bool) → ltb i (length (y .surfaces)) ≡ b → Only step-numbers (answers-at (x .src) i w)
+        go true h = tested (retune (x .src) (any-state i) w) refl (of-retune .only (x, (any-state i, w))) (ltb-true i (length (y .surfaces)) h)
+        go false h = subst (Only step-numbers) (sym (call .no-surface-at i w (ltb-false i (length (y .surfaces)) h))) tt
+
+    by : (x : Sheet) (i : ℕ) (w : Float) → Only step-numbers (answers-at (x .src) i w)
+    by x i w = go (gated (x .src)) refl (gated-only (x .src))
+      where
+        go : (o : Outcome Data.Sheet) → gated (x .src) ≡ o → Only sheets o → Only step-numbers (answers-at (x .src) i w)
+        go (answer y) e t = on-admitted x y e i w
+        go (refusal number place) e t = subst (Only step-numbers) (sym (train-claim .turned-back (x .src) number place e .answered-at i w)) (wider number sheets (7 ∷ 11 ∷ []) t)
+
+c-answers-at : Refuses (listed surface-answered after-retune) (4 ∷ 5 ∷ 6 ∷ 7 ∷ 11 ∷ 8 ∷ [])
+c-answers-at =
+    let u = train-claim .every-call (whole .src) (whole .bytes) panes admitted .tuned-at begun (value (panes .wavelength)) (omega (arith, sixteen)) (with-wavelength (value (panes .wavelength)) begun) begun-tuned in
+    with-8 surface-answered after-retune step-numbers of-answers-at (whole, (0, value (panes .wavelength))) (u .1 .1 .1 .value) (u .1 .1 .0 ∙ u .1 .1 .1 .is) (has-numbers (u .1 .1 .1 .value))
+
+-- ---- calls of single functions
+c-coating-name : Refuses (λ (x : ℕ × List ℕ). name-said (coating-name (x .0)) (x .1)) (2 ∷ 8 ∷ [])
+unfolding call-coating coded
+c-coating-name = record {
+  only = λ x. by (coating-name (x .0)) (x .1) (of-coating-name .only (x .0));
+  each = (((0, []), (0, refl)), (((1, []), (0, refl)), tt));
+}
+  where
+    by : (o : Outcome (List ℕ)) (output : List ℕ) → Only (2 ∷ []) o → Only (2 ∷ 8 ∷ []) (name-said o output)
+    by (answer name) output t = either (2 ∷ 8 ∷ []) (leb (length name) (length output)) (answer (length name)) (refusal 8 0) tt tt
+    by (refusal number place) output t = wider number (2 ∷ []) (8 ∷ []) t
+
+-- of a list of so many numbers
+module _ {A : Type 0} (layout : A → Reply) (count : ℕ) (call : List Float → A) where
+  of-one : Refuses (of (suc count) call) (1 ∷ [])
+  of-one = record {
+    only = λ numbers. either (1 ∷ []) (eqb (length numbers) (suc count)) (answer (call numbers)) invalid-parameter tt tt;
+    each = (([], (0, rw (ne-eqb 0 (suc count) (λ e. omega arith)) refl)), tt);
+  }
+
+  c-of : leb (length (layout (call (replicate (suc count) zero-f)) .numbers)) 0 ≡ false → Refuses (listed layout (of (suc count) call)) (1 ∷ 8 ∷ [])
+  c-of l = with-8 layout (of (suc count) call) (1 ∷ []) of-one (replicate (suc count) zero-f) (call (replicate (suc count) zero-f)) (rw (eq-eqb (length (replicate (suc count) zero-f)) (suc count) (length-replicate (suc count) zero-f)) refl) l
+
+-- of two
+module _ {A : Type 0} (layout : A → Reply) (count other : ℕ) (call : List Float → List Float → A) where
+  abbrev two : List Float × List Float → Outcome A
+  two x = of-two (suc count) other call (x .0) (x .1)
+
+  abbrev lists : List Float × List Float
+  lists = (replicate (suc count) zero-f, replicate other zero-f)
+
+  of-both : Refuses two (1 ∷ [])
+  of-both = record {
+    only = λ x. either (1 ∷ []) (eqb (length (x .0)) (suc count) && eqb (length (x .1)) other) (answer (call (x .0) (x .1))) invalid-parameter tt tt;
+    each = ((([], []), (0, rw (ne-eqb 0 (suc count) (λ e. omega arith)) refl)), tt);
+  }
+
+  c-two : leb (length (layout (call (lists .0) (lists .1)) .numbers)) 0 ≡ false → Refuses (listed layout two) (1 ∷ 8 ∷ [])
+  c-two l = with-8 layout two (1 ∷ []) of-both lists (call (lists .0) (lists .1)) (rw (eq-eqb (length (lists .0)) (suc count) (length-replicate (suc count) zero-f), eq-eqb (length (lists .1)) other (length-replicate other zero-f)) refl) l
+
+-- ---- a band of one line, the BEAM's own
+lit-line : holds (value (panes .wavelength)) (panes .surfaces) ≡ true
+lit-line = is-true _ (train-claim .one .within .holds)
+
+one-line : band (whole .src) (value (panes .wavelength) ∷ []) (1 ∷ []) ≡ answer (powers panes (value (panes .wavelength) ∷ []) (1 ∷ []))
+unfolding each-line
+one-line = on-whole (value (panes .wavelength) ∷ []) (1 ∷ []) ∙ rw lit-line
+
+c-band : Refuses (listed banded (λ (x : Sheet × (List Float × List ℕ)). band (x .0 .src) (x .1 .0) (x .1 .1))) (4 ∷ 5 ∷ 6 ∷ 12 ∷ 15 ∷ 16 ∷ 8 ∷ [])
+c-band = with-8 banded (λ (x : Sheet × (List Float × List ℕ)). band (x .0 .src) (x .1 .0) (x .1 .1)) of-bands of-band (whole, (value (panes .wavelength) ∷ [], 1 ∷ [])) _ one-line refl
+
+-- ---- a coating by its code
+abbrev coded-call : (ℕ × Float) × (Numbers × List Float) → Outcome CoatingResponse
+coded-call x = let n = x .1 .0 in evaluate (x .0 .0) (x .0 .1) (n .n-incident) (n .n-substrate) (n .angle) (n .wavelength) (x .1 .1)
+
+lit-ideal : evaluate 1 one one one zero-f one [] ≡ answer (with-absorptance rust-ideal-ar)
+unfolding evaluate evaluate-coded call-coating coded layers rust-evaluate-surface evaluate-surface rust-evaluate-coating evaluate-coating rust-respond valid layers-of ordered finite-positive Ieee.lt ofBits Ieee.le
+lit-ideal = refl
+
+of-evaluate : Refuses coded-call (1 ∷ 3 ∷ [])
+unfolding sixty-five-flat evaluate evaluate-coded call-coating coded layers rust-evaluate-surface evaluate-surface rust-evaluate-coating evaluate-coating rust-respond valid layers-of ordered finite-positive Ieee.lt ofBits Ieee.le
+of-evaluate = record {
+  only = λ x. let n = x .1 .0 in case-only (x .0 .0) (x .0 .1) (n .n-incident) (n .n-substrate) (x .1 .1) (n .angle) (n .wavelength);
+  each = ((((1, one), (unlawful, [])), (0, refl)), ((((5, one), (lit, sixty-five-flat)), (0, refl)), tt));
+}
+
+c-evaluate : Refuses (listed evaluated coded-call) (1 ∷ 3 ∷ 8 ∷ [])
+c-evaluate = with-8 evaluated coded-call (1 ∷ 3 ∷ []) of-evaluate ((1, one), (lit, [])) _ lit-ideal refl
+
+abbrev cases-call : (ℕ × Numbers) × (List Float × (List Float × List Float)) → Outcome (List CoatingResponse)
+cases-call x = let n = x .0 .1 in evaluate-list (x .0 .0) (n .wavelength) (n .n-incident) (n .n-substrate) (x .1 .0) (x .1 .1 .0) (x .1 .1 .1)
+
+one-case : evaluate-list 1 one one one (zero-f ∷ []) (one ∷ []) [] ≡ answer (with-absorptance rust-ideal-ar ∷ [])
+unfolding evaluate-list responses
+one-case = rw lit-ideal refl
+
+c-evaluate-list : Refuses (listed scanned cases-call) (1 ∷ 3 ∷ 8 ∷ [])
+unfolding all-numbers
+c-evaluate-list = with-8 scanned cases-call (1 ∷ 3 ∷ []) of-evaluate-list ((1, lit), (zero-f ∷ [], (one ∷ [], []))) _ one-case refl
+
+-- ---- a text of one letter
+abbrev text-call : List ℕ × Numbers → Outcome (List ThinFilmLayer)
+text-call x = at (stack (x .0)) (x .1)
+
+abbrev all-one : Numbers
+all-one = record { n-incident = one; n-substrate = one; angle = one; wavelength = one }
+
+letter-h : stack (0x48 ∷ []) one one one one ≡ answer (Stack.layer one one one one (film 0 0) ∷ [])
+unfolding stack Stack.valid finite-positive Ieee.lt Ieee.le ofBits reading read-from ended counted
+letter-h = refl
+
+c-stack : Refuses (listed stacked text-call) (1 ∷ 9 ∷ 10 ∷ 8 ∷ [])
+unfolding flat-layers
+c-stack = with-8 stacked text-call (1 ∷ 9 ∷ 10 ∷ []) of-stack (0x48 ∷ [], all-one) _ letter-h refl
+
+-- ---- Mueller matrices
+module _ (conversion : JonesMatrix → MuellerMatrix) where
+  of-mueller : Refuses (converted conversion) (1 ∷ [])
+  of-mueller = record {
+    only = λ numbers. either (1 ∷ []) (eqb (length numbers) 8) (answer (conversion (jones numbers))) invalid-parameter tt tt;
+    each = (([], (0, refl)), tt);
+  }
+
+  c-mueller : Refuses (listed rows (converted conversion)) (1 ∷ 8 ∷ [])
+  c-mueller = with-8 rows (converted conversion) (1 ∷ []) of-mueller (replicate 8 zero-f) (conversion (jones (replicate 8 zero-f))) refl refl
+
+-- ---- indices from 1 to 1
+abbrev ranges-call : Numbers → Outcome ReflectanceRange
+ranges-call x = at reflectance-range x
+
+c-reflectance-range : Refuses (listed ranged ranges-call) (13 ∷ 8 ∷ [])
+unfolding reflectance-range range-valid index-valid Ieee.lt ofBits Ieee.le
+c-reflectance-range = with-8 ranged ranges-call (13 ∷ []) of-reflectance-range all-one _ refl refl
+
+abbrev bare-call : Numbers → Outcome SurfaceJones
+bare-call x = surface-fresnel-jones (x .n-incident) (x .n-substrate) (x .angle)
+
+lit-bare : surface-fresnel-jones one one zero-f ≡ answer (Bare.bare one one (sin zero-f) (cos zero-f))
+unfolding surface-fresnel-jones indices-valid finite-positive Ieee.lt ofBits Ieee.le
+lit-bare = refl
+
+c-surface-fresnel-jones : Refuses (listed matrices bare-call) (1 ∷ 8 ∷ [])
+c-surface-fresnel-jones = with-8 matrices bare-call (1 ∷ []) of-fresnel lit _ lit-bare refl
+
+-- ---- quarter waves
+abbrev mirror-call : Numbers × ℕ → Outcome (List ThinFilmLayer)
+mirror-call x = at (λ n-high n-low _ design. mirror n-high n-low (x .1) design) (x .0)
+
+of-mirror : Refuses mirror-call (3 ∷ [])
+of-mirror = record {
+  only = λ x. either (3 ∷ []) (leb (x .1) 31) (answer _) too-many-layers tt tt;
+  each = (((lit, 32), (0, refl)), tt);
+}
+
+c-bragg-mirror : Refuses (listed stacked mirror-call) (3 ∷ 8 ∷ [])
+unfolding flat-layers bragg-layers
+c-bragg-mirror = with-8 stacked mirror-call (3 ∷ []) of-mirror (lit, 0) _ refl refl
+
+c-quarter-wave-ar : Refuses (listed stacked (always (at (λ n-ambient n-substrate _ design. quarter-wave-layers n-ambient n-substrate design)))) (8 ∷ [])
+unfolding flat-layers quarter-wave-layers
+c-quarter-wave-ar = only-8 stacked (at (λ n-ambient n-substrate _ design. quarter-wave-layers n-ambient n-substrate design)) lit refl
+
 pub refusal-claim : RefusalClaim
 refusal-claim = record {
   of-gate = of-gate;
@@ -625,4 +918,34 @@ refusal-claim = record {
   of-stack = of-stack;
   of-reflectance-range = of-reflectance-range;
   of-quarter-waves = of-quarter-waves;
+  c-answers-at = c-answers-at;
+  c-answers = c-answers;
+  c-band = c-band;
+  c-evaluate = c-evaluate;
+  c-evaluate-list = c-evaluate-list;
+  c-invalid-argument = none-refused (at invalid-argument);
+  c-stack = c-stack;
+  c-to-mueller = c-mueller to-mueller;
+  c-mueller-born-wolf = c-mueller to-mueller-born-wolf;
+  c-reflectance-range = c-reflectance-range;
+  c-fresnel-dielectric = only-8 reflectances (at (λ cos n1 n2 _. fresnel-dielectric cos n1 n2)) lit refl;
+  c-fresnel-unpolarized = only-8 totals (at (λ cos n1 n2 _. fresnel-unpolarized cos n1 n2)) lit refl;
+  c-schlick-approx = only-8 alone (at (λ cos n1 n2 _. schlick-approx cos n1 n2)) lit refl;
+  c-surface-fresnel-jones = c-surface-fresnel-jones;
+  c-quarter-wave-ar = c-quarter-wave-ar;
+  c-bragg-mirror = c-bragg-mirror;
+  c-coating-name = c-coating-name;
+  c-trim = none-refused span;
+  c-to-stokes = c-of parameters 3 (λ given. to-stokes (vector given)) refl;
+  c-jones-normalize = c-of parts 3 (λ given. normalize (vector given)) refl;
+  c-jones-intensity = c-of alone 3 (λ given. intensity (vector given)) refl;
+  c-stokes-figures = c-of figures 3 (λ given. stokes given) refl;
+  c-jones-apply = c-two parts 7 4 (λ given other. apply (jones given) (vector other)) refl;
+  c-jones-mul = c-two entries 7 8 (λ given other. mul (jones given) (jones other)) refl;
+  c-mueller-apply = c-two parameters 15 4 (λ given other. apply-mueller (mueller given) (stokes other)) refl;
+  c-diattenuator = c-of entries 3 (λ given. diattenuator (vector given .ex) (vector given .ey)) refl;
+  c-linear-polarizer = only-8 entries linear-polarizer zero-f refl;
+  c-retarder = only-8 entries (λ (x : Float × Float). retarder (x .0) (x .1)) (zero-f, zero-f) refl;
+  c-quarter-wave-plate = only-8 entries quarter-wave-plate zero-f refl;
+  c-half-wave-plate = only-8 entries half-wave-plate zero-f refl;
 }
