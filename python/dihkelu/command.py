@@ -22,7 +22,7 @@ from .sheet import Layer
 from .words import Wrong, apart, counted, decimal_text, in_line, number, printable, quoted, unit, written
 
 MOST_POINTS = 100_000  # of a sweep
-MOST_HINTS = 20  # of a batch, on a terminal
+MOST_HINTS = 20  # of a sheet or a batch on a terminal; JSON has them all
 STATUSES = "The status is 0, 1 where a text, sheet or point was refused, or 2 where the input or output failed or the call is none."
 
 
@@ -49,7 +49,8 @@ def say(given: argparse.Namespace, notes: list[str], hints: list[str]) -> None:
     """Notes and hints on standard error; in JSON they stand in the answer."""
     if given.quiet or getattr(given, "format", "") == "json":
         return
-    for kind, sentences in [("note", notes), ("hint", hints)]:
+    more = [f"{len(hints) - MOST_HINTS} more hints"] if len(hints) > MOST_HINTS else []
+    for kind, sentences in [("note", notes), ("hint", hints[:MOST_HINTS] + more)]:
         for sentence in sentences:
             print(printable(f"{getattr(given, 'file', 'dihkelu')}: {kind}: {sentence}"), file=sys.stderr)
 

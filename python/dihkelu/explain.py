@@ -396,7 +396,7 @@ def pass_hints(walked: Walk, count: int, after: Sequence[tuple[float, float]]) -
         return []
     s, p = passes(s0, s1, s2), passes(p0, p1, p2)
     why = "the light to and fro between it and the surface before, which one pass leaves out, would add"
-    return [f"is the second face of a plate: {why} {100 * s:.2g} % to s and {100 * p:.2g} % to p, without interference"]
+    return [f"is the second face of a plate: {why} {100 * s:.1f} % to s and {100 * p:.1f} % to p, without interference"]
 
 
 def passes(before: float, between: float, behind: float) -> float:

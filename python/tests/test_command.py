@@ -81,6 +81,13 @@ class Losses(Folder):
         said = run("losses", "-", given="beam 1064 nm s 1 p 0\nsurface mgf2 transmitted from 1 to 1.5 at 0 deg\n")[2]
         self.assertEqual(said, "-: hint: surface 1 (line 2) has the preset mgf2, designed for 550 nm; the light has 1064 nm\n")
 
+    def test_many_hints(self):
+        """A train in which nothing fits together does not fill the screen."""
+        apart = "beam 500 nm s 0.5 p 0.5\n" + 40 * "surface bare transmitted from 1 to 1.5 at 0 deg\n"
+        said = run("losses", "-", given=apart)[2].splitlines()
+        self.assertEqual((len(said), said[-1]), (21, "-: hint: 19 more hints"))
+        self.assertEqual(len(json.loads(run("losses", "-", "-f", "json", given=apart)[1])["hints"]), 39)
+
     def test_another_wavelength(self):
         other = SCANNER.replace("beam 1064 nm", "beam 532 nm")
         self.assertEqual(run("losses", "-", "--wavelength", "532", given=SCANNER), run("losses", "-", given=other))

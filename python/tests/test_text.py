@@ -153,7 +153,7 @@ class Windows(unittest.TestCase):
         rp = ((n * math.cos(outer) - math.cos(inner)) / (n * math.cos(outer) + math.cos(inner))) ** 2
         more = [sum(r ** (2 * k) for k in range(1, 60)) for r in (rs, rp)]
         (said,) = reports.hints(made(BEAM + "window 1.5 at 60 deg\n"))
-        self.assertIn(f"would add {100 * more[0]:.2g} % to s and {100 * more[1]:.2g} % to p", said)
+        self.assertIn(f"would add {100 * more[0]:.1f} % to s and {100 * more[1]:.1f} % to p", said)
         self.assertEqual(reports.hints(made(BEAM + "window 1.5 at 30 deg\n")), [])
         film = "both custom\nlayer 0.26 thickness 2 nm k 6.97\n"
         self.assertEqual(reports.hints(made(BEAM + "window 3 at 0 deg\n" + film)), [])  # what is not transmitted may stay in the film
