@@ -194,6 +194,31 @@ class Page(unittest.TestCase):
         self.b.click("[data-action=undo]")
         self.assertEqual(self.b.run(kinds), "5 45 deg 25 deg 10 deg")
 
+    def test_faces_wavelengths_and_kinds_of_layers(self):
+        self.example()
+        self.b.click("[data-path='rows.0.alike']")
+        self.assertEqual(self.b.run("return document.querySelector('[data-path=\"rows.0.back.layers.3.thickness\"]').value"), "144.1 nm")
+        self.choose("[data-path='rows.0.back.name']", "bare")
+        self.cell("rows.1.retune", "1,1 µm")
+        self.assertEqual(self.b.run("return [...document.querySelectorAll('[data-nm]')].map((x) => x.placeholder ?? x.textContent)"), ["1064", "1064", "1100", "1100", "1100"])
+        self.choose("[data-path='rows.1.follows']", "transmitted")
+        self.choose("[data-path='rows.2.front.layers.0.kind']", "quarter")
+        self.cell("rows.2.front.layers.0.index", "1,38")
+        self.choose("[data-path='rows.2.front.layers.1.kind']", "glass")
+        self.b.click("[data-action=save-text]")
+        words = self.saved("train.txt").decode()
+        for line in ["  front custom", "retune to 1.1 um", "surface custom transmitted from air to n-bk7 at 45 deg", "  layer 1.38 quarter-waves 1 at 1064 nm", "  glass a 1.45 b 0.0033 c 0 thickness 100 nm"]:
+            self.assertIn(line + "\n", words)
+        self.assertNotIn("  back", words)
+        self.b.click("[data-action=save-sheet]")
+        self.assertEqual(self.saved("train.sheet"), sheet(words))
+        self.b.click("[data-action=save-edition1]")
+        self.assertIn("Edition 1 has no new wavelength", self.b.text("#said"))
+        self.choose("[data-path='materials.0.kind']", "table")
+        self.assertIn("materials.0.lines", self.marked())
+        self.cell("materials.0.lines", "500 1.46 0\n1200 nm 1.45 0")
+        self.assertEqual(self.marked(), [])
+
     def test_last_work_is_kept(self):
         self.example()
         self.cell("rows.0.angle", "31")
