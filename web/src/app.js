@@ -445,13 +445,20 @@ function press(action, path) {
 
 // ---- what is typed
 
-function typed(element) {
-  put(model, element.dataset.path, element.type === "checkbox" ? element.checked : element.value);
+function isChoice(element) {
+  return element.tagName === "SELECT" || element.type === "checkbox";
 }
 
+function typed(element) {
+  put(model, element.dataset.path, element.value);
+  update();
+}
+
+// A choice may need other cells than those that are shown: the table is made anew.
 function changed(element) {
   const { path } = element.dataset;
-  if (element.tagName !== "SELECT" && element.type !== "checkbox") return commit();
+  if (!isChoice(element)) return commit();
+  put(model, path, element.type === "checkbox" ? element.checked : element.value);
   if (path.includes(".layers.") && path.endsWith(".kind")) put(model, path.slice(0, -5), newLayer(element.value));
   if (path.endsWith(".alike") && !element.checked) put(model, path.replace(/alike$/, "back"), copyOf(at(model, path.replace(/alike$/, "front"))));
   commit();
@@ -475,9 +482,7 @@ function listen() {
     if (element) press(element.dataset.action, element.dataset.at);
   });
   document.addEventListener("input", (event) => {
-    if (!event.target.dataset.path) return;
-    typed(event.target);
-    update();
+    if (event.target.dataset.path && !isChoice(event.target)) typed(event.target);
   });
   document.addEventListener("change", (event) => event.target.dataset.path && changed(event.target));
   document.addEventListener("toggle", (event) => event.target.dataset.coat && (at(model, event.target.dataset.coat).open = event.target.open), true);

@@ -64,8 +64,9 @@ export function cauchy(a, b, c, nm) {
 export function between(material, nm, column) {
   const points = [...material.points].sort((one, two) => one.nm - two.nm);
   const i = points.findIndex((one, at) => one.nm <= nm && nm <= (points[at + 1] || (at ? { nm: NaN } : one)).nm);
-  const ends = points.length ? [points[0], points.at(-1)].map((one) => written(one.nm)) : [];
-  if (i < 0) throw new Wrong(`${material.name} is known from ${ends.join(" to ")} nm by its lines; the wavelength is ${written(nm)} nm: add a line for it`);
+  if (!points.length) throw new Wrong(`the table of ${material.name} cannot be read: mend it`);
+  const known = `${material.name} is known from ${written(points[0].nm)} to ${written(points.at(-1).nm)} nm by its lines`;
+  if (i < 0) throw new Wrong(`${known}; the wavelength is ${written(nm)} nm: add a line for it`);
   const [one, two] = [points[i], points[i + 1] || points[i]];
   if (nm === one.nm || nm === two.nm) return (nm === one.nm ? one : two)[column];
   return one[column] + ((nm - one.nm) / (two.nm - one.nm)) * (two[column] - one[column]);

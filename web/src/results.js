@@ -79,7 +79,7 @@ export function sweepAngle(plan, list, faces) {
   return list.map((at) => pointOf(plan, at, plan.wavelength, Object.fromEntries(first.map((i) => [i, at * DEGREE]))));
 }
 
-const MOST_POINTS = 20000;
+const MOST_POINTS = 5000;
 
 // first, first + step and so on up to last: whole numbers of the last decimal place, so that no sum drifts.
 export function steps(first, last, step) {

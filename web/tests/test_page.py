@@ -17,6 +17,31 @@ TAB, ENTER = "\ue004", "\ue007"
 GUIDE = (ROOT / "docs/guide/back.txt").read_text()
 
 
+RANDOM_USE = """
+let seed = arguments[0];
+const below = (count) => { seed = (Math.imul(seed, 1103515245) + 12345) >>> 0; return (seed >>> 8) % count; };
+const one = (list) => list[below(list.length)];
+const CELLS = ["", "1", "1.5", "2,3", "air", "n-bk7", "silica-film", "gold", "TiO2", "45 deg", "80°", "0.3 rad", "1064 nm", "1.064 µm", "-1", "1e400", "x", "(HL)^4", "(HL", "M",
+  "0x7FF8000000000000", "532 1.5 0"];
+const LEFT = ["open", "print", "save-text", "save-sheet", "save-hex", "save-edition1", "save-svg", "save-csv", "new"];
+const wrong = [];
+for (let i = 0; i < arguments[1]; i++) {
+  const cells = [...document.querySelectorAll("[data-path], #from, #to, #step, #over, #show, #swept, #lines")];
+  const buttons = [...document.querySelectorAll("button[data-action]")].filter((x) => !x.disabled && !LEFT.includes(x.dataset.action));
+  const element = below(3) ? one(cells) : one(buttons);
+  if (element.tagName === "BUTTON" || element.type === "checkbox") element.click();
+  else {
+    element.value = element.tagName === "SELECT" ? one([...element.options]).value : one(CELLS);
+    for (const type of ["input", "change"]) element.dispatchEvent(new Event(type, { bubbles: true }));
+  }
+  const total = document.querySelector("#total").textContent;
+  if (!/^(Refused.+|-?[0-9.]+ % lost.*|– % lost.*)$/.test(total)) wrong.push(`${i} ${total}`);
+  if (/NaN|undefined|Infinity/.test(document.querySelector("#total-part").textContent + document.querySelector("#train").textContent)) wrong.push(`${i} ${total}`);
+}
+return wrong;
+"""
+
+
 def sheet(content):
     return text.read(content).make().sheet.to_bytes()
 
@@ -193,6 +218,37 @@ class Page(unittest.TestCase):
         self.assertIn("No surface yet", self.b.text("#train-part"))
         self.b.click("[data-action=undo]")
         self.assertEqual(self.b.run(kinds), "5 45 deg 25 deg 10 deg")
+
+    def test_faces_wavelengths_and_kinds_of_layers(self):
+        self.example()
+        self.b.click("[data-path='rows.0.alike']")
+        self.assertEqual(self.b.run("return document.querySelector('[data-path=\"rows.0.back.layers.3.thickness\"]').value"), "144.1 nm")
+        self.choose("[data-path='rows.0.back.name']", "bare")
+        self.cell("rows.1.retune", "1,1 µm")
+        self.assertEqual(self.b.run("return [...document.querySelectorAll('[data-nm]')].map((x) => x.placeholder ?? x.textContent)"), ["1064", "1064", "1100", "1100", "1100"])
+        self.choose("[data-path='rows.1.follows']", "transmitted")
+        self.choose("[data-path='rows.2.front.layers.0.kind']", "quarter")
+        self.cell("rows.2.front.layers.0.index", "1,38")
+        self.choose("[data-path='rows.2.front.layers.1.kind']", "glass")
+        self.b.click("[data-action=save-text]")
+        words = self.saved("train.txt").decode()
+        for line in ["  front custom", "retune to 1.1 um", "surface custom transmitted from air to n-bk7 at 45 deg", "  layer 1.38 quarter-waves 1 at 1064 nm", "  glass a 1.45 b 0.0033 c 0 thickness 100 nm"]:
+            self.assertIn(line + "\n", words)
+        self.assertNotIn("  back", words)
+        self.b.click("[data-action=save-sheet]")
+        self.assertEqual(self.saved("train.sheet"), sheet(words))
+        self.b.click("[data-action=save-edition1]")
+        self.assertIn("Edition 1 has no new wavelength", self.b.text("#said"))
+        self.choose("[data-path='materials.0.kind']", "table")
+        self.assertIn("materials.0.lines", self.marked())
+        self.cell("materials.0.lines", "500 1.46 0\n1200 nm 1.45 0")
+        self.assertEqual(self.marked(), [])
+
+    def test_random_use(self):
+        """Whatever is typed, chosen and pressed, nothing fails, and every total is a number or a refusal."""
+        self.example()
+        wrong = self.b.run(RANDOM_USE, 1, 150)
+        self.assertEqual(wrong, [])
 
     def test_last_work_is_kept(self):
         self.example()
