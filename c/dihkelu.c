@@ -1,12 +1,42 @@
 // Made by tools/c_source from the checked program; a change is made in crates/ and this file written anew.
 // SPDX-License-Identifier: MIT OR Apache-2.0
 //
+// This project translates parts of OpticsLab (optics-core: thin_film.rs, fresnel.rs,
+// polarization.rs, error.rs), whose notice and licence text follow.
+//
+// OpticsLab
+// Copyright (c) 2026 Alexandru Crisan and the OpticsLab contributors.
+// Licensed under the MIT License or the Apache License, Version 2.0, at your option
+// (LICENSE-MIT, LICENSE-APACHE).
+//
+// MIT License
+//
+// Copyright (c) 2026 OpticsLab Contributors
+//
+// Permission is hereby granted, free of charge, to any person obtaining a copy
+// of this software and associated documentation files (the "Software"), to deal
+// in the Software without restriction, including without limitation the rights
+// to use, copy, modify, merge, publish, distribute, sublicense, and/or sell
+// copies of the Software, and to permit persons to whom the Software is
+// furnished to do so, subject to the following conditions:
+//
+// The above copyright notice and this permission notice shall be included in all
+// copies or substantial portions of the Software.
+//
+// THE SOFTWARE IS PROVIDED "AS IS", WITHOUT WARRANTY OF ANY KIND, EXPRESS OR
+// IMPLIED, INCLUDING BUT NOT LIMITED TO THE WARRANTIES OF MERCHANTABILITY,
+// FITNESS FOR A PARTICULAR PURPOSE AND NONINFRINGEMENT. IN NO EVENT SHALL THE
+// AUTHORS OR COPYRIGHT HOLDERS BE LIABLE FOR ANY CLAIM, DAMAGES OR OTHER
+// LIABILITY, WHETHER IN AN ACTION OF CONTRACT, TORT OR OTHERWISE, ARISING FROM,
+// OUT OF OR IN CONNECTION WITH THE SOFTWARE OR THE USE OR OTHER DEALINGS IN THE
+// SOFTWARE.
+//
 // Light through a train of coated windows: the whole library in one file. dihkelu.h says what each call does. Functions
 // have their crate's name in front, and those that are called stand before those that call.
 //
 // The answers are those of the proved library, bit for bit, only where each operation on doubles is rounded once, to
-// nearest, as IEEE 754 has it. What can be known when this is compiled is tested here; the rest is the caller's
-// (dihkelu_environment_ok of the header).
+// nearest, as IEEE 754 has it. What can be known when this is compiled is tested here; the environment of the caller is
+// set for each call and given back.
 #include "dihkelu.h"
 
 #include <float.h>
@@ -34,7 +64,9 @@
 _Static_assert(FLT_RADIX == 2 && DBL_MANT_DIG == 53, "double is no binary64");
 _Static_assert(DBL_MAX_EXP == 1024 && DBL_MIN_EXP == -1021, "double is no binary64");
 _Static_assert(sizeof(double) == 8 && sizeof(uint64_t) == 8, "a byte has another size");
-_Static_assert(sizeof(size_t) == 8 && sizeof(void *) == 8, "this is for machines of 64 bits");
+// A count is a size_t in dihkelu.h and a uint64_t inside: widened there, and never cut. An index is below its list's count.
+_Static_assert(sizeof(size_t) <= sizeof(uint64_t), "a count would be cut");
+_Static_assert(sizeof(int) >= 4 && sizeof(size_t) >= 4, "this is for machines of 32 bits or more");
 
 // The bits of a double, and the double of bits.
 static inline uint64_t to_bits(double x) {
@@ -58,6 +90,86 @@ static inline uint32_t leading_zeros(uint64_t x) {
     return zeros;
 }
 
+// ==== the floating-point environment
+//
+// A call that works with doubles does so in the environment that its answers are proved for: rounding to nearest,
+// subnormals kept, no exception trapped. It gives the caller's environment back with the caller's flags. Such a call
+// is two functions: NAME_body works, and NAME sets the environment around it. A call without such work is one.
+// DIHKELU_TRUST_ENVIRONMENT leaves all of this out; the caller then owes the environment.
+//
+// Compilers take operations on doubles for independent of the environment, and may move them, or a call of a function
+// that they have looked into, to where it is another. They know nothing of what a volatile pointer points to: such a
+// call stays between the two changes.
+#if defined(DIHKELU_TRUST_ENVIRONMENT) || defined(__wasm__)
+#define LOOKED_UP
+typedef int environment;
+
+static inline environment environment_enter(void) {
+    return 0;
+}
+
+static inline void environment_leave(environment caller) {
+    (void)caller;
+}
+#elif defined(__GNUC__) && defined(__SSE2__)
+#define LOOKED_UP volatile
+typedef uint32_t environment; // MXCSR
+
+static inline environment environment_enter(void) {
+    static const environment proved = 0x1F80;
+    environment caller;
+    __asm__ volatile("stmxcsr %0" : "=m"(caller) : : "memory");
+    __asm__ volatile("ldmxcsr %0" : : "m"(proved) : "memory");
+    return caller;
+}
+
+static inline void environment_leave(environment caller) {
+    __asm__ volatile("ldmxcsr %0" : : "m"(caller) : "memory");
+}
+#elif defined(__GNUC__) && defined(__aarch64__)
+#define LOOKED_UP volatile
+typedef struct {
+    uint64_t control; // FPCR; 0 is what the answers are proved for
+    uint64_t flags;   // FPSR
+} environment;
+
+static inline void environment_control(uint64_t control) {
+    __asm__ volatile("msr fpcr, %0" : : "r"(control) : "memory");
+}
+
+static inline environment environment_enter(void) {
+    environment caller;
+    __asm__ volatile("mrs %0, fpcr" : "=r"(caller.control) : : "memory");
+    __asm__ volatile("mrs %0, fpsr" : "=r"(caller.flags) : : "memory");
+    if (caller.control != 0) { // the register is slow to write
+        environment_control(0);
+    }
+    return caller;
+}
+
+static inline void environment_leave(environment caller) {
+    if (caller.control != 0) {
+        environment_control(caller.control);
+    }
+    __asm__ volatile("msr fpsr, %0" : : "r"(caller.flags) : "memory");
+}
+#else
+#include <fenv.h>
+#define LOOKED_UP volatile
+typedef fenv_t environment;
+
+static inline environment environment_enter(void) {
+    environment caller;
+    fegetenv(&caller);
+    fesetenv(FE_DFL_ENV);
+    return caller;
+}
+
+static inline void environment_leave(environment caller) {
+    fesetenv(&caller);
+}
+#endif
+
 // ==== types
 
 typedef struct {
@@ -70,6 +182,12 @@ typedef struct {
     uint64_t place;
     uint64_t len;
 } name_bytes_Span;
+
+// A part of a lent name, with its place in it.
+typedef struct {
+    slice_u8 bytes;
+    uint64_t place;
+} name_bytes_Part;
 
 // One film: letter 0, 1 or 2 is H, L or M. The multiplier is 0 where none is written.
 typedef struct {
@@ -371,10 +489,6 @@ typedef struct {
     thin_film_solver_ThinFilmLayer at[64];
 } thin_film_solver_ThinFilmLayer_x64;
 
-typedef struct {
-    thin_film_solver_ThinFilmLayer at[4];
-} thin_film_solver_ThinFilmLayer_x4;
-
 // A coating. The layers of Multilayer are the list beside it, from the incident medium to the
 // substrate.
 typedef enum {
@@ -610,13 +724,17 @@ typedef struct {
     surface_Powers powers;
 } surface_real_Known;
 
-// The admittances of the media on both sides of the films, for s and for p.
+// A layer with its medium.
 typedef struct {
-    double eta0_s;
-    double eta_s;
-    double eta0_p;
-    double eta_p;
-} surface_lines_Sides;
+    thin_film_solver_ThinFilmLayer layer;
+    surface_real_Medium medium;
+} surface_real_Seen;
+
+// The last two layers that were read: of layers that take turns, as in H L H L, two media are worked out.
+typedef struct {
+    surface_real_Seen earlier;
+    surface_real_Seen last;
+} surface_real_Recent;
 
 // What is reflected and what is transmitted: the amplitudes, and their shares before they are clamped.
 typedef struct {
@@ -703,6 +821,14 @@ typedef struct {
     } as;
 } sheet_answers_PowersReply;
 
+typedef struct {
+    uint64_t at[64];
+} u64_x64;
+
+typedef struct {
+    double at[64];
+} f64_x64;
+
 // A sheet that is admitted, with its count of surfaces; or a refusal.
 typedef struct {
     enum {
@@ -715,30 +841,17 @@ typedef struct {
     } as;
 } gate_Gated;
 
+// Whether layers pass; and the place of the first that does not, or else the one after them.
 typedef struct {
-    uint16_t at[64];
-} u16_x64;
+    bool all;
+    uint64_t place;
+} gate_Fit;
 
-typedef struct {
-    double at[64];
-} f64_x64;
-
-// The place of a SURFACE and its angle; the place 1, where no SURFACE stands, for one that is left to be worked out alone.
-typedef struct {
-    uint16_t place;
-    double angle_rad;
-} gate_Note;
-
-typedef struct {
-    uint16_t at[16];
-} u16_x16;
-
-// Whether a block is within the limits, and what the layers after it are judged with: n_incident * abs(sin) of their
-// SURFACE, and its place.
+// Whether it is within the limits, the wavelength that it is met with, and the place of its first block outside.
 typedef struct {
     bool passes;
-    double snell;
-    uint64_t surface;
+    double wavelength_nm;
+    uint64_t place;
 } gate_Passage;
 
 // The answers of a surface, and a refusal, whose number is 0 where there is none.
@@ -1017,6 +1130,32 @@ static slice_u8 name_bytes_trimmed(slice_u8 name) {
     uint64_t a = s.place;
     uint64_t e = a + s.len;
     return (slice_u8){a == 0 ? name.at : name.at + a, e - a};
+}
+
+// Where the trimmed part of a name begins in it.
+static uint64_t name_bytes_place(slice_u8 name) {
+    name_bytes_Span s = name_bytes_trim_span(name);
+    return s.place;
+}
+
+// The trimmed part of the caller's name, with its place in it.
+static name_bytes_Part name_bytes_trim(slice_u8 name) {
+    return (name_bytes_Part){.bytes = name_bytes_trimmed(name), .place = name_bytes_place(name)};
+}
+
+// Where a part lies, and how long it is.
+static name_bytes_Span name_bytes_span_of(slice_u8 bytes, uint64_t place) {
+    return (name_bytes_Span){.place = place, .len = bytes.count};
+}
+
+// The numbers of a part.
+static name_bytes_Span name_bytes_numbers(name_bytes_Part part) {
+    return name_bytes_span_of(part.bytes, part.place);
+}
+
+// Those of the trimmed part of a name, for callers who are handed no reference.
+static name_bytes_Span name_bytes_trim_numbers(slice_u8 name) {
+    return name_bytes_numbers(name_bytes_trim(name));
 }
 
 // p stands at the beginning of s.
@@ -2081,16 +2220,6 @@ static bool sheet_stands_whole(slice_u8 src, uint64_t at, uint32_t w, uint64_t s
 }
 
 static sheet_PlainFloats sheet_plain_floats(slice_u8 src, uint64_t at) {
-    if (!sheet_stands_whole(src, at, 0x40000000, 7)) {
-        return (sheet_PlainFloats){.stands = false, .first = 0.0, .third = 0.0, .second = 0.0};
-    }
-    return (sheet_PlainFloats){.stands = true, .first = sheet_float_in(src, at + 1),
-            .third = sheet_float_in(src, at + 5), .second = sheet_float_in(src, at + 3)};
-}
-
-// The same for a second caller: a compiler puts a function of this size in line where it has one caller alone, and LAYERs are
-// read more often than anything else.
-static sheet_PlainFloats sheet_plain_floats_again(slice_u8 src, uint64_t at) {
     if (!sheet_stands_whole(src, at, 0x40000000, 7)) {
         return (sheet_PlainFloats){.stands = false, .first = 0.0, .third = 0.0, .second = 0.0};
     }
@@ -3819,13 +3948,21 @@ static thin_film_solver_ThinFilmLayer thin_film_presets_quarter_wave(double n, d
     return thin_film_solver_ThinFilmLayer_dielectric(n, design_wavelength_nm / (4.0 * n));
 }
 
-// The four layers of the broadband coating, from the incident medium to the substrate: SiO2, TiO2,
-// SiO2, TiO2.
-static thin_film_solver_ThinFilmLayer_x4 thin_film_presets_broadband(void) {
-    return (thin_film_solver_ThinFilmLayer_x4){{thin_film_solver_ThinFilmLayer_dielectric(1.46, 88.0),
-            thin_film_solver_ThinFilmLayer_dielectric(2.3, 112.0),
-            thin_film_solver_ThinFilmLayer_dielectric(1.46, 32.0),
-            thin_film_solver_ThinFilmLayer_dielectric(2.3, 15.0)}};
+// The i-th of the four layers of the broadband coating, from the incident medium to the substrate: SiO2, TiO2, SiO2, TiO2.
+static thin_film_solver_ThinFilmLayer thin_film_presets_broadband(uint64_t i) {
+    if (i == 0) {
+        return thin_film_solver_ThinFilmLayer_dielectric(1.46, 88.0);
+    }
+    if (i == 1) {
+        return thin_film_solver_ThinFilmLayer_dielectric(2.3, 112.0);
+    }
+    if (i == 2) {
+        return thin_film_solver_ThinFilmLayer_dielectric(1.46, 32.0);
+    }
+    if (i == 3) {
+        return thin_film_solver_ThinFilmLayer_dielectric(2.3, 15.0);
+    }
+    return thin_film_solver_ThinFilmLayer_dielectric(0.0, 0.0);
 }
 
 // The i-th layer of (H L)^N H, the same for each N that has one: N = i has.
@@ -3903,65 +4040,63 @@ static thin_film_SurfaceCoating thin_film_SurfaceCoating_mgf2_default(void) {
     return (thin_film_SurfaceCoating){.tag = thin_film_SurfaceCoating_MgF2, .as.MgF2 = 550.0};
 }
 
-// The response with one layer.
-static thin_film_solver_CoatingResponse thin_film_presets_solve_one(thin_film_solver_Incidence light,
-        thin_film_solver_ThinFilmLayer layer) {
-    thin_film_complex_Complex_x2_x2 one = thin_film_matrix_identity();
-    thin_film_solver_Terms terms = thin_film_solver_terms_of(light, layer);
-    thin_film_complex_Complex_x2_x2 ms = thin_film_solver_step_s(one, terms);
-    thin_film_complex_Complex_x2_x2 mp = thin_film_solver_step_p(one, terms);
-    return thin_film_solver_finish(light, ms, mp);
-}
-
-// The response with four layers, one after the other.
-static thin_film_solver_CoatingResponse thin_film_presets_solve_four(thin_film_solver_Incidence light,
-        thin_film_solver_ThinFilmLayer a, thin_film_solver_ThinFilmLayer b, thin_film_solver_ThinFilmLayer c,
-        thin_film_solver_ThinFilmLayer d) {
-    thin_film_complex_Complex_x2_x2 one = thin_film_matrix_identity();
-    thin_film_solver_Terms a_terms = thin_film_solver_terms_of(light, a);
-    thin_film_solver_Terms b_terms = thin_film_solver_terms_of(light, b);
-    thin_film_solver_Terms c_terms = thin_film_solver_terms_of(light, c);
-    thin_film_solver_Terms d_terms = thin_film_solver_terms_of(light, d);
-    thin_film_complex_Complex_x2_x2 s1 = thin_film_solver_step_s(one, a_terms);
-    thin_film_complex_Complex_x2_x2 s2 = thin_film_solver_step_s(s1, b_terms);
-    thin_film_complex_Complex_x2_x2 s3 = thin_film_solver_step_s(s2, c_terms);
-    thin_film_complex_Complex_x2_x2 s4 = thin_film_solver_step_s(s3, d_terms);
-    thin_film_complex_Complex_x2_x2 p1 = thin_film_solver_step_p(one, a_terms);
-    thin_film_complex_Complex_x2_x2 p2 = thin_film_solver_step_p(p1, b_terms);
-    thin_film_complex_Complex_x2_x2 p3 = thin_film_solver_step_p(p2, c_terms);
-    thin_film_complex_Complex_x2_x2 p4 = thin_film_solver_step_p(p3, d_terms);
-    return thin_film_solver_finish(light, s4, p4);
-}
-
-// The response of the broadband coating, in its order or reversed.
-static thin_film_solver_CoatingResponse thin_film_presets_solve_broadband(thin_film_solver_Incidence light,
-        bool reversed) {
-    thin_film_solver_ThinFilmLayer_x4 b = thin_film_presets_broadband();
-    if (reversed) {
-        return thin_film_presets_solve_four(light, b.at[3], b.at[2], b.at[1], b.at[0]);
+// How many layers of its own a coating has: a preset has some, and any other has those beside it alone.
+static uint64_t thin_film_reading_own_count(thin_film_SurfaceCoating coating) {
+    switch (coating.tag) {
+    case thin_film_SurfaceCoating_IdealAr:
+        return 0;
+    case thin_film_SurfaceCoating_MgF2:
+        return 1;
+    case thin_film_SurfaceCoating_BroadbandAr:
+        return 4;
+    case thin_film_SurfaceCoating_HighReflectanceMirror:
+        return 15;
+    default: // thin_film_SurfaceCoating_Custom
+        return 0;
     }
-    return thin_film_presets_solve_four(light, b.at[0], b.at[1], b.at[2], b.at[3]);
 }
 
-// The response of the mirror, (H L)^7 H: two films, each worked out once. It is the same reversed.
-static thin_film_solver_CoatingResponse thin_film_presets_solve_mirror(thin_film_solver_Incidence light) {
-    thin_film_complex_Complex_x2_x2 one = thin_film_matrix_identity();
-    thin_film_solver_Terms high = thin_film_solver_terms_of(light, thin_film_presets_quarter_wave(2.3, 550.0));
-    thin_film_solver_Terms low = thin_film_solver_terms_of(light, thin_film_presets_quarter_wave(1.46, 550.0));
-    thin_film_complex_Complex_x2_x2 high_s = thin_film_solver_layer_s(high);
-    thin_film_complex_Complex_x2_x2 high_p = thin_film_solver_layer_p(high);
-    thin_film_complex_Complex_x2_x2 low_s = thin_film_solver_layer_s(low);
-    thin_film_complex_Complex_x2_x2 low_p = thin_film_solver_layer_p(low);
-    thin_film_complex_Complex_x2_x2 ms = thin_film_matrix_mat_mul_2x2(one, high_s);
-    thin_film_complex_Complex_x2_x2 mp = thin_film_matrix_mat_mul_2x2(one, high_p);
+// The i-th of them, where there is one.
+static thin_film_solver_ThinFilmLayer thin_film_reading_nth_own(thin_film_SurfaceCoating coating, uint64_t i) {
+    switch (coating.tag) {
+    case thin_film_SurfaceCoating_IdealAr:
+        return thin_film_solver_ThinFilmLayer_dielectric(0.0, 0.0);
+    case thin_film_SurfaceCoating_MgF2:
+    {
+        double design_wavelength_nm = coating.as.MgF2;
+        return thin_film_presets_quarter_wave(1.38, design_wavelength_nm);
+    }
+    case thin_film_SurfaceCoating_BroadbandAr:
+        return thin_film_presets_broadband(i);
+    case thin_film_SurfaceCoating_HighReflectanceMirror:
+        return thin_film_presets_bragg(2.3, 1.46, 550.0, i);
+    default: // thin_film_SurfaceCoating_Custom
+        return thin_film_solver_ThinFilmLayer_dielectric(0.0, 0.0);
+    }
+}
+
+// The i-th of them; past the last there is no layer.
+static thin_film_solver_ThinFilmLayer thin_film_reading_own_layer(thin_film_SurfaceCoating coating, uint64_t i) {
+    if (i < thin_film_reading_own_count(coating)) {
+        return thin_film_reading_nth_own(coating, i);
+    }
+    return thin_film_solver_ThinFilmLayer_dielectric(0.0, 0.0);
+}
+
+// The response with a coating's own layers, in their order or reversed.
+static thin_film_solver_CoatingResponse thin_film_reading_solve_own(thin_film_SurfaceCoating coating, bool reversed,
+        thin_film_solver_Incidence light) {
+    uint64_t n = thin_film_reading_own_count(coating);
+    thin_film_complex_Complex_x2_x2 ms = thin_film_matrix_identity();
+    thin_film_complex_Complex_x2_x2 mp = thin_film_matrix_identity();
     uint64_t i = 0;
-    while (i < 7) {
-        thin_film_complex_Complex_x2_x2 after_low_s = thin_film_matrix_mat_mul_2x2(ms, low_s);
-        thin_film_complex_Complex_x2_x2 after_low_p = thin_film_matrix_mat_mul_2x2(mp, low_p);
-        thin_film_complex_Complex_x2_x2 after_high_s = thin_film_matrix_mat_mul_2x2(after_low_s, high_s);
-        thin_film_complex_Complex_x2_x2 after_high_p = thin_film_matrix_mat_mul_2x2(after_low_p, high_p);
-        ms = after_high_s;
-        mp = after_high_p;
+    while (i < n) {
+        uint64_t j = thin_film_layers_nth_index(reversed, n, i);
+        thin_film_solver_Terms terms = thin_film_solver_terms_of(light, thin_film_reading_own_layer(coating, j));
+        thin_film_complex_Complex_x2_x2 next_s = thin_film_solver_step_s(ms, terms);
+        thin_film_complex_Complex_x2_x2 next_p = thin_film_solver_step_p(mp, terms);
+        ms = next_s;
+        mp = next_p;
         i = i + 1;
     }
     return thin_film_solver_finish(light, ms, mp);
@@ -3984,54 +4119,22 @@ static thin_film_coating_Coating thin_film_reading_coating_of(thin_film_SurfaceC
     }
 }
 
-// How many of the count layers beside a coating are its own: a preset has none there.
-static uint64_t thin_film_reading_count_beside(thin_film_SurfaceCoating coating, uint64_t count) {
-    switch (coating.tag) {
-    case thin_film_SurfaceCoating_IdealAr:
-        return count;
-    case thin_film_SurfaceCoating_MgF2:
-    case thin_film_SurfaceCoating_BroadbandAr:
-    case thin_film_SurfaceCoating_HighReflectanceMirror:
-        return 0;
-    default: // thin_film_SurfaceCoating_Custom
+// How many layers there are: a coating's own, or else count beside it.
+static uint64_t thin_film_reading_layer_count(thin_film_SurfaceCoating coating, uint64_t count) {
+    uint64_t own = thin_film_reading_own_count(coating);
+    if (own == 0) {
         return count;
     }
+    return own;
 }
 
-// A preset coating is answered from its own layers, in the order that is prepared.
-static thin_film_layers_Prepared thin_film_reading_with_own_layers(thin_film_SurfaceCoating coating,
-        thin_film_layers_Prepared prepared) {
-    if (prepared.tag == thin_film_layers_Prepared_Answered) {
-        return prepared;
-    }
-    bool reversed = prepared.as.Layers.reversed;
-    thin_film_solver_Incidence light = prepared.as.Layers.light;
-    switch (coating.tag) {
-    case thin_film_SurfaceCoating_MgF2:
-    {
-        double design_wavelength_nm = coating.as.MgF2;
-        return thin_film_coating_answered(thin_film_presets_solve_one(light,
-                thin_film_presets_quarter_wave(1.38, design_wavelength_nm)));
-    }
-    case thin_film_SurfaceCoating_BroadbandAr:
-        return thin_film_coating_answered(thin_film_presets_solve_broadband(light, reversed));
-    case thin_film_SurfaceCoating_HighReflectanceMirror:
-        return thin_film_coating_answered(thin_film_presets_solve_mirror(light));
-    case thin_film_SurfaceCoating_IdealAr:
-        return prepared;
-    default: // thin_film_SurfaceCoating_Custom
-        return prepared;
-    }
-}
-
-// The layers beside the coating are those of Custom(Multilayer): there are count of them, and they
-// are reversed where light goes from the denser medium to the rarer one.
-static thin_film_layers_Prepared thin_film_reading_prepare_surface(thin_film_SurfaceCoating coating, uint64_t count,
+// Everything up to the layers, which are a coating's own or else count beside it: they are reversed where light goes from
+// the denser medium to the rarer one.
+static thin_film_layers_Prepared thin_film_reading_prepare(thin_film_SurfaceCoating coating, uint64_t count,
         double n_incident, double n_substrate, double angle_incident_rad, double wavelength_nm) {
-    return thin_film_reading_with_own_layers(coating,
-            thin_film_coating_prepare(thin_film_reading_coating_of(coating), n_substrate < n_incident,
-            thin_film_reading_count_beside(coating, count), n_incident, n_substrate, angle_incident_rad,
-            wavelength_nm));
+    return thin_film_coating_prepare(thin_film_reading_coating_of(coating), n_substrate < n_incident,
+            thin_film_reading_layer_count(coating, count), n_incident, n_substrate, angle_incident_rad,
+            wavelength_nm);
 }
 
 // ==== thin_film_shorthand
@@ -4446,91 +4549,6 @@ static surface_AnswersReply surface_bare_answers(gate_limits_Surface surface) {
 // [[cos, i y], [i z, cos]] then, and so is each product. What the quick way does not cover makes a NaN, and a NaN or an
 // infinity stays to the end: the powers are known where the last numbers are finite, and are those of thin_film_solver.
 
-// x / y as Complex::div divides.
-static double surface_real_over(double x, double y) {
-    double denom = y * y;
-    if (denom < 1e-28) {
-        return 0.0 / 0.0;
-    }
-    return x * y / denom;
-}
-
-// What the cosines of the first films are the roots of.
-static void surface_real_films_radicands(double snell, const f64_x16 *n, uint64_t count, f64_x16 *h) {
-    uint64_t i = 0;
-    while (i < count) {
-        double sin = surface_real_over(snell, n->at[i]);
-        h->at[i] = 1.0 - sin * sin;
-        i = i + 1;
-    }
-}
-
-// A guess at the root of h from 1/2 to 1, of which nothing is proved: a quartic for 1 over the root, and two better ones
-// from it.
-static double surface_real_films_guess(double h) {
-    double square = h * h;
-    double first = 2.9228837662011293 - 5.4349775452710505 * h + square
-            * (6.719651141032791 - 4.331924622358352 * h + 1.1244305836496429 * square);
-    double left = 1.0 - h * first * first;
-    double r = first + first * left * (0.5 + 0.375 * left);
-    double s = h * r;
-    double high = s + 201326592.0 - 201326592.0;
-    double over = h - high * high - (s + high) * (s - high);
-    return s + over * (0.5 * r);
-}
-
-// Guesses at the roots of the first. The compiler packs them two by two.
-static void surface_real_films_guesses(const f64_x16 *h, uint64_t count, f64_x16 *g) {
-    uint64_t i = 0;
-    while (i < count) {
-        g->at[i] = surface_real_films_guess(h->at[i]);
-        i = i + 1;
-    }
-}
-
-// The root of a number from 2^-10 to 2^10, as Complex::sqrt takes it. It is quick for a number from 1/2 to 2 whose root
-// is n.
-static double surface_real_root_guessed(double x, double n) {
-    if (0.0009765625 <= x) {
-        if (x <= 1024.0) {
-            return math_sqrt_sqrt_guessed(ieee_max((x + x) / 2.0, 0.0), n);
-        }
-        return 0.0 / 0.0;
-    }
-    return 0.0 / 0.0;
-}
-
-// The cosine in a film that does not absorb. It is quick if g is that.
-static double surface_real_films_root_of(double h, double k, double g) {
-    if (k == 0.0) {
-        return surface_real_root_guessed(h, g);
-    }
-    return 0.0 / 0.0;
-}
-
-// Those of the first films, from the guesses g.
-static void surface_real_films_roots(const f64_x16 *h, const f64_x16 *k, const f64_x16 *g, uint64_t count,
-        f64_x16 *c) {
-    uint64_t i = 0;
-    while (i < count) {
-        c->at[i] = surface_real_films_root_of(h->at[i], k->at[i], g->at[i]);
-        i = i + 1;
-    }
-}
-
-// The admittances and phase thicknesses of the first films, from the cosines c.
-static void surface_real_films_media(double wavelength_nm, const f64_x16 *n, const f64_x16 *d, const f64_x16 *c,
-        uint64_t count, f64_x16 *eta_s, f64_x16 *eta_p, f64_x16 *delta) {
-    uint64_t i = 0;
-    while (i < count) {
-        double eta = n->at[i] * c->at[i];
-        eta_s->at[i] = eta;
-        eta_p->at[i] = surface_real_over(n->at[i], c->at[i]);
-        delta->at[i] = eta * (2.0 * 3.141592653589793 * d->at[i] / wavelength_nm);
-        i = i + 1;
-    }
-}
-
 // As many angles as so many films take: four go at once, and sixteen in another, quicker way, so that fewer are no
 // quicker.
 static uint64_t surface_real_films_angle_count(uint64_t films) {
@@ -4541,6 +4559,15 @@ static uint64_t surface_real_films_angle_count(uint64_t films) {
         return 16;
     }
     return films;
+}
+
+// x / y as Complex::div divides.
+static double surface_real_over(double x, double y) {
+    double denom = y * y;
+    if (denom < 1e-28) {
+        return 0.0 / 0.0;
+    }
+    return x * y / denom;
 }
 
 // The sines of the first films over their admittances.
@@ -4598,24 +4625,21 @@ static bool surface_real_same_number(double x, double y) {
     return x == y && to_bits(x) == to_bits(y);
 }
 
-// Whether both numbers are zeros.
-static bool surface_real_both_zero(double x, double y) {
-    return x == 0.0 && y == 0.0;
+// Whether two media have the same bits.
+static bool surface_real_same_medium(surface_real_Medium a, surface_real_Medium b) {
+    return surface_real_same_number(a.delta, b.delta) && surface_real_same_number(a.eta_s, b.eta_s)
+            && surface_real_same_number(a.eta_p, b.eta_p);
 }
 
-// Whether two layers that do not absorb have one index and one thickness: their films are one then.
-static bool surface_real_alike(thin_film_solver_ThinFilmLayer a, thin_film_solver_ThinFilmLayer b) {
-    return surface_real_same_number(a.n, b.n) && surface_real_same_number(a.thickness_nm, b.thickness_nm)
-            && surface_real_both_zero(a.k, b.k);
-}
-
-// Whether each of count layers is the last but one again.
-static bool surface_real_films_take_turns(const f64_x16 *n, const f64_x16 *k, const f64_x16 *d, uint64_t count) {
+// Whether each of count films is the last but one again, by the bits of its medium.
+static bool surface_real_films_take_turns(const f64_x16 *eta_s, const f64_x16 *eta_p, const f64_x16 *delta,
+        uint64_t count) {
     uint64_t i = 2;
     while (i < count) {
-        thin_film_solver_ThinFilmLayer layer = {.n = n->at[i], .k = k->at[i], .thickness_nm = d->at[i]};
-        thin_film_solver_ThinFilmLayer earlier = {.n = n->at[i - 2], .k = k->at[i - 2], .thickness_nm = d->at[i - 2]};
-        if (!surface_real_alike(layer, earlier)) {
+        surface_real_Medium medium = {.eta_s = eta_s->at[i], .eta_p = eta_p->at[i], .delta = delta->at[i]};
+        surface_real_Medium earlier = {.eta_s = eta_s->at[i - 2], .eta_p = eta_p->at[i - 2],
+                .delta = delta->at[i - 2]};
+        if (!surface_real_same_medium(medium, earlier)) {
             return false;
         }
         i = i + 1;
@@ -4623,51 +4647,42 @@ static bool surface_real_films_take_turns(const f64_x16 *n, const f64_x16 *k, co
     return true;
 }
 
-// How many films of count layers are to be worked out.
-static uint64_t surface_real_films_film_count(const f64_x16 *n, const f64_x16 *k, const f64_x16 *d, uint64_t count) {
+// How many of count films are to be worked out.
+static uint64_t surface_real_films_film_count(const f64_x16 *eta_s, const f64_x16 *eta_p, const f64_x16 *delta,
+        uint64_t count) {
     if (2 < count) {
-        if (surface_real_films_take_turns(n, k, d, count)) {
+        if (surface_real_films_take_turns(eta_s, eta_p, delta, count)) {
             return 2;
         }
     }
     return count;
 }
 
-// The layers whose numbers stand in the first of 16 places, joined to a product: from the first on, or from the last where
-// light meets them from the far side.
-static surface_real_Stack surface_real_films_join_all(thin_film_solver_Incidence light, const f64_x16 *n,
-        const f64_x16 *k, const f64_x16 *d, uint64_t count, bool reversed, surface_real_Stack stack) {
-    uint64_t few;
-    if (count < 16) {
-        few = count;
-    } else {
-        few = 16;
+// A film's matrices, from its admittances and the sine and cosine of its phase thickness.
+static surface_real_Film surface_real_film_in(double eta_s, double eta_p, double sin, double cos) {
+    return (surface_real_Film){.cos = cos, .y_s = surface_real_over(sin, eta_s), .z_s = sin * eta_s,
+            .y_p = surface_real_over(sin, eta_p), .z_p = sin * eta_p};
+}
+
+// One or two films, one by one: for so few the arrays do not pay.
+static surface_real_Stack surface_real_films_join_each(const f64_x16 *eta_s, const f64_x16 *eta_p,
+        const f64_x16 *delta, uint64_t count, bool reversed, surface_real_Stack stack) {
+    surface_real_Stack product = stack;
+    uint64_t i = 0;
+    while (i < count) {
+        uint64_t j = thin_film_layers_nth_index(reversed, count, i);
+        math_trig_SinCos wave = math_trig_sin_cos(delta->at[j]);
+        surface_real_Film film = surface_real_film_in(eta_s->at[j], eta_p->at[j], wave.sin, wave.cos);
+        product = surface_real_join(product, film);
+        i = i + 1;
     }
-    uint64_t films = surface_real_films_film_count(n, k, d, few);
-    f64_x16 h;
-    for (size_t each = 0; each < 16; each++) {
-        h.at[each] = 1.0;
-    }
-    f64_x16 g;
-    for (size_t each = 0; each < 16; each++) {
-        g.at[each] = 1.0;
-    }
-    f64_x16 c;
-    for (size_t each = 0; each < 16; each++) {
-        c.at[each] = 1.0;
-    }
-    f64_x16 eta_s;
-    for (size_t each = 0; each < 16; each++) {
-        eta_s.at[each] = 1.0;
-    }
-    f64_x16 eta_p;
-    for (size_t each = 0; each < 16; each++) {
-        eta_p.at[each] = 1.0;
-    }
-    f64_x16 delta;
-    for (size_t each = 0; each < 16; each++) {
-        delta.at[each] = 1.0;
-    }
+    return product;
+}
+
+// Films worked out together.
+static surface_real_Stack surface_real_films_join_together(const f64_x16 *eta_s, const f64_x16 *eta_p,
+        const f64_x16 *delta, uint64_t count, bool reversed, surface_real_Stack stack) {
+    uint64_t films = surface_real_films_film_count(eta_s, eta_p, delta, count);
     f64_x16 sin;
     for (size_t each = 0; each < 16; each++) {
         sin.at[each] = 1.0;
@@ -4684,13 +4699,25 @@ static surface_real_Stack surface_real_films_join_all(thin_film_solver_Incidence
     for (size_t each = 0; each < 16; each++) {
         y_p.at[each] = 1.0;
     }
-    surface_real_films_radicands(light.snell, n, films, &h);
-    surface_real_films_guesses(&h, films, &g);
-    surface_real_films_roots(&h, k, &g, films, &c);
-    surface_real_films_media(light.wavelength_nm, n, d, &c, films, &eta_s, &eta_p, &delta);
-    math_waves_sin_cos(&delta, surface_real_films_angle_count(films), &sin, &cos);
-    surface_real_films_quotients(&sin, &eta_s, &eta_p, films, &y_s, &y_p);
-    return surface_real_films_join_films(few, films, reversed, &sin, &cos, &eta_s, &eta_p, &y_s, &y_p, stack);
+    math_waves_sin_cos(delta, surface_real_films_angle_count(films), &sin, &cos);
+    surface_real_films_quotients(&sin, eta_s, eta_p, films, &y_s, &y_p);
+    return surface_real_films_join_films(count, films, reversed, &sin, &cos, eta_s, eta_p, &y_s, &y_p, stack);
+}
+
+// The films of the first count of 16 media, of all where count is more, joined to a product: from the first on, or from the
+// last where light meets them from the far side.
+static surface_real_Stack surface_real_films_join_all(const f64_x16 *eta_s, const f64_x16 *eta_p,
+        const f64_x16 *delta, uint64_t count, bool reversed, surface_real_Stack stack) {
+    uint64_t few;
+    if (count < 16) {
+        few = count;
+    } else {
+        few = 16;
+    }
+    if (few <= 2) {
+        return surface_real_films_join_each(eta_s, eta_p, delta, few, reversed, stack);
+    }
+    return surface_real_films_join_together(eta_s, eta_p, delta, few, reversed, stack);
 }
 
 // A number whose imaginary part is a zero.
@@ -4701,9 +4728,29 @@ static double surface_real_real_part(thin_film_complex_Complex z) {
     return 0.0 / 0.0;
 }
 
-// The same without a guess.
+// A guess at the root of h from 1/2 to 1, of which nothing is proved: a quartic for 1 over the root, and two better ones
+// from it.
+static double surface_real_guess(double h) {
+    double square = h * h;
+    double first = 2.9228837662011293 - 5.4349775452710505 * h + square
+            * (6.719651141032791 - 4.331924622358352 * h + 1.1244305836496429 * square);
+    double left = 1.0 - h * first * first;
+    double r = first + first * left * (0.5 + 0.375 * left);
+    double s = h * r;
+    double high = s + 201326592.0 - 201326592.0;
+    double over = h - high * high - (s + high) * (s - high);
+    return s + over * (0.5 * r);
+}
+
+// The root of a number from 2^-10 to 2^10, as Complex::sqrt takes it.
 static double surface_real_root(double x) {
-    return surface_real_root_guessed(x, 0.0);
+    if (0.0009765625 <= x) {
+        if (x <= 1024.0) {
+            return math_sqrt_sqrt_guessed(ieee_max((x + x) / 2.0, 0.0), surface_real_guess(x));
+        }
+        return 0.0 / 0.0;
+    }
+    return 0.0 / 0.0;
 }
 
 // cos(theta) in a film that does not absorb.
@@ -4722,19 +4769,6 @@ static surface_real_Medium surface_real_medium_of(thin_film_solver_Incidence lig
     double eta_p = surface_real_over(layer.n, cos);
     double factor = 2.0 * 3.141592653589793 * layer.thickness_nm / light.wavelength_nm;
     return (surface_real_Medium){.eta_s = eta_s, .eta_p = eta_p, .delta = eta_s * factor};
-}
-
-// A film's matrices, from its admittances and the sine and cosine of its phase thickness.
-static surface_real_Film surface_real_film_in(double eta_s, double eta_p, double sin, double cos) {
-    return (surface_real_Film){.cos = cos, .y_s = surface_real_over(sin, eta_s), .z_s = sin * eta_s,
-            .y_p = surface_real_over(sin, eta_p), .z_p = sin * eta_p};
-}
-
-static surface_real_Film surface_real_film_of(thin_film_solver_Incidence light,
-        thin_film_solver_ThinFilmLayer layer) {
-    surface_real_Medium medium = surface_real_medium_of(light, layer);
-    math_trig_SinCos wave = math_trig_sin_cos(medium.delta);
-    return surface_real_film_in(medium.eta_s, medium.eta_p, wave.sin, wave.cos);
 }
 
 // Before the first film.
@@ -4790,208 +4824,87 @@ static surface_real_Known surface_real_finish(thin_film_solver_Incidence light, 
     return (surface_real_Known){.known = known, .powers = powers};
 }
 
-// ==== surface_lines
-//
-// The powers of a coated surface at up to 16 wavelengths at once, place by place: those of surface_real, with what does
-// not hang on the wavelength worked out once. Arrays are lent; the loops have neither a call that stays nor a branch.
-
-// What Complex::div divides by: a NaN where it is too small.
-static double surface_lines_divisor(double square) {
-    if (square < 1e-28) {
-        return 0.0 / 0.0;
-    }
-    return square;
+// Whether two layers have the same bits.
+static bool surface_real_same_layer(thin_film_solver_ThinFilmLayer a, thin_film_solver_ThinFilmLayer b) {
+    return surface_real_same_number(a.n, b.n) && surface_real_same_number(a.thickness_nm, b.thickness_nm)
+            && surface_real_same_number(a.k, b.k);
 }
 
-// The phase thickness of a film at the first n wavelengths.
-static void surface_lines_phases(double eta_s, double thickness_nm, uint64_t n, const f64_x16 *nm, f64_x16 *delta) {
+// Before the first layer: a layer that is no number is like no other.
+static surface_real_Recent surface_real_no_recent(void) {
+    double none = 0.0 / 0.0;
+    thin_film_solver_ThinFilmLayer layer = {.n = none, .k = none, .thickness_nm = none};
+    surface_real_Medium medium = {.eta_s = none, .eta_p = none, .delta = none};
+    surface_real_Seen seen = {.layer = layer, .medium = medium};
+    return (surface_real_Recent){.earlier = seen, .last = seen};
+}
+
+// The medium of a layer, which can be that of the last layer but one.
+static surface_real_Medium surface_real_medium_again(thin_film_solver_Incidence light,
+        thin_film_solver_ThinFilmLayer layer, surface_real_Seen earlier) {
+    thin_film_solver_ThinFilmLayer known = earlier.layer;
+    if (surface_real_same_layer(layer, known)) {
+        surface_real_Medium medium = earlier.medium;
+        return medium;
+    }
+    return surface_real_medium_of(light, layer);
+}
+
+// One layer more.
+static surface_real_Recent surface_real_turn(thin_film_solver_Incidence light, thin_film_solver_ThinFilmLayer layer,
+        surface_real_Recent recent) {
+    surface_real_Seen earlier = recent.earlier;
+    surface_real_Seen last = recent.last;
+    surface_real_Medium medium = surface_real_medium_again(light, layer, earlier);
+    return (surface_real_Recent){.earlier = last, .last = {.layer = layer, .medium = medium}};
+}
+
+// The media of the first count layers of its own, in their order.
+static void surface_real_presets_media(thin_film_SurfaceCoating coating, uint64_t count,
+        thin_film_solver_Incidence light, f64_x16 *eta_s, f64_x16 *eta_p, f64_x16 *delta) {
+    surface_real_Recent recent = surface_real_no_recent();
     uint64_t i = 0;
-    while (i < n) {
-        delta->at[i] = eta_s * (2.0 * 3.141592653589793 * thickness_nm / nm->at[i]);
+    while (i < count) {
+        recent = surface_real_turn(light, thin_film_reading_own_layer(coating, i), recent);
+        surface_real_Seen seen = recent.last;
+        surface_real_Medium medium = seen.medium;
+        eta_s->at[i] = medium.eta_s;
+        eta_p->at[i] = medium.eta_p;
+        delta->at[i] = medium.delta;
         i = i + 1;
     }
 }
 
-// The first n products, times the film of admittance eta, from the sines and cosines of its phase thickness.
-static void surface_lines_times_lines(double eta, uint64_t n, const f64_x16 *sin, const f64_x16 *cos, f64_x16 *a,
-        f64_x16 *b, f64_x16 *c, f64_x16 *d) {
-    double square = surface_lines_divisor(eta * eta);
-    uint64_t i = 0;
-    while (i < n) {
-        surface_real_Product m = {.a = a->at[i], .b = b->at[i], .c = c->at[i], .d = d->at[i]};
-        double z = sin->at[i] * eta;
-        surface_real_Product next = surface_real_times(m, cos->at[i], z / square, z);
-        a->at[i] = next.a;
-        b->at[i] = next.b;
-        c->at[i] = next.c;
-        d->at[i] = next.d;
-        i = i + 1;
+// The product of a coating's own films, in their order or reversed.
+static surface_real_Stack surface_real_presets_stack_of(thin_film_SurfaceCoating coating, bool reversed,
+        thin_film_solver_Incidence light) {
+    uint64_t n = thin_film_reading_own_count(coating);
+    f64_x16 eta_s;
+    for (size_t each = 0; each < 16; each++) {
+        eta_s.at[each] = 1.0;
     }
-}
-
-// One film more at the first n wavelengths, for s and for p.
-static void surface_lines_join_lines(double eta_s, double eta_p, double thickness_nm, uint64_t n, const f64_x16 *nm,
-        f64_x16 *a_s, f64_x16 *b_s, f64_x16 *c_s, f64_x16 *d_s, f64_x16 *a_p, f64_x16 *b_p, f64_x16 *c_p,
-        f64_x16 *d_p) {
+    f64_x16 eta_p;
+    for (size_t each = 0; each < 16; each++) {
+        eta_p.at[each] = 1.0;
+    }
     f64_x16 delta;
     for (size_t each = 0; each < 16; each++) {
         delta.at[each] = 1.0;
     }
-    f64_x16 sin;
-    for (size_t each = 0; each < 16; each++) {
-        sin.at[each] = 1.0;
-    }
-    f64_x16 cos;
-    for (size_t each = 0; each < 16; each++) {
-        cos.at[each] = 1.0;
-    }
-    surface_lines_phases(eta_s, thickness_nm, n, nm, &delta);
-    math_waves_sin_cos(&delta, n, &sin, &cos);
-    surface_lines_times_lines(eta_s, n, &sin, &cos, a_s, b_s, c_s, d_s);
-    surface_lines_times_lines(eta_p, n, &sin, &cos, a_p, b_p, c_p, d_p);
+    surface_real_presets_media(coating, n, light, &eta_s, &eta_p, &delta);
+    return surface_real_films_join_all(&eta_s, &eta_p, &delta, n, reversed, surface_real_no_films());
 }
 
-// The products of many films, from the first or from the last, at the first n wavelengths; before them there are no films.
-static void surface_lines_stack_lines(const f64_x16 *eta_s, const f64_x16 *eta_p, const f64_x16 *thickness_nm,
-        uint64_t many, bool reversed, uint64_t n, const f64_x16 *nm, f64_x16 *a_s, f64_x16 *b_s, f64_x16 *c_s,
-        f64_x16 *d_s, f64_x16 *a_p, f64_x16 *b_p, f64_x16 *c_p, f64_x16 *d_p) {
-    uint64_t i = 0;
-    while (i < many) {
-        uint64_t j = thin_film_layers_nth_index(reversed, many, i);
-        surface_lines_join_lines(eta_s->at[j], eta_p->at[j], thickness_nm->at[j], n, nm, a_s, b_s, c_s, d_s, a_p, b_p,
-                c_p, d_p);
-        i = i + 1;
+// The powers with a coating's own layers, in their order or reversed: over real numbers where they are known so, or else
+// from the whole response.
+static surface_Powers surface_real_presets_powers_of(thin_film_SurfaceCoating coating, bool reversed,
+        thin_film_solver_Incidence light) {
+    surface_real_Known quick = surface_real_finish(light, surface_real_presets_stack_of(coating, reversed, light));
+    if (quick.known) {
+        surface_Powers powers = quick.powers;
+        return powers;
     }
-}
-
-static surface_lines_Sides surface_lines_sides_of(thin_film_solver_Incidence light) {
-    double least = ieee_max(light.cos_theta0, 1e-12);
-    thin_film_complex_Complex cos = thin_film_complex_Complex_real(
-            surface_real_cos_theta_sub(light.snell / light.n_substrate));
-    thin_film_complex_Complex n_sub = thin_film_complex_Complex_real(light.n_substrate);
-    double eta_s = surface_real_real_part(thin_film_complex_Complex_mul(n_sub, cos));
-    double eta_p = surface_real_real_part(thin_film_complex_Complex_div(n_sub, cos));
-    return (surface_lines_Sides){.eta0_s = light.n_incident * light.cos_theta0, .eta_s = eta_s,
-            .eta0_p = light.n_incident / least, .eta_p = eta_p};
-}
-
-// What surface_real::power gives, with no branch.
-static surface_real_Shares surface_lines_shares(surface_real_Product m, double eta0, double eta) {
-    double b_re = eta0 * m.a;
-    double b_im = eta0 * (m.b * eta);
-    double c_re = m.d * eta;
-    double num_re = b_re - c_re;
-    double num_im = b_im - m.c;
-    double den_re = b_re + c_re;
-    double den_im = b_im + m.c;
-    double denom = surface_lines_divisor(den_re * den_re + den_im * den_im);
-    double r_re = (num_re * den_re + num_im * den_im) / denom;
-    double r_im = (num_im * den_re - num_re * den_im) / denom;
-    double t_re = eta0 * 2.0 * den_re / denom;
-    double t_im = -(eta0 * 2.0 * den_im) / denom;
-    return (surface_real_Shares){.r = r_re * r_re + r_im * r_im, .t = eta / eta0 * (t_re * t_re + t_im * t_im)};
-}
-
-// Those of the first n products: r is reflected, and t transmitted.
-static void surface_lines_share_lines(double eta0, double eta, uint64_t n, const f64_x16 *a, const f64_x16 *b,
-        const f64_x16 *c, const f64_x16 *d, f64_x16 *r, f64_x16 *t) {
-    uint64_t i = 0;
-    while (i < n) {
-        surface_real_Product m = {.a = a->at[i], .b = b->at[i], .c = c->at[i], .d = d->at[i]};
-        surface_real_Shares share = surface_lines_shares(m, eta0, eta);
-        r->at[i] = share.r;
-        t->at[i] = share.t;
-        i = i + 1;
-    }
-}
-
-// Whether the powers of the first n are known.
-static bool surface_lines_known_lines(uint64_t n, const f64_x16 *r_s, const f64_x16 *t_s, const f64_x16 *r_p,
-        const f64_x16 *t_p) {
-    bool known = true;
-    uint64_t i = 0;
-    while (i < n) {
-        known = known & ieee_is_finite(r_s->at[i] + t_s->at[i] + (r_p->at[i] + t_p->at[i]));
-        i = i + 1;
-    }
-    return known;
-}
-
-// The first n, from 0 to 1.
-static void surface_lines_clamp_lines(uint64_t n, const f64_x16 *x, f64_x16 *y) {
-    uint64_t i = 0;
-    while (i < n) {
-        y->at[i] = ieee_clamp(x->at[i], 0.0, 1.0);
-        i = i + 1;
-    }
-}
-
-// The reflected or the transmitted powers of the first n products, and whether all are known.
-static bool surface_lines_finish_lines(surface_lines_Sides sides, bool reflected, uint64_t n, const f64_x16 *a_s,
-        const f64_x16 *b_s, const f64_x16 *c_s, const f64_x16 *d_s, const f64_x16 *a_p, const f64_x16 *b_p,
-        const f64_x16 *c_p, const f64_x16 *d_p, f64_x16 *s, f64_x16 *p) {
-    f64_x16 r_s;
-    for (size_t each = 0; each < 16; each++) {
-        r_s.at[each] = 1.0;
-    }
-    f64_x16 t_s;
-    for (size_t each = 0; each < 16; each++) {
-        t_s.at[each] = 1.0;
-    }
-    f64_x16 r_p;
-    for (size_t each = 0; each < 16; each++) {
-        r_p.at[each] = 1.0;
-    }
-    f64_x16 t_p;
-    for (size_t each = 0; each < 16; each++) {
-        t_p.at[each] = 1.0;
-    }
-    surface_lines_share_lines(sides.eta0_s, sides.eta_s, n, a_s, b_s, c_s, d_s, &r_s, &t_s);
-    surface_lines_share_lines(sides.eta0_p, sides.eta_p, n, a_p, b_p, c_p, d_p, &r_p, &t_p);
-    bool known = surface_lines_known_lines(n, &r_s, &t_s, &r_p, &t_p);
-    if (reflected) {
-        surface_lines_clamp_lines(n, &r_s, s);
-        surface_lines_clamp_lines(n, &r_p, p);
-        return known;
-    }
-    surface_lines_clamp_lines(n, &t_s, s);
-    surface_lines_clamp_lines(n, &t_p, p);
-    return known;
-}
-
-// The same of many films, from the first or from the last, between two media.
-static bool surface_lines_powers(surface_lines_Sides sides, bool reflected, const f64_x16 *eta_s,
-        const f64_x16 *eta_p, const f64_x16 *thickness_nm, uint64_t many, bool reversed, uint64_t n,
-        const f64_x16 *nm, f64_x16 *s, f64_x16 *p) {
-    if (16 < many) {
-        return false;
-    }
-    if (16 < n) {
-        return false;
-    }
-    f64_x16 a_s;
-    for (size_t each = 0; each < 16; each++) {
-        a_s.at[each] = 1.0;
-    }
-    f64_x16 b_s = {{0}};
-    f64_x16 c_s = {{0}};
-    f64_x16 d_s;
-    for (size_t each = 0; each < 16; each++) {
-        d_s.at[each] = 1.0;
-    }
-    f64_x16 a_p;
-    for (size_t each = 0; each < 16; each++) {
-        a_p.at[each] = 1.0;
-    }
-    f64_x16 b_p = {{0}};
-    f64_x16 c_p = {{0}};
-    f64_x16 d_p;
-    for (size_t each = 0; each < 16; each++) {
-        d_p.at[each] = 1.0;
-    }
-    surface_lines_stack_lines(eta_s, eta_p, thickness_nm, many, reversed, n, nm, &a_s, &b_s, &c_s, &d_s, &a_p, &b_p,
-            &c_p, &d_p);
-    return surface_lines_finish_lines(sides, reflected, n, &a_s, &b_s, &c_s, &d_s, &a_p, &b_p, &c_p, &d_p, s, p);
+    return surface_coated_powers(thin_film_reading_solve_own(coating, reversed, light));
 }
 
 // ==== response_real
@@ -5078,6 +4991,18 @@ static response_real_Known response_real_finish(thin_film_solver_Incidence light
     return (response_real_Known){.known = false, .response = response_2};
 }
 
+// The response with a coating's own layers, in their order or reversed: over real numbers where it is known so, or else
+// layer by layer.
+static thin_film_solver_CoatingResponse response_real_solve_own(thin_film_SurfaceCoating coating, bool reversed,
+        thin_film_solver_Incidence light) {
+    response_real_Known quick = response_real_finish(light, surface_real_presets_stack_of(coating, reversed, light));
+    if (quick.known) {
+        thin_film_solver_CoatingResponse response = quick.response;
+        return response;
+    }
+    return thin_film_reading_solve_own(coating, reversed, light);
+}
+
 // ==== c_layers
 //
 // SurfaceCoating::evaluate for a coating by its code, whose layers stand in a flat list: n, k, thickness
@@ -5114,36 +5039,40 @@ static uint64_t c_layers_at_most_16(uint64_t left) {
     return 16;
 }
 
-// The numbers of a few layers of the list, after so many others, in its order.
-static void c_layers_layers_from(slice_f64 flat, uint64_t after, uint64_t few, f64_x16 *n, f64_x16 *k, f64_x16 *d) {
+// The media of a few layers of the list, after so many others, in its order.
+static void c_layers_media_from(slice_f64 flat, uint64_t after, uint64_t few, thin_film_solver_Incidence light,
+        f64_x16 *eta_s, f64_x16 *eta_p, f64_x16 *delta) {
+    surface_real_Recent recent = surface_real_no_recent();
     uint64_t i = 0;
     while (i < few) {
-        thin_film_solver_ThinFilmLayer layer = c_layers_layer_at(flat, after + i);
-        n->at[i] = layer.n;
-        k->at[i] = layer.k;
-        d->at[i] = layer.thickness_nm;
+        recent = surface_real_turn(light, c_layers_layer_at(flat, after + i), recent);
+        surface_real_Seen seen = recent.last;
+        surface_real_Medium medium = seen.medium;
+        eta_s->at[i] = medium.eta_s;
+        eta_p->at[i] = medium.eta_p;
+        delta->at[i] = medium.delta;
         i = i + 1;
     }
 }
 
-// A few layers of the list, after so many others, joined to a product. The arrays have the list's own order, and are read
-// from their far end where light meets that first (document 02, slip 4).
+// A few layers of the list, after so many others, joined to a product: each layer is read once, in the list's order, and
+// its film is met from the far end where light comes from there (document 02, slip 4).
 static surface_real_Stack c_layers_join_some(slice_f64 flat, uint64_t after, uint64_t few, bool reversed,
         thin_film_solver_Incidence light, surface_real_Stack stack) {
-    f64_x16 n;
+    f64_x16 eta_s;
     for (size_t each = 0; each < 16; each++) {
-        n.at[each] = 1.0;
+        eta_s.at[each] = 1.0;
     }
-    f64_x16 k;
+    f64_x16 eta_p;
     for (size_t each = 0; each < 16; each++) {
-        k.at[each] = 1.0;
+        eta_p.at[each] = 1.0;
     }
-    f64_x16 d;
+    f64_x16 delta;
     for (size_t each = 0; each < 16; each++) {
-        d.at[each] = 1.0;
+        delta.at[each] = 1.0;
     }
-    c_layers_layers_from(flat, after, few, &n, &k, &d);
-    return surface_real_films_join_all(light, &n, &k, &d, few, reversed, stack);
+    c_layers_media_from(flat, after, few, light, &eta_s, &eta_p, &delta);
+    return surface_real_films_join_all(&eta_s, &eta_p, &delta, few, reversed, stack);
 }
 
 // Where a few layers stand in a list of n that light meets after i others: from its front, or from its far end.
@@ -5188,7 +5117,7 @@ static thin_film_solver_CoatingResponse c_layers_solve_each(slice_f64 flat, bool
 }
 
 // That response: over real numbers where no layer absorbs and the quick way knows it, or else layer by layer.
-static thin_film_solver_CoatingResponse c_layers_solve(slice_f64 flat, bool reversed,
+static thin_film_solver_CoatingResponse c_layers_solve_list(slice_f64 flat, bool reversed,
         thin_film_solver_Incidence light) {
     if (c_layers_promising(flat, light)) {
         response_real_Known quick = response_real_finish(light, c_layers_stack_of(flat, reversed, light));
@@ -5200,11 +5129,20 @@ static thin_film_solver_CoatingResponse c_layers_solve(slice_f64 flat, bool reve
     return c_layers_solve_each(flat, reversed, light);
 }
 
+// The response with a coating's own layers, or else those of the list.
+static thin_film_solver_CoatingResponse c_layers_solve(thin_film_SurfaceCoating coating, slice_f64 flat,
+        bool reversed, thin_film_solver_Incidence light) {
+    if (thin_film_reading_own_count(coating) == 0) {
+        return c_layers_solve_list(flat, reversed, light);
+    }
+    return response_real_solve_own(coating, reversed, light);
+}
+
 // A coating beside its layers.
 static thin_film_layers_Evaluation c_layers_evaluate_known(thin_film_SurfaceCoating coating, slice_f64 flat,
         double n_incident, double n_substrate, double angle_incident_rad, double wavelength_nm) {
-    thin_film_layers_Prepared value = thin_film_reading_prepare_surface(coating, flat.count / 3, n_incident,
-            n_substrate, angle_incident_rad, wavelength_nm);
+    thin_film_layers_Prepared value = thin_film_reading_prepare(coating, flat.count / 3, n_incident, n_substrate,
+            angle_incident_rad, wavelength_nm);
     if (value.tag == thin_film_layers_Prepared_Answered) {
         thin_film_layers_Evaluation answer = value.as.Answered;
         return answer;
@@ -5212,7 +5150,7 @@ static thin_film_layers_Evaluation c_layers_evaluate_known(thin_film_SurfaceCoat
     bool reversed = value.as.Layers.reversed;
     thin_film_solver_Incidence light = value.as.Layers.light;
     return (thin_film_layers_Evaluation){.tag = thin_film_layers_Evaluation_Response,
-            .as.Response = c_layers_solve(flat, reversed, light)};
+            .as.Response = c_layers_solve(coating, flat, reversed, light)};
 }
 
 // From a code to a coating: a sheet's codes, and 8 for Custom(IdealAr).
@@ -5804,7 +5742,8 @@ static uint64_t c_presets_bragg_mirror(double n_high, double n_low, uint32_t pai
 
 // ==== c_names
 //
-// Names of coatings for callers in C: the code that a name stands for, and the name of a code's coating.
+// Names of coatings for callers in C: the code that a name stands for, the name of a code's coating, and the trimmed part
+// of a name.
 
 // The code of a coating of the user's own.
 static uint32_t c_names_custom_code(thin_film_coating_Coating coating) {
@@ -5905,6 +5844,14 @@ static uint64_t c_names_coating_name(uint32_t code, slice_mut_u8 output) {
         return c_names_put_name(coating, output);
     }
     return 0x200000000u;
+}
+
+// The trimmed part of a name: writes its place in the name and its length in bytes; takes all bytes and returns 0.
+static uint64_t c_names_trim(slice_u8 name, uint64_t *place, uint64_t *length) {
+    name_bytes_Span span = name_bytes_trim_numbers(name);
+    *place = span.place;
+    *length = span.len;
+    return 0;
 }
 
 // ==== c_polarization
@@ -6091,111 +6038,6 @@ static thin_film_solver_CoatingResponse sheet_answers_solve(slice_u8 src, uint64
     return thin_film_solver_finish(light, ms, mp);
 }
 
-// A coated surface. Only Custom(Multilayer) has the layers after it, which are reversed where light
-// goes from the denser medium to the rarer one.
-static thin_film_layers_Evaluation sheet_answers_evaluate_at(slice_u8 src, uint64_t at, uint64_t n,
-        gate_limits_Surface surface, thin_film_SurfaceCoating coating, double wavelength_nm) {
-    thin_film_layers_Prepared value = thin_film_reading_prepare_surface(coating, n, surface.n_incident,
-            surface.n_substrate, surface.angle_rad, wavelength_nm);
-    if (value.tag == thin_film_layers_Prepared_Answered) {
-        thin_film_layers_Evaluation answer = value.as.Answered;
-        return answer;
-    }
-    bool reversed = value.as.Layers.reversed;
-    thin_film_solver_Incidence light = value.as.Layers.light;
-    return (thin_film_layers_Evaluation){.tag = thin_film_layers_Evaluation_Response,
-            .as.Response = sheet_answers_solve(src, at, n, reversed, wavelength_nm, light)};
-}
-
-// No powers that are known.
-static surface_real_Known sheet_answers_presets_unknown(void) {
-    surface_Powers powers = {.reflectance_s = 0.0, .reflectance_p = 0.0, .transmittance_s = 0.0,
-            .transmittance_p = 0.0};
-    return (surface_real_Known){.known = false, .powers = powers};
-}
-
-// The powers with the layers whose numbers stand in the first of 16 places.
-static surface_real_Known sheet_answers_presets_layers_powers(const f64_x16 *n, const f64_x16 *k, const f64_x16 *d,
-        uint64_t count, gate_limits_Surface surface, double wavelength_nm) {
-    thin_film_layers_Prepared value = thin_film_coating_prepare(thin_film_coating_Coating_Multilayer,
-            surface.n_substrate < surface.n_incident, count, surface.n_incident, surface.n_substrate,
-            surface.angle_rad, wavelength_nm);
-    if (value.tag == thin_film_layers_Prepared_Answered) {
-        return sheet_answers_presets_unknown();
-    }
-    bool reversed = value.as.Layers.reversed;
-    thin_film_solver_Incidence light = value.as.Layers.light;
-    surface_real_Stack none = surface_real_no_films();
-    surface_real_Stack stack = surface_real_films_join_all(light, n, k, d, count, reversed, none);
-    return surface_real_finish(light, stack);
-}
-
-static surface_real_Known sheet_answers_presets_mgf2(double design_wavelength_nm, gate_limits_Surface surface,
-        double wavelength_nm) {
-    thin_film_solver_ThinFilmLayer m = thin_film_presets_quarter_wave(1.38, design_wavelength_nm);
-    f64_x16 n;
-    for (size_t each = 0; each < 16; each++) {
-        n.at[each] = m.n;
-    }
-    f64_x16 k;
-    for (size_t each = 0; each < 16; each++) {
-        k.at[each] = m.k;
-    }
-    f64_x16 d;
-    for (size_t each = 0; each < 16; each++) {
-        d.at[each] = m.thickness_nm;
-    }
-    return sheet_answers_presets_layers_powers(&n, &k, &d, 1, surface, wavelength_nm);
-}
-
-static surface_real_Known sheet_answers_presets_broadband(gate_limits_Surface surface, double wavelength_nm) {
-    thin_film_solver_ThinFilmLayer_x4 four = thin_film_presets_broadband();
-    thin_film_solver_ThinFilmLayer a = four.at[0];
-    thin_film_solver_ThinFilmLayer b = four.at[1];
-    thin_film_solver_ThinFilmLayer c = four.at[2];
-    thin_film_solver_ThinFilmLayer e = four.at[3];
-    f64_x16 n = {{a.n, b.n, c.n, e.n, 1.0, 1.0, 1.0, 1.0, 1.0, 1.0, 1.0, 1.0, 1.0, 1.0, 1.0, 1.0}};
-    f64_x16 k = {{a.k, b.k, c.k, e.k, 1.0, 1.0, 1.0, 1.0, 1.0, 1.0, 1.0, 1.0, 1.0, 1.0, 1.0, 1.0}};
-    f64_x16 d = {{a.thickness_nm, b.thickness_nm, c.thickness_nm, e.thickness_nm, 1.0, 1.0, 1.0, 1.0, 1.0, 1.0, 1.0,
-            1.0, 1.0, 1.0, 1.0, 1.0}};
-    return sheet_answers_presets_layers_powers(&n, &k, &d, 4, surface, wavelength_nm);
-}
-
-// A number of H and one of L, in turns.
-static f64_x16 sheet_answers_presets_turns(double h, double l) {
-    return (f64_x16){{h, l, h, l, h, l, h, l, h, l, h, l, h, l, h, l}};
-}
-
-// (H L)^7 H.
-static surface_real_Known sheet_answers_presets_mirror(gate_limits_Surface surface, double wavelength_nm) {
-    thin_film_solver_ThinFilmLayer h = thin_film_presets_quarter_wave(2.3, 550.0);
-    thin_film_solver_ThinFilmLayer l = thin_film_presets_quarter_wave(1.46, 550.0);
-    f64_x16 n = sheet_answers_presets_turns(h.n, l.n);
-    f64_x16 k = sheet_answers_presets_turns(h.k, l.k);
-    f64_x16 d = sheet_answers_presets_turns(h.thickness_nm, l.thickness_nm);
-    return sheet_answers_presets_layers_powers(&n, &k, &d, 15, surface, wavelength_nm);
-}
-
-// The powers of a preset coating, and whether they are known; those of another are not.
-static surface_real_Known sheet_answers_presets_preset_powers(thin_film_SurfaceCoating coating,
-        gate_limits_Surface surface, double wavelength_nm) {
-    switch (coating.tag) {
-    case thin_film_SurfaceCoating_MgF2:
-    {
-        double design_wavelength_nm = coating.as.MgF2;
-        return sheet_answers_presets_mgf2(design_wavelength_nm, surface, wavelength_nm);
-    }
-    case thin_film_SurfaceCoating_BroadbandAr:
-        return sheet_answers_presets_broadband(surface, wavelength_nm);
-    case thin_film_SurfaceCoating_HighReflectanceMirror:
-        return sheet_answers_presets_mirror(surface, wavelength_nm);
-    case thin_film_SurfaceCoating_IdealAr:
-        return sheet_answers_presets_unknown();
-    default: // thin_film_SurfaceCoating_Custom
-        return sheet_answers_presets_unknown();
-    }
-}
-
 // Those at a place, at a wavelength: most layers are LAYERs that stand whole.
 static sheet_answers_quick_Reached sheet_answers_quick_reach(slice_u8 src, uint64_t at, double wavelength_nm) {
     sheet_PlainFloats floats = sheet_plain_floats(src, at);
@@ -6207,74 +6049,106 @@ static sheet_answers_quick_Reached sheet_answers_quick_reach(slice_u8 src, uint6
     return (sheet_answers_quick_Reached){.layer = layer_2, .next = sheet_next_place(src, at)};
 }
 
-// The numbers of count layers after the block at a place, at a wavelength, in the sheet's order: read in one walk.
-static void sheet_answers_quick_read_layers(slice_u8 src, uint64_t at, uint64_t count, double wavelength_nm,
-        f64_x16 *n, f64_x16 *k, f64_x16 *d) {
+// The media of count layers after the block at a place, at a wavelength, in the sheet's order: read in one walk.
+static void sheet_answers_quick_media_at(slice_u8 src, uint64_t at, uint64_t count, double wavelength_nm,
+        thin_film_solver_Incidence light, f64_x16 *eta_s, f64_x16 *eta_p, f64_x16 *delta) {
+    surface_real_Recent recent = surface_real_no_recent();
     uint64_t place = sheet_next_place(src, at);
     uint64_t i = 0;
     while (i < count) {
         sheet_answers_quick_Reached reached = sheet_answers_quick_reach(src, place, wavelength_nm);
         thin_film_solver_ThinFilmLayer layer = reached.layer;
-        n->at[i] = layer.n;
-        k->at[i] = layer.k;
-        d->at[i] = layer.thickness_nm;
+        recent = surface_real_turn(light, layer, recent);
+        surface_real_Seen seen = recent.last;
+        surface_real_Medium medium = seen.medium;
+        eta_s->at[i] = medium.eta_s;
+        eta_p->at[i] = medium.eta_p;
+        delta->at[i] = medium.delta;
         place = reached.next;
         i = i + 1;
     }
 }
 
-// The products of the n films after the block at a place, in their order or reversed, one by one: for one or two films
-// arrays do not pay.
+// The product of the n films after the block at a place, in their order or reversed.
 static surface_real_Stack sheet_answers_quick_stack_at(slice_u8 src, uint64_t at, uint64_t n, bool reversed,
         double wavelength_nm, thin_film_solver_Incidence light) {
-    surface_real_Stack stack = surface_real_no_films();
-    uint64_t i = 0;
-    while (i < n) {
-        uint64_t j = thin_film_layers_nth_index(reversed, n, i);
-        thin_film_solver_ThinFilmLayer layer = sheet_answers_layer_after(src, at, j, wavelength_nm);
-        stack = surface_real_join(stack, surface_real_film_of(light, layer));
-        i = i + 1;
-    }
-    return stack;
-}
-
-// The powers over real numbers, and whether they are known; no admitted sheet has more than 16 layers after a SURFACE.
-static surface_real_Known sheet_answers_quick_quick_powers(slice_u8 src, uint64_t at, uint64_t n, bool reversed,
-        double wavelength_nm, thin_film_solver_Incidence light) {
-    if (16 < n) {
-        return sheet_answers_presets_unknown();
-    }
-    if (n <= 2) {
-        return surface_real_finish(light, sheet_answers_quick_stack_at(src, at, n, reversed, wavelength_nm, light));
-    }
-    f64_x16 indices;
+    f64_x16 eta_s;
     for (size_t each = 0; each < 16; each++) {
-        indices.at[each] = 1.0;
+        eta_s.at[each] = 1.0;
     }
-    f64_x16 absorbing;
+    f64_x16 eta_p;
     for (size_t each = 0; each < 16; each++) {
-        absorbing.at[each] = 1.0;
+        eta_p.at[each] = 1.0;
     }
-    f64_x16 thicknesses;
+    f64_x16 delta;
     for (size_t each = 0; each < 16; each++) {
-        thicknesses.at[each] = 1.0;
+        delta.at[each] = 1.0;
     }
-    sheet_answers_quick_read_layers(src, at, n, wavelength_nm, &indices, &absorbing, &thicknesses);
+    sheet_answers_quick_media_at(src, at, n, wavelength_nm, light, &eta_s, &eta_p, &delta);
     surface_real_Stack none = surface_real_no_films();
-    surface_real_Stack stack = surface_real_films_join_all(light, &indices, &absorbing, &thicknesses, n, reversed,
-            none);
-    return surface_real_finish(light, stack);
+    return surface_real_films_join_all(&eta_s, &eta_p, &delta, n, reversed, none);
 }
 
-// The powers with the n films after the block at a place.
-static surface_Powers sheet_answers_quick_powers_with(slice_u8 src, uint64_t at, uint64_t n, bool reversed,
+// The response with the n layers after the block at a place, by the same two ways.
+static thin_film_solver_CoatingResponse sheet_answers_quick_layers_response(slice_u8 src, uint64_t at, uint64_t n,
+        bool reversed, double wavelength_nm, thin_film_solver_Incidence light) {
+    if (n <= 16) {
+        surface_real_Stack stack = sheet_answers_quick_stack_at(src, at, n, reversed, wavelength_nm, light);
+        response_real_Known quick = response_real_finish(light, stack);
+        if (quick.known) {
+            thin_film_solver_CoatingResponse response = quick.response;
+            return response;
+        }
+    }
+    return sheet_answers_solve(src, at, n, reversed, wavelength_nm, light);
+}
+
+// The response with these layers.
+static thin_film_solver_CoatingResponse sheet_answers_quick_response_with(slice_u8 src, uint64_t at, uint64_t n,
+        thin_film_SurfaceCoating coating, bool reversed, double wavelength_nm, thin_film_solver_Incidence light) {
+    if (thin_film_reading_own_count(coating) == 0) {
+        return sheet_answers_quick_layers_response(src, at, n, reversed, wavelength_nm, light);
+    }
+    return response_real_solve_own(coating, reversed, light);
+}
+
+// A coated surface. A preset coating has layers of its own, and Custom(Multilayer) those after the block.
+static thin_film_layers_Evaluation sheet_answers_evaluate_at(slice_u8 src, uint64_t at, uint64_t n,
+        gate_limits_Surface surface, thin_film_SurfaceCoating coating, double wavelength_nm) {
+    thin_film_layers_Prepared value = thin_film_reading_prepare(coating, n, surface.n_incident, surface.n_substrate,
+            surface.angle_rad, wavelength_nm);
+    if (value.tag == thin_film_layers_Prepared_Answered) {
+        thin_film_layers_Evaluation answer = value.as.Answered;
+        return answer;
+    }
+    bool reversed = value.as.Layers.reversed;
+    thin_film_solver_Incidence light = value.as.Layers.light;
+    return (thin_film_layers_Evaluation){.tag = thin_film_layers_Evaluation_Response,
+            .as.Response = sheet_answers_quick_response_with(src, at, n, coating, reversed, wavelength_nm, light)};
+}
+
+// The powers with the n layers after the block at a place: over real numbers where they are known so, or else from the whole
+// response. No admitted sheet has more than 16 layers after a SURFACE.
+static surface_Powers sheet_answers_quick_layers_powers(slice_u8 src, uint64_t at, uint64_t n, bool reversed,
         double wavelength_nm, thin_film_solver_Incidence light) {
-    surface_real_Known quick = sheet_answers_quick_quick_powers(src, at, n, reversed, wavelength_nm, light);
-    if (quick.known) {
-        surface_Powers powers = quick.powers;
-        return powers;
+    if (n <= 16) {
+        surface_real_Stack stack = sheet_answers_quick_stack_at(src, at, n, reversed, wavelength_nm, light);
+        surface_real_Known quick = surface_real_finish(light, stack);
+        if (quick.known) {
+            surface_Powers powers = quick.powers;
+            return powers;
+        }
     }
     return surface_coated_powers(sheet_answers_solve(src, at, n, reversed, wavelength_nm, light));
+}
+
+// The powers with a coating's own layers, or else with the n after the block at a place.
+static surface_Powers sheet_answers_quick_powers_with(slice_u8 src, uint64_t at, uint64_t n,
+        thin_film_SurfaceCoating coating, bool reversed, double wavelength_nm, thin_film_solver_Incidence light) {
+    if (thin_film_reading_own_count(coating) == 0) {
+        return sheet_answers_quick_layers_powers(src, at, n, reversed, wavelength_nm, light);
+    }
+    return surface_real_presets_powers_of(coating, reversed, light);
 }
 
 // The powers of an evaluation that needs no layer after the block.
@@ -6291,13 +6165,8 @@ static sheet_answers_PowersReply sheet_answers_quick_answered(thin_film_layers_E
 // The powers of a coated surface at a place with the n layers after it.
 static sheet_answers_PowersReply sheet_answers_quick_coated_powers(slice_u8 src, uint64_t at, uint64_t n,
         gate_limits_Surface surface, thin_film_SurfaceCoating coating, double wavelength_nm) {
-    surface_real_Known preset = sheet_answers_presets_preset_powers(coating, surface, wavelength_nm);
-    if (preset.known) {
-        surface_Powers powers = preset.powers;
-        return (sheet_answers_PowersReply){.tag = sheet_answers_PowersReply_Powers, .as.Powers = powers};
-    }
-    thin_film_layers_Prepared value = thin_film_reading_prepare_surface(coating, n, surface.n_incident,
-            surface.n_substrate, surface.angle_rad, wavelength_nm);
+    thin_film_layers_Prepared value = thin_film_reading_prepare(coating, n, surface.n_incident, surface.n_substrate,
+            surface.angle_rad, wavelength_nm);
     if (value.tag == thin_film_layers_Prepared_Answered) {
         thin_film_layers_Evaluation answer = value.as.Answered;
         return sheet_answers_quick_answered(answer);
@@ -6305,7 +6174,7 @@ static sheet_answers_PowersReply sheet_answers_quick_coated_powers(slice_u8 src,
     bool reversed = value.as.Layers.reversed;
     thin_film_solver_Incidence light = value.as.Layers.light;
     return (sheet_answers_PowersReply){.tag = sheet_answers_PowersReply_Powers,
-            .as.Powers = sheet_answers_quick_powers_with(src, at, n, reversed, wavelength_nm, light)};
+            .as.Powers = sheet_answers_quick_powers_with(src, at, n, coating, reversed, wavelength_nm, light)};
 }
 
 // The powers of the surface at a place with the n layers after it.
@@ -6335,7 +6204,7 @@ static sheet_answers_PowersReply sheet_answers_quick_custom_powers(slice_u8 src,
             bool reversed = surface.n_substrate < surface.n_incident;
             thin_film_solver_Incidence light = sheet_answers_quick_light_with(surface, theta, wavelength_nm);
             return (sheet_answers_PowersReply){.tag = sheet_answers_PowersReply_Powers,
-                    .as.Powers = sheet_answers_quick_powers_with(src, at, n, reversed, wavelength_nm, light)};
+                    .as.Powers = sheet_answers_quick_layers_powers(src, at, n, reversed, wavelength_nm, light)};
         }
     }
     thin_film_SurfaceCoating coating = {.tag = thin_film_SurfaceCoating_Custom,
@@ -6372,6 +6241,87 @@ static surface_AnswersReply sheet_answers_answers_at(slice_u8 src, uint64_t at, 
     }
     refusal_Refusal r_2 = value_2.as.Refused;
     return surface_refused(r_2.number);
+}
+
+// ==== sheet_index
+//
+// The index of a sheet: of each SURFACE where it begins, how many layers it has, and the sine and the cosine of its angle.
+
+// n SURFACEs from the i-th on, which begins at a place: where each begins, how many layers it has, and its angle. Where the next begins.
+static uint64_t sheet_index_gather(slice_u8 src, uint64_t first, uint64_t i, uint64_t n, u64_x64 *begins,
+        u64_x64 *counts, f64_x16 *angles) {
+    uint64_t at = first;
+    uint64_t k = 0;
+    while (k < n) {
+        uint64_t surface = sheet_onto(src, at);
+        sheet_Floats floats = sheet_floats_at(src, surface);
+        sheet_LayerRun run = sheet_layers_on(src, surface);
+        begins->at[i + k] = at;
+        counts->at[i + k] = run.count;
+        angles->at[k] = floats.third;
+        at = run.next;
+        k = k + 1;
+    }
+    return at;
+}
+
+// n sines and cosines stored from the i-th place on.
+static void sheet_index_put(uint64_t i, uint64_t n, const f64_x16 *sin, const f64_x16 *cos, f64_x64 *sines,
+        f64_x64 *cosines) {
+    uint64_t k = 0;
+    while (k < n) {
+        sines->at[i + k] = sin->at[k];
+        cosines->at[i + k] = cos->at[k];
+        k = k + 1;
+    }
+}
+
+// The index of n SURFACEs from the i-th on, whose sines and cosines are worked out together.
+static uint64_t sheet_index_some(slice_u8 src, uint64_t first, uint64_t i, uint64_t n, u64_x64 *begins,
+        u64_x64 *counts, f64_x64 *sines, f64_x64 *cosines) {
+    f64_x16 angles;
+    for (size_t each = 0; each < 16; each++) {
+        angles.at[each] = 1.0;
+    }
+    uint64_t next = sheet_index_gather(src, first, i, n, begins, counts, &angles);
+    f64_x16 sin;
+    for (size_t each = 0; each < 16; each++) {
+        sin.at[each] = 1.0;
+    }
+    f64_x16 cos;
+    for (size_t each = 0; each < 16; each++) {
+        cos.at[each] = 1.0;
+    }
+    math_waves_sin_cos(&angles, n, &sin, &cos);
+    sheet_index_put(i, n, &sin, &cos, sines, cosines);
+    return next;
+}
+
+static uint64_t sheet_index_at_most_16(uint64_t n) {
+    if (n < 16) {
+        return n;
+    }
+    return 16;
+}
+
+static uint64_t sheet_index_at_most_64(uint64_t n) {
+    if (n < 64) {
+        return n;
+    }
+    return 64;
+}
+
+// The index of the first SURFACEs of a sheet in grammar: of so many, and of 64 at the most.
+static void sheet_index_index(slice_u8 src, uint64_t count, u64_x64 *begins, u64_x64 *counts, f64_x64 *sines,
+        f64_x64 *cosines) {
+    uint64_t total = sheet_index_at_most_64(count);
+    uint64_t first = sheet_begin_of(src, 0);
+    uint64_t i = 0;
+    while (i < total) {
+        uint64_t n = sheet_index_at_most_16(total - i);
+        first = sheet_index_some(src, first, i, n, begins, counts, sines, cosines);
+        i = i + n;
+    }
 }
 
 // ==== gate
@@ -6442,301 +6392,12 @@ static bool gate_metal_layers(slice_u8 src, uint64_t at, uint64_t n, double wave
     return sum <= 16.0;
 }
 
-// The SURFACE at a place with its layers.
-static bool gate_metal_holds(slice_u8 src, uint64_t at, double wavelength_nm) {
-    uint64_t n = sheet_layer_run(src, at);
+// The SURFACE at a place with n layers.
+static bool gate_metal_holds(slice_u8 src, uint64_t at, uint64_t n, double wavelength_nm) {
     if (!gate_limits_may_be_metal(sheet_values_surface_at(src, at), n)) {
         return false;
     }
     return gate_metal_layers(src, sheet_next_place(src, at), n, wavelength_nm);
-}
-
-// A place that is kept, as a place.
-static uint64_t gate_wide(uint16_t place) {
-    return (uint64_t)place;
-}
-
-// The sine and the cosine of the SURFACE at a place, from the i-th that are kept, if these are its own.
-static math_trig_SinCos gate_kept_at(uint64_t at, double angle_rad, uint64_t i, const u16_x64 *places,
-        const f64_x64 *sines, const f64_x64 *cosines) {
-    uint64_t j = i % 64;
-    if (1 < at) {
-        if (gate_wide(places->at[j]) == at) {
-            return (math_trig_SinCos){.sin = sines->at[j], .cos = cosines->at[j]};
-        }
-    }
-    return math_trig_sin_cos(angle_rad);
-}
-
-// Whether an angle is small enough to be worked out together with others.
-static bool gate_near(double angle_rad) {
-    return angle_rad < 1048576.0 && -1048576.0 < angle_rad;
-}
-
-// The SURFACE at a place.
-static gate_Note gate_noted(slice_u8 src, uint64_t at) {
-    if (at < 0x10000) {
-        double angle_rad = sheet_float_from(src, at + 5);
-        if (gate_near(angle_rad)) {
-            return (gate_Note){.place = (uint16_t)at, .angle_rad = angle_rad};
-        }
-    }
-    return (gate_Note){.place = 1, .angle_rad = 0.0};
-}
-
-// n SURFACEs, the first of which begins at a place: each is noted. Where the next one begins.
-static uint64_t gate_gather(slice_u8 src, uint64_t begin, uint64_t n, u16_x16 *places, f64_x16 *angles) {
-    uint64_t at = begin;
-    uint64_t i = 0;
-    while (i < n) {
-        uint64_t surface = sheet_onto(src, at);
-        gate_Note one = gate_noted(src, surface);
-        places->at[i] = one.place;
-        angles->at[i] = one.angle_rad;
-        at = sheet_after_layers(src, surface);
-        i = i + 1;
-    }
-    return at;
-}
-
-// The sines and cosines of n SURFACEs are kept, from the i-th on.
-static void gate_keep_each(uint64_t i, uint64_t n, const u16_x16 *at, const f64_x16 *sin, const f64_x16 *cos,
-        u16_x64 *places, f64_x64 *sines, f64_x64 *cosines) {
-    uint64_t k = 0;
-    while (k < n) {
-        uint64_t j = (i + k) % 64;
-        places->at[j] = at->at[k];
-        sines->at[j] = sin->at[k];
-        cosines->at[j] = cos->at[k];
-        k = k + 1;
-    }
-}
-
-// Those of n SURFACEs, the first of which begins at a place, worked out together. Where the next one begins.
-static uint64_t gate_keep_some(slice_u8 src, uint64_t begin, uint64_t i, uint64_t n, u16_x64 *places, f64_x64 *sines,
-        f64_x64 *cosines) {
-    u16_x16 at;
-    for (size_t each = 0; each < 16; each++) {
-        at.at[each] = 1;
-    }
-    f64_x16 angles;
-    for (size_t each = 0; each < 16; each++) {
-        angles.at[each] = 1.0;
-    }
-    uint64_t next = gate_gather(src, begin, n, &at, &angles);
-    f64_x16 sin;
-    for (size_t each = 0; each < 16; each++) {
-        sin.at[each] = 1.0;
-    }
-    f64_x16 cos;
-    for (size_t each = 0; each < 16; each++) {
-        cos.at[each] = 1.0;
-    }
-    math_waves_sin_cos(&angles, n, &sin, &cos);
-    gate_keep_each(i, n, &at, &sin, &cos, places, sines, cosines);
-    return next;
-}
-
-static uint64_t gate_at_most_16(uint64_t n) {
-    if (n < 16) {
-        return n;
-    }
-    return 16;
-}
-
-// Those of all SURFACEs of a sheet in grammar with a count of them, 16 at a time. One or two are left to be worked out alone.
-static void gate_keep(slice_u8 src, uint64_t count, u16_x64 *places, f64_x64 *sines, f64_x64 *cosines) {
-    if (count < 3) {
-        return;
-    }
-    uint64_t begin = sheet_begin_of(src, 0);
-    uint64_t i = 0;
-    while (i < count) {
-        uint64_t n = gate_at_most_16(count - i);
-        begin = gate_keep_some(src, begin, i, n, places, sines, cosines);
-        i = i + n;
-    }
-}
-
-// The sine and the cosine of the SURFACE at a place are the i-th that are kept.
-static void gate_keep_one(uint64_t at, math_trig_SinCos theta, uint64_t i, u16_x64 *places, f64_x64 *sines,
-        f64_x64 *cosines) {
-    if (0x10000 <= at) {
-        return;
-    }
-    uint64_t j = i % 64;
-    places->at[j] = (uint16_t)at;
-    sines->at[j] = theta.sin;
-    cosines->at[j] = theta.cos;
-}
-
-// The SURFACE at a place is judged, and its sine and cosine are the i-th that are kept.
-static gate_limits_Judgement gate_judge_keeping(slice_u8 src, uint64_t at, uint64_t i, u16_x64 *places,
-        f64_x64 *sines, f64_x64 *cosines) {
-    gate_limits_Surface surface = sheet_values_surface_at(src, at);
-    math_trig_SinCos theta = gate_kept_at(at, surface.angle_rad, i, places, sines, cosines);
-    gate_keep_one(at, theta, i, places, sines, cosines);
-    return gate_limits_judge_with(surface, theta);
-}
-
-// A LAYER, or else its SURFACE under the limits of metal films.
-static bool gate_plain_stands(slice_u8 src, uint64_t at, uint64_t surface, double wavelength_nm, double snell) {
-    return gate_limits_layer_within(snell, sheet_values_plain_at(src, at))
-            || gate_metal_holds(src, surface, wavelength_nm);
-}
-
-// The same of a kind 6.
-static bool gate_cauchy_stands(slice_u8 src, uint64_t at, uint64_t surface, double wavelength_nm, double snell) {
-    return gate_cauchy_passes(wavelength_nm, snell, sheet_values_cauchy_at(src, at))
-            || gate_metal_holds(src, surface, wavelength_nm);
-}
-
-// The block at a place, at a wavelength and after the SURFACE at another, which was the i-th.
-static gate_Passage gate_judge(slice_u8 src, uint64_t at, uint64_t surface, double wavelength_nm, double snell,
-        uint64_t i, u16_x64 *places, f64_x64 *sines, f64_x64 *cosines) {
-    uint32_t kind = sheet_kind_at(src, at);
-    if (kind == 2) {
-        sheet_values_Beam beam = sheet_values_beam_at(src, at);
-        return (gate_Passage){.passes = gate_limits_beam_passes(beam.wavelength_nm, beam.s, beam.p), .snell = snell,
-                .surface = surface};
-    }
-    if (kind == 3) {
-        gate_limits_Judgement judgement = gate_judge_keeping(src, at, i, places, sines, cosines);
-        return (gate_Passage){.passes = judgement.passes, .snell = judgement.snell, .surface = at};
-    }
-    if (kind == 4) {
-        return (gate_Passage){.passes = gate_plain_stands(src, at, surface, wavelength_nm, snell), .snell = snell,
-                .surface = surface};
-    }
-    if (kind == 6) {
-        return (gate_Passage){.passes = gate_cauchy_stands(src, at, surface, wavelength_nm, snell), .snell = snell,
-                .surface = surface};
-    }
-    if (kind == 7) {
-        return (gate_Passage){.passes = gate_limits_wavelength_passes(wavelength_nm), .snell = snell,
-                .surface = surface};
-    }
-    return (gate_Passage){.passes = true, .snell = snell, .surface = surface};
-}
-
-// A whole LAYER stands at a place, and is within section 3's limits.
-static bool gate_plain_fits(slice_u8 src, uint64_t at, double snell) {
-    sheet_PlainFloats floats = sheet_plain_floats_again(src, at);
-    if (!floats.stands) {
-        return false;
-    }
-    thin_film_solver_ThinFilmLayer layer = {.n = floats.first, .k = floats.second, .thickness_nm = floats.third};
-    return gate_limits_layer_within(snell, layer);
-}
-
-// The place after such ones from a place on, 16 at the most.
-static uint64_t gate_after_plain(slice_u8 src, uint64_t at, double snell) {
-    uint64_t place = at;
-    uint64_t i = 0;
-    while (i < 16) {
-        if (!gate_plain_fits(src, place, snell)) {
-            return place;
-        }
-        place = place + 7;
-        i = i + 1;
-    }
-    return place;
-}
-
-// The same of kinds 6, at a wavelength.
-static bool gate_cauchy_fits(slice_u8 src, uint64_t at, double wavelength_nm, double snell) {
-    if (sheet_kind_at(src, at) != 6) {
-        return false;
-    }
-    return gate_cauchy_passes(wavelength_nm, snell, sheet_values_cauchy_at(src, at));
-}
-
-static uint64_t gate_after_cauchy(slice_u8 src, uint64_t at, double wavelength_nm, double snell) {
-    uint64_t place = at;
-    uint64_t i = 0;
-    while (i < 16) {
-        if (!gate_cauchy_fits(src, place, wavelength_nm, snell)) {
-            return place;
-        }
-        place = sheet_next_place(src, place);
-        i = i + 1;
-    }
-    return place;
-}
-
-// The place after those of the kind that stands at a place.
-static uint64_t gate_after_fitting(slice_u8 src, uint64_t at, double wavelength_nm, double snell) {
-    uint32_t kind = sheet_kind_at(src, at);
-    if (kind == 4) {
-        return gate_after_plain(src, at, snell);
-    }
-    if (kind == 6) {
-        return gate_after_cauchy(src, at, wavelength_nm, snell);
-    }
-    return at;
-}
-
-// One more of 64 where a SURFACE has taken the place of another.
-static uint64_t gate_next_slot(uint64_t i, uint64_t before, uint64_t surface) {
-    if (surface == before) {
-        return i;
-    }
-    return (i % 64 + 1) % 64;
-}
-
-// The limits of a sheet that is in grammar, block after block, each layer at the wavelength that its SURFACE is met with.
-static gate_Gated gate_limits(slice_u8 src, uint32_t count, u16_x64 *places, f64_x64 *sines, f64_x64 *cosines) {
-    uint64_t total = src.count / 4;
-    sheet_values_Beam beam = sheet_values_beam_of(src);
-    double wavelength_nm = beam.wavelength_nm;
-    uint64_t at = 0;
-    uint64_t surface = 0;
-    double snell = 0.0;
-    uint64_t i = 0;
-    while (at < total) {
-        wavelength_nm = sheet_values_met_with(src, at, wavelength_nm);
-        gate_Passage passage = gate_judge(src, at, surface, wavelength_nm, snell, i, places, sines, cosines);
-        if (!passage.passes) {
-            return gate_outside(at);
-        }
-        i = gate_next_slot(i, surface, passage.surface);
-        snell = passage.snell;
-        surface = passage.surface;
-        at = gate_after_fitting(src, sheet_next_place(src, at), wavelength_nm, snell);
-    }
-    return (gate_Gated){.tag = gate_Gated_Admitted, .as.Admitted = count};
-}
-
-// The gate: the length, then the grammar, then the limits. What is kept has to be right, and stays so.
-static gate_Gated gate_gate_keeping(slice_u8 src, u16_x64 *places, f64_x64 *sines, f64_x64 *cosines) {
-    if (!gate_length_fits(src)) {
-        return (gate_Gated){.tag = gate_Gated_Refused, .as.Refused = {.number = 4, .place = 0}};
-    }
-    sheet_Verdict value = sheet_grammar(src);
-    if (value.tag == sheet_Verdict_Whole) {
-        uint32_t count = value.as.Whole;
-        gate_keep(src, (uint64_t)count, places, sines, cosines);
-        return gate_limits(src, count, places, sines, cosines);
-    }
-    uint64_t place = value.as.Fault;
-    return (gate_Gated){.tag = gate_Gated_Refused, .as.Refused = {.number = 5, .place = place}};
-}
-
-// The gate alone.
-static gate_Gated gate_gate(slice_u8 src) {
-    u16_x64 places;
-    for (size_t each = 0; each < 64; each++) {
-        places.at[each] = 1;
-    }
-    f64_x64 sines;
-    for (size_t each = 0; each < 64; each++) {
-        sines.at[each] = 1.0;
-    }
-    f64_x64 cosines;
-    for (size_t each = 0; each < 64; each++) {
-        cosines.at[each] = 1.0;
-    }
-    return gate_gate_keeping(src, &places, &sines, &cosines);
 }
 
 // The layer of either kind at a place, at a wavelength.
@@ -6748,17 +6409,120 @@ static bool gate_layer_passes(slice_u8 src, uint64_t at, double wavelength_nm, d
 }
 
 // The n layers from a place on.
-static bool gate_layers_pass(slice_u8 src, uint64_t at, uint64_t n, double wavelength_nm, double snell) {
+static gate_Fit gate_layers_fit(slice_u8 src, uint64_t at, uint64_t n, double wavelength_nm, double snell) {
     uint64_t place = at;
     uint64_t i = 0;
     while (i < n) {
         if (!gate_layer_passes(src, place, wavelength_nm, snell)) {
-            return false;
+            return (gate_Fit){.all = false, .place = place};
         }
         place = sheet_next_place(src, place);
         i = i + 1;
     }
-    return true;
+    return (gate_Fit){.all = true, .place = place};
+}
+
+// The SURFACE at a place with n layers: under section 3's limits, or else under those of metal films.
+static bool gate_or_metal(bool all, slice_u8 src, uint64_t at, uint64_t n, double wavelength_nm) {
+    return all || gate_metal_holds(src, at, n, wavelength_nm);
+}
+
+// The kind 7 at a place, if one is there, by the wavelength that its SURFACE is met with.
+static bool gate_tuning_passes(slice_u8 src, uint64_t begin, double met_nm) {
+    if (sheet_kind_at(src, begin) != 7) {
+        return true;
+    }
+    return gate_limits_wavelength_passes(met_nm);
+}
+
+// The SURFACE that begins at a place, with n layers, after a wavelength, by the sine and the cosine of its angle.
+static gate_Passage gate_judge(slice_u8 src, uint64_t begin, uint64_t n, double held_nm, math_trig_SinCos theta) {
+    double wavelength_nm = sheet_values_met_with(src, begin, held_nm);
+    if (!gate_tuning_passes(src, begin, wavelength_nm)) {
+        return (gate_Passage){.passes = false, .wavelength_nm = wavelength_nm, .place = begin};
+    }
+    uint64_t at = sheet_onto(src, begin);
+    gate_limits_Surface surface = sheet_values_surface_at(src, at);
+    gate_limits_Judgement judgement = gate_limits_judge_with(surface, theta);
+    if (!judgement.passes) {
+        return (gate_Passage){.passes = false, .wavelength_nm = wavelength_nm, .place = at};
+    }
+    uint64_t next = sheet_next_place(src, at);
+    gate_Fit fit = gate_layers_fit(src, next, n, wavelength_nm, judgement.snell);
+    if (!gate_or_metal(fit.all, src, at, n, wavelength_nm)) {
+        return (gate_Passage){.passes = false, .wavelength_nm = wavelength_nm, .place = fit.place};
+    }
+    return (gate_Passage){.passes = true, .wavelength_nm = wavelength_nm, .place = begin};
+}
+
+// The limits of a sheet that is in grammar, by its index: the BEAM, then SURFACE after SURFACE.
+static gate_Gated gate_limits(slice_u8 src, uint32_t count, const u64_x64 *begins, const u64_x64 *counts,
+        const f64_x64 *sines, const f64_x64 *cosines) {
+    sheet_values_Beam beam = sheet_values_beam_of(src);
+    if (!gate_limits_beam_passes(beam.wavelength_nm, beam.s, beam.p)) {
+        return gate_outside(sheet_next_place(src, 0));
+    }
+    uint64_t n = (uint64_t)count;
+    double wavelength_nm = beam.wavelength_nm;
+    uint64_t i = 0;
+    while (i < n) {
+        math_trig_SinCos theta = {.sin = sines->at[i], .cos = cosines->at[i]};
+        gate_Passage passage = gate_judge(src, begins->at[i], counts->at[i], wavelength_nm, theta);
+        if (!passage.passes) {
+            return gate_outside(passage.place);
+        }
+        wavelength_nm = passage.wavelength_nm;
+        i = i + 1;
+    }
+    return (gate_Gated){.tag = gate_Gated_Admitted, .as.Admitted = count};
+}
+
+// The gate: the length, then the grammar, then the limits. It leaves the index of the sheet in four arrays.
+static gate_Gated gate_gate_index(slice_u8 src, u64_x64 *begins, u64_x64 *counts, f64_x64 *sines, f64_x64 *cosines) {
+    for (size_t each = 0; each < 64; each++) {
+        (*begins).at[each] = 1;
+    }
+    for (size_t each = 0; each < 64; each++) {
+        (*counts).at[each] = 1;
+    }
+    for (size_t each = 0; each < 64; each++) {
+        (*sines).at[each] = 1.0;
+    }
+    for (size_t each = 0; each < 64; each++) {
+        (*cosines).at[each] = 1.0;
+    }
+    if (!gate_length_fits(src)) {
+        return (gate_Gated){.tag = gate_Gated_Refused, .as.Refused = {.number = 4, .place = 0}};
+    }
+    sheet_Verdict value = sheet_grammar(src);
+    if (value.tag == sheet_Verdict_Whole) {
+        uint32_t count = value.as.Whole;
+        sheet_index_index(src, (uint64_t)count, begins, counts, sines, cosines);
+        return gate_limits(src, count, begins, counts, sines, cosines);
+    }
+    uint64_t place = value.as.Fault;
+    return (gate_Gated){.tag = gate_Gated_Refused, .as.Refused = {.number = 5, .place = place}};
+}
+
+// The gate alone.
+static gate_Gated gate_gate(slice_u8 src) {
+    u64_x64 begins;
+    for (size_t each = 0; each < 64; each++) {
+        begins.at[each] = 1;
+    }
+    u64_x64 counts;
+    for (size_t each = 0; each < 64; each++) {
+        counts.at[each] = 1;
+    }
+    f64_x64 sines;
+    for (size_t each = 0; each < 64; each++) {
+        sines.at[each] = 1.0;
+    }
+    f64_x64 cosines;
+    for (size_t each = 0; each < 64; each++) {
+        cosines.at[each] = 1.0;
+    }
+    return gate_gate_index(src, &begins, &counts, &sines, &cosines);
 }
 
 // The layers of the SURFACE at a place, under either set of limits.
@@ -6768,9 +6532,9 @@ static bool gate_surface_holds(slice_u8 src, uint64_t at, double wavelength_nm) 
         return true;
     }
     gate_limits_Judgement judgement = gate_limits_judge_surface(sheet_values_surface_at(src, at));
-    uint64_t place = sheet_next_place(src, at);
-    return gate_layers_pass(src, place, n, wavelength_nm, judgement.snell)
-            || gate_metal_holds(src, at, wavelength_nm);
+    uint64_t next = sheet_next_place(src, at);
+    gate_Fit fit = gate_layers_fit(src, next, n, wavelength_nm, judgement.snell);
+    return gate_or_metal(fit.all, src, at, n, wavelength_nm);
 }
 
 // The layers of n SURFACEs, the first of which begins at a place, up to the next kind 7.
@@ -6811,10 +6575,20 @@ static bool gate_holds(slice_u8 src, uint32_t done, uint32_t count, double wavel
 // The surfaces of a sheet by their numbers, counted from 0: document 01, section 7. Each call is handed
 // the sheet's bytes and gates them anew.
 
+// A refusal, beside which every number is zero.
 static sheet_surfaces_SurfaceReply sheet_surfaces_refused(refusal_Refusal refusal) {
     surface_AnswersReply reply = surface_refused(refusal.number);
     surface_Answers answers = reply.answers;
     return (sheet_surfaces_SurfaceReply){.refusal = refusal, .answers = answers};
+}
+
+// Of the SURFACE at a place, with the layers after it, met with a wavelength.
+static sheet_surfaces_SurfaceReply sheet_surfaces_answers_met(slice_u8 src, uint64_t at, double wavelength_nm) {
+    uint64_t n = sheet_layer_run(src, at);
+    gate_limits_Surface surface = sheet_values_surface_at(src, at);
+    surface_AnswersReply reply = sheet_answers_answers_at(src, at, n, surface, wavelength_nm);
+    surface_Answers answers = reply.answers;
+    return (sheet_surfaces_SurfaceReply){.refusal = {.number = reply.refusal, .place = 0}, .answers = answers};
 }
 
 // Of the i-th surface, counted from 0, at the wavelength that a list of steps alone meets it with.
@@ -6825,13 +6599,8 @@ static sheet_surfaces_SurfaceReply sheet_surfaces_surface_answers(slice_u8 src, 
         if (count <= i) {
             return sheet_surfaces_refused((refusal_Refusal){.number = 7, .place = 0});
         }
-        uint64_t at = sheet_place_of(src, i);
-        uint64_t n = sheet_layer_run(src, at);
-        gate_limits_Surface surface = sheet_values_surface_at(src, at);
         double wavelength_nm = sheet_values_wavelength_of(src, i);
-        surface_AnswersReply reply = sheet_answers_answers_at(src, at, n, surface, wavelength_nm);
-        surface_Answers answers = reply.answers;
-        return (sheet_surfaces_SurfaceReply){.refusal = {.number = reply.refusal, .place = 0}, .answers = answers};
+        return sheet_surfaces_answers_met(src, sheet_place_of(src, i), wavelength_nm);
     }
     refusal_Refusal r = value.as.Refused;
     return sheet_surfaces_refused(r);
@@ -7027,11 +6796,10 @@ static train_steps_Chosen train_steps_chosen_at(slice_u8 src, uint64_t at, uint6
     return train_steps_chosen_of(surface.reflected, reply);
 }
 
-// The same with the sine and the cosine that the gate kept of the i-th surface.
-static train_steps_Chosen train_steps_chosen_kept(slice_u8 src, uint64_t at, uint64_t n, double wavelength_nm,
-        uint64_t i, const u16_x64 *places, const f64_x64 *sines, const f64_x64 *cosines) {
+// The same with the sine and the cosine of its angle.
+static train_steps_Chosen train_steps_chosen_with(slice_u8 src, uint64_t at, uint64_t n, double wavelength_nm,
+        math_trig_SinCos theta) {
     gate_limits_Surface surface = sheet_values_surface_at(src, at);
-    math_trig_SinCos theta = gate_kept_at(at, surface.angle_rad, i, places, sines, cosines);
     sheet_answers_PowersReply reply = sheet_answers_powers_with_angle(src, at, n, surface, theta, wavelength_nm);
     return train_steps_chosen_of(surface.reflected, reply);
 }
@@ -7042,22 +6810,29 @@ static train_steps_State train_steps_moved(train_steps_Chosen c, double waveleng
             .wavelength_nm = wavelength_nm};
 }
 
-// The state after the surface that begins at a place, which is met with its own kind 7's wavelength or the one held.
-static train_steps_State train_steps_moved_at(slice_u8 src, uint64_t begin, train_steps_State state,
-        const u16_x64 *places, const f64_x64 *sines, const f64_x64 *cosines) {
+// The state after the surface at a place with the n layers after it, met with a wavelength.
+static train_steps_State train_steps_moved_from(slice_u8 src, uint64_t at, uint64_t n, double wavelength_nm,
+        train_steps_State state) {
+    return train_steps_moved(train_steps_chosen_at(src, at, n, wavelength_nm), wavelength_nm, state);
+}
+
+// The state after the surface that begins at a place with its n layers, which is met with its own kind 7's wavelength or the one held.
+static train_steps_State train_steps_moved_at(slice_u8 src, uint64_t begin, uint64_t n, math_trig_SinCos theta,
+        train_steps_State state) {
     double wavelength_nm = sheet_values_met_with(src, begin, state.wavelength_nm);
     uint64_t at = sheet_onto(src, begin);
-    uint64_t n = sheet_layer_run(src, at);
-    uint64_t i = (uint64_t)state.done;
-    train_steps_Chosen c = train_steps_chosen_kept(src, at, n, wavelength_nm, i, places, sines, cosines);
-    return train_steps_moved(c, wavelength_nm, state);
+    return train_steps_moved(train_steps_chosen_with(src, at, n, wavelength_nm, theta), wavelength_nm, state);
 }
 
 // One surface on from any state; a refusal leaves the state as it was.
 static train_steps_TrainReply train_steps_step(slice_u8 src, train_steps_State state) {
-    u16_x64 places;
+    u64_x64 begins;
     for (size_t each = 0; each < 64; each++) {
-        places.at[each] = 1;
+        begins.at[each] = 1;
+    }
+    u64_x64 counts;
+    for (size_t each = 0; each < 64; each++) {
+        counts.at[each] = 1;
     }
     f64_x64 sines;
     for (size_t each = 0; each < 64; each++) {
@@ -7067,20 +6842,22 @@ static train_steps_TrainReply train_steps_step(slice_u8 src, train_steps_State s
     for (size_t each = 0; each < 64; each++) {
         cosines.at[each] = 1.0;
     }
-    gate_Gated value = gate_gate_keeping(src, &places, &sines, &cosines);
+    gate_Gated value = gate_gate_index(src, &begins, &counts, &sines, &cosines);
     if (value.tag == gate_Gated_Admitted) {
         uint32_t count = value.as.Admitted;
         if (count <= state.done) {
             return (train_steps_TrainReply){.tag = train_steps_TrainReply_Refused,
                     .as.Refused = {.number = 7, .place = 0}};
         }
-        uint64_t begin = sheet_begin_of(src, state.done);
+        uint64_t i = (uint64_t)state.done;
+        uint64_t begin = begins.at[i];
         if (!gate_holds_from(src, begin, count - state.done, state.wavelength_nm)) {
             return (train_steps_TrainReply){.tag = train_steps_TrainReply_Refused,
                     .as.Refused = {.number = 11, .place = 0}};
         }
+        math_trig_SinCos theta = {.sin = sines.at[i], .cos = cosines.at[i]};
         return (train_steps_TrainReply){.tag = train_steps_TrainReply_State,
-                .as.State = train_steps_moved_at(src, begin, state, &places, &sines, &cosines)};
+                .as.State = train_steps_moved_at(src, begin, counts.at[i], theta, state)};
     }
     refusal_Refusal r = value.as.Refused;
     return (train_steps_TrainReply){.tag = train_steps_TrainReply_Refused, .as.Refused = r};
@@ -7103,34 +6880,53 @@ static train_steps_TrainReply train_steps_retune(slice_u8 src, train_steps_State
 }
 
 // The powers after each of count surfaces, written to a list that has room for them.
-static void train_steps_write_each(slice_u8 src, uint64_t count, const u16_x64 *places, const f64_x64 *sines,
-        const f64_x64 *cosines, slice_mut_f64 list) {
+static void train_steps_write_each(slice_u8 src, uint64_t count, const u64_x64 *begins, const u64_x64 *counts,
+        const f64_x64 *sines, const f64_x64 *cosines, slice_mut_f64 list) {
     sheet_values_Beam beam = sheet_values_beam_of(src);
     double s = beam.s;
     double p = beam.p;
     double wavelength_nm = beam.wavelength_nm;
-    uint64_t begin = sheet_begin_of(src, 0);
     uint64_t i = 0;
     while (i < count) {
+        uint64_t begin = begins->at[i];
         wavelength_nm = sheet_values_met_with(src, begin, wavelength_nm);
         uint64_t at = sheet_onto(src, begin);
-        sheet_LayerRun run = sheet_layers_on(src, at);
-        uint64_t n = run.count;
-        train_steps_Chosen c = train_steps_chosen_kept(src, at, n, wavelength_nm, i, places, sines, cosines);
+        math_trig_SinCos theta = {.sin = sines->at[i], .cos = cosines->at[i]};
+        train_steps_Chosen c = train_steps_chosen_with(src, at, counts->at[i], wavelength_nm, theta);
         s = s * c.s;
         p = p * c.p;
         list.at[2 * i] = s;
         list.at[2 * i + 1] = p;
-        begin = run.next;
         i = i + 1;
     }
 }
 
+// The state after count surfaces from the start, with a wavelength in place of the BEAM's; it gates nothing.
+static train_steps_State train_steps_run_at(slice_u8 src, uint32_t count, double wavelength_nm) {
+    sheet_values_Beam beam = sheet_values_beam_of(src);
+    train_steps_State state = {.done = 0, .s = beam.s, .p = beam.p, .wavelength_nm = wavelength_nm};
+    uint64_t begin = sheet_begin_of(src, 0);
+    uint32_t i = 0;
+    while (i < count) {
+        double met_nm = sheet_values_met_with(src, begin, state.wavelength_nm);
+        uint64_t at = sheet_onto(src, begin);
+        sheet_LayerRun run = sheet_layers_on(src, at);
+        state = train_steps_moved_from(src, at, run.count, met_nm, state);
+        begin = run.next;
+        i = i + 1;
+    }
+    return state;
+}
+
 // A run over the whole sheet from its start: s, p after each surface go to the lent list.
 static gate_Gated train_steps_run(slice_u8 src, slice_mut_f64 list) {
-    u16_x64 places;
+    u64_x64 begins;
     for (size_t each = 0; each < 64; each++) {
-        places.at[each] = 1;
+        begins.at[each] = 1;
+    }
+    u64_x64 counts;
+    for (size_t each = 0; each < 64; each++) {
+        counts.at[each] = 1;
     }
     f64_x64 sines;
     for (size_t each = 0; each < 64; each++) {
@@ -7140,221 +6936,42 @@ static gate_Gated train_steps_run(slice_u8 src, slice_mut_f64 list) {
     for (size_t each = 0; each < 64; each++) {
         cosines.at[each] = 1.0;
     }
-    gate_Gated value = gate_gate_keeping(src, &places, &sines, &cosines);
+    gate_Gated value = gate_gate_index(src, &begins, &counts, &sines, &cosines);
     if (value.tag == gate_Gated_Admitted) {
         uint32_t count = value.as.Admitted;
         uint64_t n = (uint64_t)count;
         if (list.count < 2 * n) {
             return (gate_Gated){.tag = gate_Gated_Refused, .as.Refused = {.number = 8, .place = 0}};
         }
-        train_steps_write_each(src, n, &places, &sines, &cosines, list);
+        train_steps_write_each(src, n, &begins, &counts, &sines, &cosines, list);
         return (gate_Gated){.tag = gate_Gated_Admitted, .as.Admitted = count};
     }
     refusal_Refusal r = value.as.Refused;
     return (gate_Gated){.tag = gate_Gated_Refused, .as.Refused = r};
 }
 
-// ==== train_lines
+// ==== sheet_retuned
 //
-// A train at up to 64 lines of a band: surface after surface, and at each of them all lines, sixteen at once, so that what
-// does not hang on the wavelength is worked out once. Each line's state is that of train_steps.
+// Document 02, slip 5: the answers of a sheet's surface where the train is retuned right before it is stepped. The call is
+// handed the sheet's bytes and gates them anew.
 
-// The admittances and the thicknesses of the n layers from a place on, and whether all are of kind 4 and do not absorb.
-static bool train_lines_media_at(slice_u8 src, uint64_t at, uint64_t n, thin_film_solver_Incidence light,
-        f64_x16 *eta_s, f64_x16 *eta_p, f64_x16 *thickness_nm) {
-    uint64_t place = at;
-    uint64_t i = 0;
-    while (i < n) {
-        if (sheet_kind_at(src, place) == 6) {
-            return false;
+// Of the i-th surface, counted from 0: at the wavelength of the retune, or at that of a kind 7 before the surface.
+static sheet_surfaces_SurfaceReply sheet_retuned_answers_at(slice_u8 src, uint32_t i, double wavelength_nm) {
+    gate_Gated value = gate_gate(src);
+    if (value.tag == gate_Gated_Admitted) {
+        uint32_t count = value.as.Admitted;
+        if (count <= i) {
+            return sheet_surfaces_refused((refusal_Refusal){.number = 7, .place = 0});
         }
-        thin_film_solver_ThinFilmLayer layer = sheet_values_plain_at(src, place);
-        if (!(layer.k == 0.0)) {
-            return false;
+        if (!gate_holds(src, i, count, wavelength_nm)) {
+            return sheet_surfaces_refused((refusal_Refusal){.number = 11, .place = 0});
         }
-        surface_real_Medium medium = surface_real_medium_of(light, layer);
-        eta_s->at[i] = medium.eta_s;
-        eta_p->at[i] = medium.eta_p;
-        thickness_nm->at[i] = layer.thickness_nm;
-        place = sheet_next_place(src, place);
-        i = i + 1;
+        uint64_t begin = sheet_begin_of(src, i);
+        double met_nm = sheet_values_met_with(src, begin, wavelength_nm);
+        return sheet_surfaces_answers_met(src, sheet_onto(src, begin), met_nm);
     }
-    return true;
-}
-
-// Whether all of n lines can be evaluated.
-static bool train_lines_valid_lines(gate_limits_Surface surface, uint64_t n, const f64_x16 *nm) {
-    bool valid = true;
-    uint64_t i = 0;
-    while (i < n) {
-        valid = valid & thin_film_valid_valid(surface.n_incident, surface.n_substrate, surface.angle_rad, nm->at[i]);
-        i = i + 1;
-    }
-    return valid;
-}
-
-// The powers at each of n lines that s and p are multiplied by, one after the other.
-static void train_lines_each_line(slice_u8 src, uint64_t at, uint64_t many, uint64_t n, const f64_x16 *nm, f64_x16 *s,
-        f64_x16 *p) {
-    uint64_t i = 0;
-    while (i < n) {
-        train_steps_Chosen c = train_steps_chosen_at(src, at, many, nm->at[i]);
-        s->at[i] = c.s;
-        p->at[i] = c.p;
-        i = i + 1;
-    }
-}
-
-// The same all at once, and whether they are known: where the surface's films are steady, and all lines can be evaluated.
-static bool train_lines_quick_lines(gate_limits_Surface surface, surface_lines_Sides sides, bool steady,
-        const f64_x16 *eta_s, const f64_x16 *eta_p, const f64_x16 *thickness_nm, uint64_t many, uint64_t n,
-        const f64_x16 *nm, f64_x16 *s, f64_x16 *p) {
-    if (!steady) {
-        return false;
-    }
-    if (!train_lines_valid_lines(surface, n, nm)) {
-        return false;
-    }
-    bool reversed = surface.n_substrate < surface.n_incident;
-    bool reflected = surface.reflected;
-    return surface_lines_powers(sides, reflected, eta_s, eta_p, thickness_nm, many, reversed, n, nm, s, p);
-}
-
-// The powers at each of n lines: all at once, or else one after the other.
-static void train_lines_chosen_lines(slice_u8 src, uint64_t at, uint64_t many, gate_limits_Surface surface,
-        surface_lines_Sides sides, bool steady, const f64_x16 *eta_s, const f64_x16 *eta_p,
-        const f64_x16 *thickness_nm, uint64_t n, const f64_x16 *nm, f64_x16 *s, f64_x16 *p) {
-    bool value = train_lines_quick_lines(surface, sides, steady, eta_s, eta_p, thickness_nm, many, n, nm, s, p);
-    if (value) {
-        return;
-    }
-    train_lines_each_line(src, at, many, n, nm, s, p);
-}
-
-// The wavelength that the surface that begins at a place is met with, at the first n lines.
-static void train_lines_met_lines(slice_u8 src, uint64_t begin, uint64_t n, f64_x64 *nm) {
-    uint64_t i = 0;
-    while (i < n) {
-        nm->at[i] = sheet_values_met_with(src, begin, nm->at[i]);
-        i = i + 1;
-    }
-}
-
-// Sixteen of them.
-static void train_lines_sixteen(const f64_x64 *nm, uint64_t from, f64_x16 *some) {
-    uint64_t i = 0;
-    while (i < 16) {
-        some->at[i] = nm->at[from + i];
-        i = i + 1;
-    }
-}
-
-// Each of n places from one on, times that of a surface.
-static void train_lines_multiply(const f64_x16 *by, uint64_t from, uint64_t n, f64_x64 *x) {
-    uint64_t i = 0;
-    while (i < n) {
-        x->at[from + i] = x->at[from + i] * by->at[i];
-        i = i + 1;
-    }
-}
-
-// Sixteen lines, or as many as are left of n.
-static void train_lines_some_lines(slice_u8 src, uint64_t at, uint64_t many, gate_limits_Surface surface,
-        surface_lines_Sides sides, bool steady, const f64_x16 *eta_s, const f64_x16 *eta_p,
-        const f64_x16 *thickness_nm, uint64_t from, uint64_t n, const f64_x64 *nm, f64_x64 *s, f64_x64 *p) {
-    uint64_t left = n - from;
-    uint64_t few;
-    if (left < 16) {
-        few = left;
-    } else {
-        few = 16;
-    }
-    f64_x16 some;
-    for (size_t each = 0; each < 16; each++) {
-        some.at[each] = 1.0;
-    }
-    f64_x16 by_s;
-    for (size_t each = 0; each < 16; each++) {
-        by_s.at[each] = 1.0;
-    }
-    f64_x16 by_p;
-    for (size_t each = 0; each < 16; each++) {
-        by_p.at[each] = 1.0;
-    }
-    train_lines_sixteen(nm, from, &some);
-    train_lines_chosen_lines(src, at, many, surface, sides, steady, eta_s, eta_p, thickness_nm, few, &some, &by_s,
-            &by_p);
-    train_lines_multiply(&by_s, from, few, s);
-    train_lines_multiply(&by_p, from, few, p);
-}
-
-// All of n lines.
-static void train_lines_all_lines(slice_u8 src, uint64_t at, uint64_t many, gate_limits_Surface surface,
-        surface_lines_Sides sides, bool steady, const f64_x16 *eta_s, const f64_x16 *eta_p,
-        const f64_x16 *thickness_nm, uint64_t n, const f64_x64 *nm, f64_x64 *s, f64_x64 *p) {
-    uint64_t from = 0;
-    while (from < n) {
-        train_lines_some_lines(src, at, many, surface, sides, steady, eta_s, eta_p, thickness_nm, from, n, nm, s, p);
-        from = from + 16;
-    }
-}
-
-// Whether the surface at a place has many films whose powers are worked out here, with their media.
-static bool train_lines_steady_at(slice_u8 src, uint64_t at, uint64_t many, gate_limits_Surface surface,
-        thin_film_solver_Incidence light, f64_x16 *eta_s, f64_x16 *eta_p, f64_x16 *thickness_nm) {
-    if (surface.coating == 5) {
-        if (many <= 16) {
-            return train_lines_media_at(src, sheet_next_place(src, at), many, light, eta_s, eta_p, thickness_nm);
-        }
-    }
-    return false;
-}
-
-// After the SURFACE at a place with many layers after it.
-static void train_lines_moved_lines(slice_u8 src, uint64_t at, uint64_t many, uint64_t n, const f64_x64 *nm,
-        f64_x64 *s, f64_x64 *p) {
-    gate_limits_Surface surface = sheet_values_surface_at(src, at);
-    thin_film_solver_Incidence light = thin_film_solver_Incidence_new(surface.n_incident, surface.n_substrate,
-            surface.angle_rad, 500.0);
-    f64_x16 eta_s;
-    for (size_t each = 0; each < 16; each++) {
-        eta_s.at[each] = 1.0;
-    }
-    f64_x16 eta_p;
-    for (size_t each = 0; each < 16; each++) {
-        eta_p.at[each] = 1.0;
-    }
-    f64_x16 thickness_nm;
-    for (size_t each = 0; each < 16; each++) {
-        thickness_nm.at[each] = 1.0;
-    }
-    surface_lines_Sides sides = surface_lines_sides_of(light);
-    bool steady = train_lines_steady_at(src, at, many, surface, light, &eta_s, &eta_p, &thickness_nm);
-    train_lines_all_lines(src, at, many, surface, sides, steady, &eta_s, &eta_p, &thickness_nm, n, nm, s, p);
-}
-
-// s and p at each of n lines after count surfaces from the start, with a line's wavelength in place of the BEAM's; it gates nothing.
-static void train_lines_run_lines(slice_u8 src, uint32_t count, uint64_t n, f64_x64 *nm, f64_x64 *s, f64_x64 *p) {
-    if (64 < n) {
-        return;
-    }
-    sheet_values_Beam beam = sheet_values_beam_of(src);
-    for (size_t each = 0; each < 64; each++) {
-        (*s).at[each] = beam.s;
-    }
-    for (size_t each = 0; each < 64; each++) {
-        (*p).at[each] = beam.p;
-    }
-    uint64_t begin = sheet_begin_of(src, 0);
-    uint32_t i = 0;
-    while (i < count) {
-        uint64_t at = sheet_onto(src, begin);
-        uint64_t many = sheet_layer_run(src, at);
-        train_lines_met_lines(src, begin, n, nm);
-        train_lines_moved_lines(src, at, many, n, nm, s, p);
-        begin = sheet_place_on(src, at, many + 1);
-        i = i + 1;
-    }
+    refusal_Refusal r = value.as.Refused;
+    return sheet_surfaces_refused(r);
 }
 
 // ==== band
@@ -7444,49 +7061,24 @@ static uint64_t band_first_wavelength_outside(slice_u8 src, uint32_t count, slic
     return i;
 }
 
-// The i-th wavelength; 500 nm past the last.
-static double band_nth_nm(slice_f64 wavelengths, uint64_t i) {
-    if (i < wavelengths.count) {
-        return wavelengths.at[i];
-    }
-    return 500.0;
-}
-
-// All wavelengths, in places.
-static void band_all_nm(slice_f64 wavelengths, f64_x64 *nm) {
-    uint64_t i = 0;
-    while (i < 64) {
-        nm->at[i] = band_nth_nm(wavelengths, i);
-        i = i + 1;
-    }
+// The train at a line, from its start to its last surface.
+static train_steps_State band_at_line(slice_u8 src, uint32_t count, double wavelength_nm) {
+    return train_steps_run_at(src, count, wavelength_nm);
 }
 
 // Each weight times each power is added up in the order of the lines, onto +0; the totals are divided by
 // the sum of the weights.
 static band_BandPowers band_weighed(slice_u8 src, uint32_t count, slice_f64 wavelengths, slice_u32 weights) {
     uint64_t n = wavelengths.count;
-    f64_x64 nm;
-    for (size_t each = 0; each < 64; each++) {
-        nm.at[each] = 1.0;
-    }
-    f64_x64 of_s;
-    for (size_t each = 0; each < 64; each++) {
-        of_s.at[each] = 1.0;
-    }
-    f64_x64 of_p;
-    for (size_t each = 0; each < 64; each++) {
-        of_p.at[each] = 1.0;
-    }
-    band_all_nm(wavelengths, &nm);
-    train_lines_run_lines(src, count, n, &nm, &of_s, &of_p);
     double s = 0.0;
     double p = 0.0;
     uint32_t whole = 0;
     uint64_t i = 0;
     while (i < n) {
+        train_steps_State line = band_at_line(src, count, wavelengths.at[i]);
         uint32_t weight = weights.at[i];
-        s = s + (double)weight * of_s.at[i];
-        p = p + (double)weight * of_p.at[i];
+        s = s + (double)weight * line.s;
+        p = p + (double)weight * line.p;
         whole = whole + weight;
         i = i + 1;
     }
@@ -7526,15 +7118,15 @@ static band_BandReply band_band(slice_u8 src, slice_f64 wavelengths, slice_u32 w
 
 // Its version: major times 2^16 plus minor.
 uint32_t dihkelu_version(void) {
-    return 3;
+    return 4;
 }
 
 // SurfaceCoating::evaluate: the coating by its code, its layers as n, k, thickness one after the
 // other. Writes the response to the front of list and returns the count of its numbers; or returns
 // a refusal: 1, then 3, then 8 for a list that is too short.
-uint64_t dihkelu_evaluate(uint32_t code, double design_wavelength_nm, double n_incident, double n_substrate,
-        double angle_incident_rad, double wavelength_nm, const double *layers_at, size_t layers_count,
-        double *list_at, size_t list_count) {
+static uint64_t dihkelu_evaluate_body(uint32_t code, double design_wavelength_nm, double n_incident,
+        double n_substrate, double angle_incident_rad, double wavelength_nm, const double *layers_at,
+        size_t layers_count, double *list_at, size_t list_count) {
     slice_f64 layers = {layers_at, layers_count};
     slice_mut_f64 list = {list_at, list_count};
     thin_film_layers_Evaluation evaluation = c_layers_evaluate(code, design_wavelength_nm, n_incident, n_substrate,
@@ -7547,11 +7139,23 @@ uint64_t dihkelu_evaluate(uint32_t code, double design_wavelength_nm, double n_i
     return c_call_packed(r_2);
 }
 
+uint64_t dihkelu_evaluate(uint32_t code, double design_wavelength_nm, double n_incident, double n_substrate,
+        double angle_incident_rad, double wavelength_nm, const double *layers_at, size_t layers_count,
+        double *list_at, size_t list_count) {
+    uint64_t (*LOOKED_UP body)(uint32_t, double, double, double, double, double, const double *, size_t, double *,
+            size_t) = dihkelu_evaluate_body;
+    environment caller = environment_enter();
+    uint64_t returned = body(code, design_wavelength_nm, n_incident, n_substrate, angle_incident_rad, wavelength_nm,
+            layers_at, layers_count, list_at, list_count);
+    environment_leave(caller);
+    return returned;
+}
+
 // The same at many angles and wavelengths, angles_rad[i] and wavelengths_nm[i] being case i: writes the responses one
 // after the other and returns the count of their numbers; or a refusal: 1 for lists of unequal length, that of the first
 // case that is refused, 1 or 3, with its index as the place, then 8.
-uint64_t dihkelu_evaluate_list(uint32_t code, double design_wavelength_nm, double n_incident, double n_substrate,
-        const double *angles_rad_at, size_t angles_rad_count, const double *wavelengths_nm_at,
+static uint64_t dihkelu_evaluate_list_body(uint32_t code, double design_wavelength_nm, double n_incident,
+        double n_substrate, const double *angles_rad_at, size_t angles_rad_count, const double *wavelengths_nm_at,
         size_t wavelengths_nm_count, const double *layers_at, size_t layers_count, double *list_at,
         size_t list_count) {
     slice_f64 angles_rad = {angles_rad_at, angles_rad_count};
@@ -7562,90 +7166,212 @@ uint64_t dihkelu_evaluate_list(uint32_t code, double design_wavelength_nm, doubl
             layers, list);
 }
 
+uint64_t dihkelu_evaluate_list(uint32_t code, double design_wavelength_nm, double n_incident, double n_substrate,
+        const double *angles_rad_at, size_t angles_rad_count, const double *wavelengths_nm_at,
+        size_t wavelengths_nm_count, const double *layers_at, size_t layers_count, double *list_at,
+        size_t list_count) {
+    uint64_t (*LOOKED_UP body)(uint32_t, double, double, double, const double *, size_t, const double *, size_t,
+            const double *, size_t, double *, size_t) = dihkelu_evaluate_list_body;
+    environment caller = environment_enter();
+    uint64_t returned = body(code, design_wavelength_nm, n_incident, n_substrate, angles_rad_at, angles_rad_count,
+            wavelengths_nm_at, wavelengths_nm_count, layers_at, layers_count, list_at, list_count);
+    environment_leave(caller);
+    return returned;
+}
+
 // Which argument earned evaluate's refusal 1: 1 n_incident, 2 n_substrate, 3 the angle, 4 the wavelength, the first
 // of them that fails; 0 where none does.
-uint64_t dihkelu_invalid_argument(double n_incident, double n_substrate, double angle_incident_rad,
+static uint64_t dihkelu_invalid_argument_body(double n_incident, double n_substrate, double angle_incident_rad,
         double wavelength_nm) {
     return c_scan_invalid_argument(n_incident, n_substrate, angle_incident_rad, wavelength_nm);
+}
+
+uint64_t dihkelu_invalid_argument(double n_incident, double n_substrate, double angle_incident_rad,
+        double wavelength_nm) {
+    uint64_t (*LOOKED_UP body)(double, double, double, double) = dihkelu_invalid_argument_body;
+    environment caller = environment_enter();
+    uint64_t returned = body(n_incident, n_substrate, angle_incident_rad, wavelength_nm);
+    environment_leave(caller);
+    return returned;
 }
 
 // The layers that a text of the stack shorthand stands for, H, L and M being quarter waves of three
 // indices at the design wavelength: writes n, k, thickness of one after the other, as dihkelu_evaluate
 // takes them, and returns the count of these numbers; or a refusal: 1, 9, 10, then 8.
-uint64_t dihkelu_stack(const uint8_t *text_at, size_t text_count, double n_h, double n_l, double n_m,
+static uint64_t dihkelu_stack_body(const uint8_t *text_at, size_t text_count, double n_h, double n_l, double n_m,
         double design_wavelength_nm, double *list_at, size_t list_count) {
     slice_u8 text = {text_at, text_count};
     slice_mut_f64 list = {list_at, list_count};
     return c_stack_stack(text, n_h, n_l, n_m, design_wavelength_nm, list);
 }
 
+uint64_t dihkelu_stack(const uint8_t *text_at, size_t text_count, double n_h, double n_l, double n_m,
+        double design_wavelength_nm, double *list_at, size_t list_count) {
+    uint64_t (*LOOKED_UP body)(const uint8_t *, size_t, double, double, double, double, double *,
+            size_t) = dihkelu_stack_body;
+    environment caller = environment_enter();
+    uint64_t returned = body(text_at, text_count, n_h, n_l, n_m, design_wavelength_nm, list_at, list_count);
+    environment_leave(caller);
+    return returned;
+}
+
 // JonesMatrix::to_mueller of a Jones matrix by its 8 numbers, m00, m01, m10, m11, each as re, im: writes
 // the matrix row after row and returns 16; or a refusal: 1 where there are not 8 numbers, then 8.
-uint64_t dihkelu_to_mueller(const double *jones_at, size_t jones_count, double *list_at, size_t list_count) {
+static uint64_t dihkelu_to_mueller_body(const double *jones_at, size_t jones_count, double *list_at,
+        size_t list_count) {
     slice_f64 jones = {jones_at, jones_count};
     slice_mut_f64 list = {list_at, list_count};
     return c_mueller_to_mueller(jones, list);
 }
 
+uint64_t dihkelu_to_mueller(const double *jones_at, size_t jones_count, double *list_at, size_t list_count) {
+    uint64_t (*LOOKED_UP body)(const double *, size_t, double *, size_t) = dihkelu_to_mueller_body;
+    environment caller = environment_enter();
+    uint64_t returned = body(jones_at, jones_count, list_at, list_count);
+    environment_leave(caller);
+    return returned;
+}
+
 // The same over Stokes vectors with S3 = 2 Im(Ex* Ey), after Born and Wolf: to_mueller_born_wolf.
-uint64_t dihkelu_mueller_born_wolf(const double *jones_at, size_t jones_count, double *list_at, size_t list_count) {
+static uint64_t dihkelu_mueller_born_wolf_body(const double *jones_at, size_t jones_count, double *list_at,
+        size_t list_count) {
     slice_f64 jones = {jones_at, jones_count};
     slice_mut_f64 list = {list_at, list_count};
     return c_mueller_mueller_born_wolf(jones, list);
 }
 
+uint64_t dihkelu_mueller_born_wolf(const double *jones_at, size_t jones_count, double *list_at, size_t list_count) {
+    uint64_t (*LOOKED_UP body)(const double *, size_t, double *, size_t) = dihkelu_mueller_born_wolf_body;
+    environment caller = environment_enter();
+    uint64_t returned = body(jones_at, jones_count, list_at, list_count);
+    environment_leave(caller);
+    return returned;
+}
+
 // Met head-on, both indices known as ranges within 1 to 4: writes a low and a high reflectance, between
 // which every pair of indices within the ranges reflects, and returns 2; or a refusal: 13, then 8.
-uint64_t dihkelu_reflectance_range(double n1_low, double n1_high, double n2_low, double n2_high, double *list_at,
-        size_t list_count) {
+static uint64_t dihkelu_reflectance_range_body(double n1_low, double n1_high, double n2_low, double n2_high,
+        double *list_at, size_t list_count) {
     slice_mut_f64 list = {list_at, list_count};
     return c_range_reflectance_range(n1_low, n1_high, n2_low, n2_high, list);
 }
 
+uint64_t dihkelu_reflectance_range(double n1_low, double n1_high, double n2_low, double n2_high, double *list_at,
+        size_t list_count) {
+    uint64_t (*LOOKED_UP body)(double, double, double, double, double *, size_t) = dihkelu_reflectance_range_body;
+    environment caller = environment_enter();
+    uint64_t returned = body(n1_low, n1_high, n2_low, n2_high, list_at, list_count);
+    environment_leave(caller);
+    return returned;
+}
+
 // n * thickness in whole quarters of the wavelength: writes the length that is over and returns the
 // count; or a refusal: 14.
-uint64_t dihkelu_quarter_waves(double n, double thickness_nm, double wavelength_nm, double *remainder_nm) {
+static uint64_t dihkelu_quarter_waves_body(double n, double thickness_nm, double wavelength_nm,
+        double *remainder_nm) {
     return c_quarter_waves_quarter_waves(n, thickness_nm, wavelength_nm, remainder_nm);
 }
 
+uint64_t dihkelu_quarter_waves(double n, double thickness_nm, double wavelength_nm, double *remainder_nm) {
+    uint64_t (*LOOKED_UP body)(double, double, double, double *) = dihkelu_quarter_waves_body;
+    environment caller = environment_enter();
+    uint64_t returned = body(n, thickness_nm, wavelength_nm, remainder_nm);
+    environment_leave(caller);
+    return returned;
+}
+
 // Rs and Rp of a dielectric interface: writes both and returns 2; or 8.
-uint64_t dihkelu_fresnel_dielectric(double cos_theta_i, double n1, double n2, double *list_at, size_t list_count) {
+static uint64_t dihkelu_fresnel_dielectric_body(double cos_theta_i, double n1, double n2, double *list_at,
+        size_t list_count) {
     slice_mut_f64 list = {list_at, list_count};
     return c_fresnel_fresnel_dielectric(cos_theta_i, n1, n2, list);
 }
 
+uint64_t dihkelu_fresnel_dielectric(double cos_theta_i, double n1, double n2, double *list_at, size_t list_count) {
+    uint64_t (*LOOKED_UP body)(double, double, double, double *, size_t) = dihkelu_fresnel_dielectric_body;
+    environment caller = environment_enter();
+    uint64_t returned = body(cos_theta_i, n1, n2, list_at, list_count);
+    environment_leave(caller);
+    return returned;
+}
+
 // R and T of unpolarized light: writes both and returns 2; or 8.
-uint64_t dihkelu_fresnel_unpolarized(double cos_theta_i, double n1, double n2, double *list_at, size_t list_count) {
+static uint64_t dihkelu_fresnel_unpolarized_body(double cos_theta_i, double n1, double n2, double *list_at,
+        size_t list_count) {
     slice_mut_f64 list = {list_at, list_count};
     return c_fresnel_fresnel_unpolarized(cos_theta_i, n1, n2, list);
 }
 
+uint64_t dihkelu_fresnel_unpolarized(double cos_theta_i, double n1, double n2, double *list_at, size_t list_count) {
+    uint64_t (*LOOKED_UP body)(double, double, double, double *, size_t) = dihkelu_fresnel_unpolarized_body;
+    environment caller = environment_enter();
+    uint64_t returned = body(cos_theta_i, n1, n2, list_at, list_count);
+    environment_leave(caller);
+    return returned;
+}
+
 // Schlick's approximation: writes it and returns 1; or 8.
-uint64_t dihkelu_schlick_approx(double cos_theta_i, double n1, double n2, double *list_at, size_t list_count) {
+static uint64_t dihkelu_schlick_approx_body(double cos_theta_i, double n1, double n2, double *list_at,
+        size_t list_count) {
     slice_mut_f64 list = {list_at, list_count};
     return c_fresnel_schlick_approx(cos_theta_i, n1, n2, list);
 }
 
+uint64_t dihkelu_schlick_approx(double cos_theta_i, double n1, double n2, double *list_at, size_t list_count) {
+    uint64_t (*LOOKED_UP body)(double, double, double, double *, size_t) = dihkelu_schlick_approx_body;
+    environment caller = environment_enter();
+    uint64_t returned = body(cos_theta_i, n1, n2, list_at, list_count);
+    environment_leave(caller);
+    return returned;
+}
+
 // The Jones matrices of a bare surface, of the reflected light and of the transmitted: writes them and returns 16; or
 // a refusal: 1, then 8.
-uint64_t dihkelu_surface_fresnel_jones(double n1, double n2, double angle_i_rad, double *list_at, size_t list_count) {
+static uint64_t dihkelu_surface_fresnel_jones_body(double n1, double n2, double angle_i_rad, double *list_at,
+        size_t list_count) {
     slice_mut_f64 list = {list_at, list_count};
     return c_fresnel_surface_fresnel_jones(n1, n2, angle_i_rad, list);
 }
 
+uint64_t dihkelu_surface_fresnel_jones(double n1, double n2, double angle_i_rad, double *list_at, size_t list_count) {
+    uint64_t (*LOOKED_UP body)(double, double, double, double *, size_t) = dihkelu_surface_fresnel_jones_body;
+    environment caller = environment_enter();
+    uint64_t returned = body(n1, n2, angle_i_rad, list_at, list_count);
+    environment_leave(caller);
+    return returned;
+}
+
 // Coating::quarter_wave_ar: writes n, k, thickness of its layer and returns 3; or 8.
-uint64_t dihkelu_quarter_wave_ar(double n_ambient, double n_substrate, double design_wavelength_nm, double *list_at,
-        size_t list_count) {
+static uint64_t dihkelu_quarter_wave_ar_body(double n_ambient, double n_substrate, double design_wavelength_nm,
+        double *list_at, size_t list_count) {
     slice_mut_f64 list = {list_at, list_count};
     return c_presets_quarter_wave_ar(n_ambient, n_substrate, design_wavelength_nm, list);
 }
 
+uint64_t dihkelu_quarter_wave_ar(double n_ambient, double n_substrate, double design_wavelength_nm, double *list_at,
+        size_t list_count) {
+    uint64_t (*LOOKED_UP body)(double, double, double, double *, size_t) = dihkelu_quarter_wave_ar_body;
+    environment caller = environment_enter();
+    uint64_t returned = body(n_ambient, n_substrate, design_wavelength_nm, list_at, list_count);
+    environment_leave(caller);
+    return returned;
+}
+
 // Coating::bragg_mirror: writes n, k, thickness of one layer after the other and returns the count of these numbers; or
 // a refusal: 3 for more than 31 pairs, then 8.
-uint64_t dihkelu_bragg_mirror(double n_high, double n_low, uint32_t pairs, double design_wavelength_nm,
+static uint64_t dihkelu_bragg_mirror_body(double n_high, double n_low, uint32_t pairs, double design_wavelength_nm,
         double *list_at, size_t list_count) {
     slice_mut_f64 list = {list_at, list_count};
     return c_presets_bragg_mirror(n_high, n_low, pairs, design_wavelength_nm, list);
+}
+
+uint64_t dihkelu_bragg_mirror(double n_high, double n_low, uint32_t pairs, double design_wavelength_nm,
+        double *list_at, size_t list_count) {
+    uint64_t (*LOOKED_UP body)(double, double, uint32_t, double, double *, size_t) = dihkelu_bragg_mirror_body;
+    environment caller = environment_enter();
+    uint64_t returned = body(n_high, n_low, pairs, design_wavelength_nm, list_at, list_count);
+    environment_leave(caller);
+    return returned;
 }
 
 // SurfaceCoating::from_format_name: returns the code that dihkelu_evaluate has the coating by, 0 for none; or a
@@ -7663,60 +7389,134 @@ uint64_t dihkelu_coating_name(uint32_t code, uint8_t *output_at, size_t output_c
     return c_names_coating_name(code, output);
 }
 
+// The trimmed part of a name: bytes 0x09 to 0x0D and 0x20 go from both ends. Writes its place in the name and its length
+// in bytes, and returns 0; a name without any other byte has a part of length 0 at place 0. It takes all bytes and
+// refuses none.
+uint64_t dihkelu_trim(const uint8_t *name_at, size_t name_count, uint64_t *place, uint64_t *length) {
+    slice_u8 name = {name_at, name_count};
+    return c_names_trim(name, place, length);
+}
+
 // JonesVector::to_stokes: writes S0 to S3 and returns 4.
-uint64_t dihkelu_to_stokes(const double *field_at, size_t field_count, double *list_at, size_t list_count) {
+static uint64_t dihkelu_to_stokes_body(const double *field_at, size_t field_count, double *list_at,
+        size_t list_count) {
     slice_f64 field = {field_at, field_count};
     slice_mut_f64 list = {list_at, list_count};
     return c_polarization_to_stokes(field, list);
 }
 
+uint64_t dihkelu_to_stokes(const double *field_at, size_t field_count, double *list_at, size_t list_count) {
+    uint64_t (*LOOKED_UP body)(const double *, size_t, double *, size_t) = dihkelu_to_stokes_body;
+    environment caller = environment_enter();
+    uint64_t returned = body(field_at, field_count, list_at, list_count);
+    environment_leave(caller);
+    return returned;
+}
+
 // JonesVector::normalize: writes the vector and returns 4.
-uint64_t dihkelu_jones_normalize(const double *field_at, size_t field_count, double *list_at, size_t list_count) {
+static uint64_t dihkelu_jones_normalize_body(const double *field_at, size_t field_count, double *list_at,
+        size_t list_count) {
     slice_f64 field = {field_at, field_count};
     slice_mut_f64 list = {list_at, list_count};
     return c_polarization_jones_normalize(field, list);
 }
 
+uint64_t dihkelu_jones_normalize(const double *field_at, size_t field_count, double *list_at, size_t list_count) {
+    uint64_t (*LOOKED_UP body)(const double *, size_t, double *, size_t) = dihkelu_jones_normalize_body;
+    environment caller = environment_enter();
+    uint64_t returned = body(field_at, field_count, list_at, list_count);
+    environment_leave(caller);
+    return returned;
+}
+
 // JonesVector::intensity: writes it and returns 1.
-uint64_t dihkelu_jones_intensity(const double *field_at, size_t field_count, double *list_at, size_t list_count) {
+static uint64_t dihkelu_jones_intensity_body(const double *field_at, size_t field_count, double *list_at,
+        size_t list_count) {
     slice_f64 field = {field_at, field_count};
     slice_mut_f64 list = {list_at, list_count};
     return c_polarization_jones_intensity(field, list);
 }
 
+uint64_t dihkelu_jones_intensity(const double *field_at, size_t field_count, double *list_at, size_t list_count) {
+    uint64_t (*LOOKED_UP body)(const double *, size_t, double *, size_t) = dihkelu_jones_intensity_body;
+    environment caller = environment_enter();
+    uint64_t returned = body(field_at, field_count, list_at, list_count);
+    environment_leave(caller);
+    return returned;
+}
+
 // The degrees of polarization, of linear and of circular polarization, the orientation and the ellipticity: writes
 // them and returns 5.
-uint64_t dihkelu_stokes_figures(const double *beam_at, size_t beam_count, double *list_at, size_t list_count) {
+static uint64_t dihkelu_stokes_figures_body(const double *beam_at, size_t beam_count, double *list_at,
+        size_t list_count) {
     slice_f64 beam = {beam_at, beam_count};
     slice_mut_f64 list = {list_at, list_count};
     return c_polarization_stokes_figures(beam, list);
 }
 
+uint64_t dihkelu_stokes_figures(const double *beam_at, size_t beam_count, double *list_at, size_t list_count) {
+    uint64_t (*LOOKED_UP body)(const double *, size_t, double *, size_t) = dihkelu_stokes_figures_body;
+    environment caller = environment_enter();
+    uint64_t returned = body(beam_at, beam_count, list_at, list_count);
+    environment_leave(caller);
+    return returned;
+}
+
 // JonesMatrix::apply: writes the vector and returns 4.
-uint64_t dihkelu_jones_apply(const double *matrix_at, size_t matrix_count, const double *field_at, size_t field_count,
-        double *list_at, size_t list_count) {
+static uint64_t dihkelu_jones_apply_body(const double *matrix_at, size_t matrix_count, const double *field_at,
+        size_t field_count, double *list_at, size_t list_count) {
     slice_f64 matrix = {matrix_at, matrix_count};
     slice_f64 field = {field_at, field_count};
     slice_mut_f64 list = {list_at, list_count};
     return c_polarization_jones_apply(matrix, field, list);
 }
 
-// JonesMatrix::mul: writes the product and returns 8.
-uint64_t dihkelu_jones_mul(const double *left_at, size_t left_count, const double *right_at, size_t right_count,
+uint64_t dihkelu_jones_apply(const double *matrix_at, size_t matrix_count, const double *field_at, size_t field_count,
         double *list_at, size_t list_count) {
+    uint64_t (*LOOKED_UP body)(const double *, size_t, const double *, size_t, double *,
+            size_t) = dihkelu_jones_apply_body;
+    environment caller = environment_enter();
+    uint64_t returned = body(matrix_at, matrix_count, field_at, field_count, list_at, list_count);
+    environment_leave(caller);
+    return returned;
+}
+
+// JonesMatrix::mul: writes the product and returns 8.
+static uint64_t dihkelu_jones_mul_body(const double *left_at, size_t left_count, const double *right_at,
+        size_t right_count, double *list_at, size_t list_count) {
     slice_f64 left = {left_at, left_count};
     slice_f64 right = {right_at, right_count};
     slice_mut_f64 list = {list_at, list_count};
     return c_polarization_jones_mul(left, right, list);
 }
 
-// MuellerMatrix::apply: writes the Stokes vector and returns 4.
-uint64_t dihkelu_mueller_apply(const double *matrix_at, size_t matrix_count, const double *beam_at, size_t beam_count,
+uint64_t dihkelu_jones_mul(const double *left_at, size_t left_count, const double *right_at, size_t right_count,
         double *list_at, size_t list_count) {
+    uint64_t (*LOOKED_UP body)(const double *, size_t, const double *, size_t, double *,
+            size_t) = dihkelu_jones_mul_body;
+    environment caller = environment_enter();
+    uint64_t returned = body(left_at, left_count, right_at, right_count, list_at, list_count);
+    environment_leave(caller);
+    return returned;
+}
+
+// MuellerMatrix::apply: writes the Stokes vector and returns 4.
+static uint64_t dihkelu_mueller_apply_body(const double *matrix_at, size_t matrix_count, const double *beam_at,
+        size_t beam_count, double *list_at, size_t list_count) {
     slice_f64 matrix = {matrix_at, matrix_count};
     slice_f64 beam = {beam_at, beam_count};
     slice_mut_f64 list = {list_at, list_count};
     return c_polarization_mueller_apply(matrix, beam, list);
+}
+
+uint64_t dihkelu_mueller_apply(const double *matrix_at, size_t matrix_count, const double *beam_at, size_t beam_count,
+        double *list_at, size_t list_count) {
+    uint64_t (*LOOKED_UP body)(const double *, size_t, const double *, size_t, double *,
+            size_t) = dihkelu_mueller_apply_body;
+    environment caller = environment_enter();
+    uint64_t returned = body(matrix_at, matrix_count, beam_at, beam_count, list_at, list_count);
+    environment_leave(caller);
+    return returned;
 }
 
 // JonesMatrix::diattenuator of two amplitudes, each re, im: writes the matrix and returns 8.
@@ -7728,27 +7528,60 @@ uint64_t dihkelu_diattenuator(const double *amplitudes_at, size_t amplitudes_cou
 }
 
 // JonesMatrix::linear_polarizer: writes the matrix and returns 8; or 8.
-uint64_t dihkelu_linear_polarizer(double angle_rad, double *list_at, size_t list_count) {
+static uint64_t dihkelu_linear_polarizer_body(double angle_rad, double *list_at, size_t list_count) {
     slice_mut_f64 list = {list_at, list_count};
     return c_polarization_linear_polarizer(angle_rad, list);
 }
 
+uint64_t dihkelu_linear_polarizer(double angle_rad, double *list_at, size_t list_count) {
+    uint64_t (*LOOKED_UP body)(double, double *, size_t) = dihkelu_linear_polarizer_body;
+    environment caller = environment_enter();
+    uint64_t returned = body(angle_rad, list_at, list_count);
+    environment_leave(caller);
+    return returned;
+}
+
 // JonesMatrix::retarder.
-uint64_t dihkelu_retarder(double retardance_rad, double fast_axis_rad, double *list_at, size_t list_count) {
+static uint64_t dihkelu_retarder_body(double retardance_rad, double fast_axis_rad, double *list_at,
+        size_t list_count) {
     slice_mut_f64 list = {list_at, list_count};
     return c_polarization_retarder(retardance_rad, fast_axis_rad, list);
 }
 
+uint64_t dihkelu_retarder(double retardance_rad, double fast_axis_rad, double *list_at, size_t list_count) {
+    uint64_t (*LOOKED_UP body)(double, double, double *, size_t) = dihkelu_retarder_body;
+    environment caller = environment_enter();
+    uint64_t returned = body(retardance_rad, fast_axis_rad, list_at, list_count);
+    environment_leave(caller);
+    return returned;
+}
+
 // JonesMatrix::quarter_wave_plate.
-uint64_t dihkelu_quarter_wave_plate(double fast_axis_rad, double *list_at, size_t list_count) {
+static uint64_t dihkelu_quarter_wave_plate_body(double fast_axis_rad, double *list_at, size_t list_count) {
     slice_mut_f64 list = {list_at, list_count};
     return c_polarization_quarter_wave_plate(fast_axis_rad, list);
 }
 
+uint64_t dihkelu_quarter_wave_plate(double fast_axis_rad, double *list_at, size_t list_count) {
+    uint64_t (*LOOKED_UP body)(double, double *, size_t) = dihkelu_quarter_wave_plate_body;
+    environment caller = environment_enter();
+    uint64_t returned = body(fast_axis_rad, list_at, list_count);
+    environment_leave(caller);
+    return returned;
+}
+
 // JonesMatrix::half_wave_plate.
-uint64_t dihkelu_half_wave_plate(double fast_axis_rad, double *list_at, size_t list_count) {
+static uint64_t dihkelu_half_wave_plate_body(double fast_axis_rad, double *list_at, size_t list_count) {
     slice_mut_f64 list = {list_at, list_count};
     return c_polarization_half_wave_plate(fast_axis_rad, list);
+}
+
+uint64_t dihkelu_half_wave_plate(double fast_axis_rad, double *list_at, size_t list_count) {
+    uint64_t (*LOOKED_UP body)(double, double *, size_t) = dihkelu_half_wave_plate_body;
+    environment caller = environment_enter();
+    uint64_t returned = body(fast_axis_rad, list_at, list_count);
+    environment_leave(caller);
+    return returned;
 }
 
 // An answer of the gate as one number.
@@ -7762,15 +7595,23 @@ static uint64_t dihkelu_number_of(gate_Gated g) {
 }
 
 // The gate: the count of surfaces, or a refusal: 4, 5 or 6.
-uint64_t dihkelu_gate(const uint8_t *sheet_at, size_t sheet_count) {
+static uint64_t dihkelu_gate_body(const uint8_t *sheet_at, size_t sheet_count) {
     slice_u8 sheet = {sheet_at, sheet_count};
     return dihkelu_number_of(gate_gate(sheet));
 }
 
+uint64_t dihkelu_gate(const uint8_t *sheet_at, size_t sheet_count) {
+    uint64_t (*LOOKED_UP body)(const uint8_t *, size_t) = dihkelu_gate_body;
+    environment caller = environment_enter();
+    uint64_t returned = body(sheet_at, sheet_count);
+    environment_leave(caller);
+    return returned;
+}
+
 // A fresh train: writes 0 surfaces done and the BEAM's s, p and wavelength, and returns the count of
 // surfaces; or a refusal: 4, 5 or 6.
-uint64_t dihkelu_start(const uint8_t *sheet_at, size_t sheet_count, uint32_t *surfaces_done, double *s, double *p,
-        double *wavelength_nm) {
+static uint64_t dihkelu_start_body(const uint8_t *sheet_at, size_t sheet_count, uint32_t *surfaces_done, double *s,
+        double *p, double *wavelength_nm) {
     slice_u8 sheet = {sheet_at, sheet_count};
     gate_Gated value = gate_gate(sheet);
     if (value.tag == gate_Gated_Admitted) {
@@ -7786,10 +7627,20 @@ uint64_t dihkelu_start(const uint8_t *sheet_at, size_t sheet_count, uint32_t *su
     return c_call_packed(r);
 }
 
+uint64_t dihkelu_start(const uint8_t *sheet_at, size_t sheet_count, uint32_t *surfaces_done, double *s, double *p,
+        double *wavelength_nm) {
+    uint64_t (*LOOKED_UP body)(const uint8_t *, size_t, uint32_t *, double *, double *,
+            double *) = dihkelu_start_body;
+    environment caller = environment_enter();
+    uint64_t returned = body(sheet_at, sheet_count, surfaces_done, s, p, wavelength_nm);
+    environment_leave(caller);
+    return returned;
+}
+
 // One surface on from any state: writes the next one and returns its surfaces done; or a refusal: 4, 5,
 // 6, 7 or 11.
-uint64_t dihkelu_step(const uint8_t *sheet_at, size_t sheet_count, uint32_t *surfaces_done, double *s, double *p,
-        double *wavelength_nm) {
+static uint64_t dihkelu_step_body(const uint8_t *sheet_at, size_t sheet_count, uint32_t *surfaces_done, double *s,
+        double *p, double *wavelength_nm) {
     slice_u8 sheet = {sheet_at, sheet_count};
     train_steps_State state = {.done = *surfaces_done, .s = *s, .p = *p, .wavelength_nm = *wavelength_nm};
     train_steps_TrainReply value = train_steps_step(sheet, state);
@@ -7805,10 +7656,19 @@ uint64_t dihkelu_step(const uint8_t *sheet_at, size_t sheet_count, uint32_t *sur
     return c_call_packed(r);
 }
 
+uint64_t dihkelu_step(const uint8_t *sheet_at, size_t sheet_count, uint32_t *surfaces_done, double *s, double *p,
+        double *wavelength_nm) {
+    uint64_t (*LOOKED_UP body)(const uint8_t *, size_t, uint32_t *, double *, double *, double *) = dihkelu_step_body;
+    environment caller = environment_enter();
+    uint64_t returned = body(sheet_at, sheet_count, surfaces_done, s, p, wavelength_nm);
+    environment_leave(caller);
+    return returned;
+}
+
 // A new wavelength for the surfaces not yet done, from any state: writes it and returns the surfaces
 // done; or a refusal: 4, 5, 6 or 11. A state's s and p do not count.
-uint64_t dihkelu_retune(const uint8_t *sheet_at, size_t sheet_count, uint32_t surfaces_done, double *wavelength_nm,
-        double new_wavelength_nm) {
+static uint64_t dihkelu_retune_body(const uint8_t *sheet_at, size_t sheet_count, uint32_t surfaces_done,
+        double *wavelength_nm, double new_wavelength_nm) {
     slice_u8 sheet = {sheet_at, sheet_count};
     train_steps_State state = {.done = surfaces_done, .s = 0.0, .p = 0.0, .wavelength_nm = *wavelength_nm};
     train_steps_TrainReply value = train_steps_retune(sheet, state, new_wavelength_nm);
@@ -7821,19 +7681,37 @@ uint64_t dihkelu_retune(const uint8_t *sheet_at, size_t sheet_count, uint32_t su
     return c_call_packed(r);
 }
 
+uint64_t dihkelu_retune(const uint8_t *sheet_at, size_t sheet_count, uint32_t surfaces_done, double *wavelength_nm,
+        double new_wavelength_nm) {
+    uint64_t (*LOOKED_UP body)(const uint8_t *, size_t, uint32_t, double *, double) = dihkelu_retune_body;
+    environment caller = environment_enter();
+    uint64_t returned = body(sheet_at, sheet_count, surfaces_done, wavelength_nm, new_wavelength_nm);
+    environment_leave(caller);
+    return returned;
+}
+
 // A whole run: writes s, p after each surface and returns the count of surfaces; or a refusal: 4, 5,
 // 6, then 8 for a list shorter than 2 numbers for each surface.
-uint64_t dihkelu_run(const uint8_t *sheet_at, size_t sheet_count, double *list_at, size_t list_count) {
+static uint64_t dihkelu_run_body(const uint8_t *sheet_at, size_t sheet_count, double *list_at, size_t list_count) {
     slice_u8 sheet = {sheet_at, sheet_count};
     slice_mut_f64 list = {list_at, list_count};
     gate_Gated value = train_steps_run(sheet, list);
     return dihkelu_number_of(value);
 }
 
+uint64_t dihkelu_run(const uint8_t *sheet_at, size_t sheet_count, double *list_at, size_t list_count) {
+    uint64_t (*LOOKED_UP body)(const uint8_t *, size_t, double *, size_t) = dihkelu_run_body;
+    environment caller = environment_enter();
+    uint64_t returned = body(sheet_at, sheet_count, list_at, list_count);
+    environment_leave(caller);
+    return returned;
+}
+
 // An edition 1 sheet for a sheet of either edition, which runs alike: writes it to the front of the output
 // and returns its length in bytes; or a refusal: 4, 5, 6, 12 at the first kind 7, then 8 for an output that
 // is too short.
-uint64_t dihkelu_edition_1(const uint8_t *sheet_at, size_t sheet_count, uint8_t *output_at, size_t output_count) {
+static uint64_t dihkelu_edition_1_body(const uint8_t *sheet_at, size_t sheet_count, uint8_t *output_at,
+        size_t output_count) {
     slice_u8 sheet = {sheet_at, sheet_count};
     slice_mut_u8 output = {output_at, output_count};
     sheet_edition_1_Rewritten value = sheet_edition_1_to_edition_1(sheet, output);
@@ -7845,9 +7723,17 @@ uint64_t dihkelu_edition_1(const uint8_t *sheet_at, size_t sheet_count, uint8_t 
     return c_call_packed(r);
 }
 
+uint64_t dihkelu_edition_1(const uint8_t *sheet_at, size_t sheet_count, uint8_t *output_at, size_t output_count) {
+    uint64_t (*LOOKED_UP body)(const uint8_t *, size_t, uint8_t *, size_t) = dihkelu_edition_1_body;
+    environment caller = environment_enter();
+    uint64_t returned = body(sheet_at, sheet_count, output_at, output_count);
+    environment_leave(caller);
+    return returned;
+}
+
 // The means of s and of p over the lines of a band, each a wavelength and a weight: writes s, p and returns
 // the count of lines; or a refusal: 4, 5, 6, 12, 15, 16, then 8.
-uint64_t dihkelu_band(const uint8_t *sheet_at, size_t sheet_count, const double *wavelengths_nm_at,
+static uint64_t dihkelu_band_body(const uint8_t *sheet_at, size_t sheet_count, const double *wavelengths_nm_at,
         size_t wavelengths_nm_count, const uint32_t *weights_at, size_t weights_count, double *list_at,
         size_t list_count) {
     slice_u8 sheet = {sheet_at, sheet_count};
@@ -7863,17 +7749,60 @@ uint64_t dihkelu_band(const uint8_t *sheet_at, size_t sheet_count, const double 
     return c_call_packed(r);
 }
 
-// Of a sheet's surface, counted from 0: writes its answers and returns the count of their numbers; or
-// a refusal: 4, 5, 6, 7 where there is no such surface, then 8.
-uint64_t dihkelu_answers(const uint8_t *sheet_at, size_t sheet_count, uint32_t surface, double *list_at,
+uint64_t dihkelu_band(const uint8_t *sheet_at, size_t sheet_count, const double *wavelengths_nm_at,
+        size_t wavelengths_nm_count, const uint32_t *weights_at, size_t weights_count, double *list_at,
         size_t list_count) {
-    slice_u8 sheet = {sheet_at, sheet_count};
-    slice_mut_f64 list = {list_at, list_count};
-    sheet_surfaces_SurfaceReply reply = sheet_surfaces_surface_answers(sheet, surface);
+    uint64_t (*LOOKED_UP body)(const uint8_t *, size_t, const double *, size_t, const uint32_t *, size_t, double *,
+            size_t) = dihkelu_band_body;
+    environment caller = environment_enter();
+    uint64_t returned = body(sheet_at, sheet_count, wavelengths_nm_at, wavelengths_nm_count, weights_at,
+            weights_count, list_at, list_count);
+    environment_leave(caller);
+    return returned;
+}
+
+// Answers, or the refusal that stands beside them.
+static uint64_t dihkelu_put_surface(sheet_surfaces_SurfaceReply reply, slice_mut_f64 list) {
     refusal_Refusal refusal = reply.refusal;
     if (refusal.number != 0) {
         return c_call_packed(refusal);
     }
     surface_Answers answers = reply.answers;
     return c_call_put_answers(answers, list);
+}
+
+// Of a sheet's surface, counted from 0: writes its answers and returns the count of their numbers; or
+// a refusal: 4, 5, 6, 7 where there is no such surface, then 8.
+static uint64_t dihkelu_answers_body(const uint8_t *sheet_at, size_t sheet_count, uint32_t surface, double *list_at,
+        size_t list_count) {
+    slice_u8 sheet = {sheet_at, sheet_count};
+    slice_mut_f64 list = {list_at, list_count};
+    return dihkelu_put_surface(sheet_surfaces_surface_answers(sheet, surface), list);
+}
+
+uint64_t dihkelu_answers(const uint8_t *sheet_at, size_t sheet_count, uint32_t surface, double *list_at,
+        size_t list_count) {
+    uint64_t (*LOOKED_UP body)(const uint8_t *, size_t, uint32_t, double *, size_t) = dihkelu_answers_body;
+    environment caller = environment_enter();
+    uint64_t returned = body(sheet_at, sheet_count, surface, list_at, list_count);
+    environment_leave(caller);
+    return returned;
+}
+
+// The same where the train is retuned to a wavelength right before that surface is stepped; a kind 7 before the surface
+// acts over it. Refuses with 4, 5, 6, 7, then 11 where that retune is refused, then 8.
+static uint64_t dihkelu_answers_at_body(const uint8_t *sheet_at, size_t sheet_count, uint32_t surface,
+        double wavelength_nm, double *list_at, size_t list_count) {
+    slice_u8 sheet = {sheet_at, sheet_count};
+    slice_mut_f64 list = {list_at, list_count};
+    return dihkelu_put_surface(sheet_retuned_answers_at(sheet, surface, wavelength_nm), list);
+}
+
+uint64_t dihkelu_answers_at(const uint8_t *sheet_at, size_t sheet_count, uint32_t surface, double wavelength_nm,
+        double *list_at, size_t list_count) {
+    uint64_t (*LOOKED_UP body)(const uint8_t *, size_t, uint32_t, double, double *, size_t) = dihkelu_answers_at_body;
+    environment caller = environment_enter();
+    uint64_t returned = body(sheet_at, sheet_count, surface, wavelength_nm, list_at, list_count);
+    environment_leave(caller);
+    return returned;
 }

@@ -8,7 +8,7 @@ module dihkelu
     implicit none
     private
 
-    integer(c_int32_t), parameter, public :: dihkelu_header_version = 3
+    integer(c_int32_t), parameter, public :: dihkelu_header_version = 4
     integer(c_int32_t), parameter, public :: dihkelu_response_count = 16
     integer(c_int32_t), parameter, public :: dihkelu_bare_count = 53
     integer(c_int32_t), parameter, public :: dihkelu_coated_count = 69
@@ -21,13 +21,14 @@ module dihkelu
     integer(c_int32_t), parameter, public :: dihkelu_name_count = 6
 
     public :: dihkelu_version, dihkelu_gate, dihkelu_start, dihkelu_step, dihkelu_retune, dihkelu_run, dihkelu_edition_1, &
-        dihkelu_band, dihkelu_answers, dihkelu_evaluate, dihkelu_evaluate_list, dihkelu_invalid_argument, dihkelu_stack, &
-        dihkelu_to_mueller, dihkelu_mueller_born_wolf, dihkelu_reflectance_range, dihkelu_quarter_waves, &
-        dihkelu_fresnel_dielectric, dihkelu_fresnel_unpolarized, dihkelu_schlick_approx, dihkelu_surface_fresnel_jones, &
-        dihkelu_quarter_wave_ar, dihkelu_bragg_mirror, dihkelu_coating_from_name, dihkelu_coating_name, &
-        dihkelu_to_stokes, dihkelu_jones_normalize, dihkelu_jones_intensity, dihkelu_stokes_figures, dihkelu_jones_apply, &
-        dihkelu_jones_mul, dihkelu_mueller_apply, dihkelu_diattenuator, dihkelu_linear_polarizer, dihkelu_retarder, &
-        dihkelu_quarter_wave_plate, dihkelu_half_wave_plate, dihkelu_refusal, dihkelu_place, dihkelu_value
+        dihkelu_band, dihkelu_answers, dihkelu_answers_at, dihkelu_evaluate, dihkelu_evaluate_list, &
+        dihkelu_invalid_argument, dihkelu_stack, dihkelu_to_mueller, dihkelu_mueller_born_wolf, &
+        dihkelu_reflectance_range, dihkelu_quarter_waves, dihkelu_fresnel_dielectric, dihkelu_fresnel_unpolarized, &
+        dihkelu_schlick_approx, dihkelu_surface_fresnel_jones, dihkelu_quarter_wave_ar, dihkelu_bragg_mirror, &
+        dihkelu_coating_from_name, dihkelu_coating_name, dihkelu_trim, dihkelu_to_stokes, dihkelu_jones_normalize, &
+        dihkelu_jones_intensity, dihkelu_stokes_figures, dihkelu_jones_apply, dihkelu_jones_mul, dihkelu_mueller_apply, &
+        dihkelu_diattenuator, dihkelu_linear_polarizer, dihkelu_retarder, dihkelu_quarter_wave_plate, &
+        dihkelu_half_wave_plate, dihkelu_refusal, dihkelu_place, dihkelu_value
 
     interface
         function dihkelu_version() bind(c, name='dihkelu_version') result(returned)
@@ -35,9 +36,10 @@ module dihkelu
             integer(c_int32_t) :: returned
         end function dihkelu_version
 
-        ! The gate. A sheet is of edition 1, or of edition 2, in which a layer may be of kind 6, a glass whose index changes with
-        ! colour, and a kind 7 may stand before a surface: the wavelength from there on. In either edition the 1 to 4 layers of a
-        ! custom surface at angle zero may be metal films. Returns the count of surfaces; refuses with 4, 5, 6.
+        ! The gate. The words of a sheet stand in dihkelu-sheet(5); dihkelu_sheet.h writes one from numbers. It is of edition
+        ! 1, or of edition 2, in which a layer may be of kind 6, a glass whose index changes with colour, and a kind 7 may
+        ! stand before a surface: the wavelength from there on. In either edition the 1 to 4 layers of a custom surface at
+        ! angle zero may be metal films. Returns the count of surfaces; refuses with 4, 5, 6.
         function dihkelu_gate(sheet, sheet_count) bind(c, name='dihkelu_gate') result(returned)
             import :: c_int64_t, c_int8_t, c_size_t
             integer(c_int8_t), intent(in) :: sheet(*)
@@ -151,6 +153,21 @@ module dihkelu
             integer(c_size_t), value :: list_count
             integer(c_int64_t) :: returned
         end function dihkelu_answers
+
+        ! The same where the train is retuned to wavelength_nm right before that surface is stepped: at this wavelength, or
+        ! at that of a kind 7 before the surface, which acts over the retune. Refuses with 4, 5, 6, 7, then 11 as
+        ! dihkelu_retune does with so many surfaces done, then 8.
+        function dihkelu_answers_at(sheet, sheet_count, surface, wavelength_nm, list, list_count) &
+            bind(c, name='dihkelu_answers_at') result(returned)
+            import :: c_double, c_int32_t, c_int64_t, c_int8_t, c_size_t
+            integer(c_int8_t), intent(in) :: sheet(*)
+            integer(c_size_t), value :: sheet_count
+            integer(c_int32_t), value :: surface
+            real(c_double), value :: wavelength_nm
+            real(c_double), intent(inout) :: list(*)
+            integer(c_size_t), value :: list_count
+            integer(c_int64_t) :: returned
+        end function dihkelu_answers_at
 
         ! SurfaceCoating::evaluate. Codes: 1 IdealAr, 2 MgF2 (at the design wavelength), 3 BroadbandAr,
         ! 4 HighReflectanceMirror, 5 Custom layers, 6 Custom beamsplitter, 7 Custom mirror, 8 Custom IdealAr. The layers are
@@ -385,6 +402,18 @@ module dihkelu
             integer(c_size_t), value :: output_count
             integer(c_int64_t) :: returned
         end function dihkelu_coating_name
+
+        ! The trimmed part of a name, as dihkelu_coating_from_name reads it: bytes 0x09 to 0x0D and 0x20 go from both ends. Writes
+        ! its place in the name and its length in bytes, and returns 0. A name without any other byte has a part of length 0 at
+        ! place 0. Takes all bytes and refuses none.
+        function dihkelu_trim(name, name_count, place, length) bind(c, name='dihkelu_trim') result(returned)
+            import :: c_int64_t, c_int8_t, c_size_t
+            integer(c_int8_t), intent(in) :: name(*)
+            integer(c_size_t), value :: name_count
+            integer(c_int64_t), intent(inout) :: place
+            integer(c_int64_t), intent(inout) :: length
+            integer(c_int64_t) :: returned
+        end function dihkelu_trim
 
         ! JonesVector::to_stokes. Writes S0 to S3 and returns 4; refuses with 1, 8.
         function dihkelu_to_stokes(field, field_count, list, list_count) bind(c, name='dihkelu_to_stokes') &

@@ -1,26 +1,22 @@
-! Document 01's sheet from Fortran: gate, start, a retune, steps, a whole run; a coated surface; a stack in shorthand.
+! Document 01's sheet from Fortran: written, gate, start, a retune, steps, a whole run; a coated surface; a stack in shorthand.
 ! SPDX-License-Identifier: MIT OR Apache-2.0
 program example
     use, intrinsic :: iso_c_binding, only: c_double, c_int8_t, c_int32_t, c_int64_t, c_size_t
     use dihkelu
+    use dihkelu_sheets
     implicit none
 
-    integer(c_int64_t), parameter :: words(16) = [int(z'10000001', c_int64_t), int(z'20000000', c_int64_t), &
-        int(z'407F4000', c_int64_t), 0_c_int64_t, int(z'3FE00000', c_int64_t), 0_c_int64_t, int(z'3FE00000', c_int64_t), &
-        0_c_int64_t, int(z'30000000', c_int64_t), int(z'3FF00000', c_int64_t), 0_c_int64_t, int(z'40080000', c_int64_t), &
-        0_c_int64_t, 0_c_int64_t, 0_c_int64_t, int(z'50000001', c_int64_t)]
-    integer(c_int8_t) :: sheet(64)
+    integer(c_int8_t), target :: sheet(64)
+    type(dihkelu_sheet) :: writer
+    integer(c_int64_t) :: returned
     integer(c_int32_t) :: surfaces, done, numbers
     real(c_double) :: s, p, wavelength, run(128), response(dihkelu_response_count), layers(dihkelu_stack_count)
-    integer :: i, j, byte
 
     if (dihkelu_version() /= dihkelu_header_version) error stop 'the library is of another version than this module'
-    do i = 1, 16
-        do j = 1, 4
-            byte = int(ibits(words(i), 32 - 8 * j, 8))
-            sheet(4 * i - 4 + j) = int(merge(byte - 256, byte, byte > 127), c_int8_t)
-        end do
-    end do
+    returned = dihkelu_sheet_begin(writer, sheet, size(sheet, kind=c_size_t))
+    returned = dihkelu_sheet_beam(writer, 500.0_c_double, 0.5_c_double, 0.5_c_double)
+    returned = dihkelu_sheet_surface(writer, dihkelu_coating_bare, 0, 1.0_c_double, 3.0_c_double, 0.0_c_double)
+    if (answered('end', dihkelu_sheet_end(writer)) /= size(sheet)) error stop 'the sheet has another length'
 
     surfaces = answered('gate', dihkelu_gate(sheet, size(sheet, kind=c_size_t)))
     print '(a, 1x, i0)', 'surfaces', surfaces
@@ -74,6 +70,6 @@ contains
     subroutine refused(name, back)
         character(*), intent(in) :: name
         integer(c_int64_t), intent(in) :: back
-        print '(a, 2(1x, i0))', name // ': refused', dihkelu_refusal(back), dihkelu_place(back)
+        print '(a)', name // ': ' // dihkelu_refusal_text(back)
     end subroutine refused
 end program example

@@ -32,8 +32,8 @@
  *   9  stack: no text can have the byte at this place; the place is the count of bytes where the text stops early, and
  *      255 for a text over 255 bytes
  *  10  stack: more than 64 layers
- *  11  step, retune: the wavelength is NaN or outside 100 to 10,000 nm, or a layer still to come fails at it, of those up
- *      to the next kind 7
+ *  11  step, retune, answers_at: the wavelength is NaN or outside 100 to 10,000 nm, or a layer still to come fails at it, of
+ *      those up to the next kind 7
  *  12  edition_1, band: the kind 7 at this place, the first of the sheet
  *  13  reflectance_range: a low end is above its high end, or an end is NaN or outside 1 to 4
  *  14  quarter_waves: n is outside 1 to 4, the thickness outside 0 to 100,000 or the wavelength outside 100 to 10,000, or
@@ -48,7 +48,8 @@
  * and any number of threads may call at once. Where an answer is not a number its bits may be those of any NaN.
  *
  * Link with libdihkelu.a and nothing else: the proved library calls no function of the C library. It is
- * for x86-64; the one that is built from C (c/) is for machines of 64 bits, and may call memcpy.
+ * for x86-64; the one that is built from C (c/) is for machines of 32 or 64 bits, and may call memcpy and, where the machine
+ * is neither x86 nor aarch64, fegetenv and fesetenv (-lm).
  *
  * WHAT THE CALLER OWES, since no callee can check it:
  *   - A sheet, a text, a list of layers, a Jones matrix, angles, wavelengths, a band's weights and a list or an output that is
@@ -61,12 +62,16 @@
  *   - The list or the output overlaps neither the sheet nor the text nor the layers nor the Jones matrix nor the band nor the angles, and
  *     no other thread writes
  *     any of them meanwhile.
- *   - One double that is written, remainder_nm, is a pointer that is not null, to a double that is there, aligned and writable.
- *   - The floating-point environment is the one that a C program starts with: rounding to nearest, subnormal numbers
- *     kept, no exception trapped. A program LINKED WITH -ffast-math or -Ofast starts with subnormals flushed to zero, and
- *     the gate then admits k = 2^-1074 at any angle and a power of -2^-1074; another rounding mode changes the last bits
- *     of every answer. dihkelu_environment_ok() says whether subnormals and rounding are as they should be: call it once in
- *     each thread that calls the library.
+ *   - One number that is written, remainder_nm, or place and length, is a pointer that is not null, to a number that is there,
+ *     aligned and writable; place and length are apart from each other and from the name.
+ *
+ * THE FLOATING-POINT ENVIRONMENT. The library that is built from C (c/) works in any: a call sets what its answers are
+ * proved for, rounding to nearest, subnormal numbers kept, no exception trapped, and gives the caller's environment back
+ * with the caller's flags. Compiled with -DDIHKELU_TRUST_ENVIRONMENT it does not, and THE PROVED STATIC LIBRARY DOES NOT:
+ * there the caller owes the environment that a C program starts with. A program LINKED WITH -ffast-math or -Ofast starts
+ * with subnormals flushed to zero, and the gate then admits k = 2^-1074 at any angle and a power of -2^-1074; another
+ * rounding mode changes the last bits of every answer. dihkelu_environment_ok() says whether subnormals and rounding are
+ * as they should be: with those two libraries call it once in each thread.
  *
  * s AND p: row and column 0 of a Jones matrix are s, row and column 1 are p. A surface's Jones matrices are zero off the
  * diagonal.
@@ -105,7 +110,8 @@ extern "C" {
 
 /* ---- the version: major × 2^16 + minor. A program can hold the header it was compiled with against the library */
 
-#define DIHKELU_VERSION 0x00000003u
+#define DIHKELU_VERSION 0x00000004u
+#define DIHKELU_VERSION_TEXT "0.4.0"
 DIHKELU_MUST_USE uint32_t dihkelu_version(void);
 
 /* ---- what a call returned, taken apart */
@@ -125,8 +131,8 @@ DIHKELU_MUST_USE static inline uint32_t dihkelu_value(uint64_t returned) {
 
 /* ---- the floating-point environment */
 
-/* 1 where subnormals are kept and rounding is to nearest, ties to even; else 0. The numbers are volatile, so that they
- * are worked out when the program runs. */
+/* 1 where subnormals are kept and rounding is to nearest, ties to even; else 0. Not needed over the library that is built
+ * from C, which works in any environment. The numbers are volatile, so that they are worked out when the program runs. */
 DIHKELU_MUST_USE static inline int dihkelu_environment_ok(void) {
     volatile double normal = 2.2250738585072014e-308, half = 0.5, one = 1.0, minus = -1.0, tie = 1.1102230246251565e-16;
     volatile double subnormal = normal * half;       /* 2^-1023; 0 where results are flushed */
@@ -154,9 +160,10 @@ DIHKELU_MUST_USE static inline int dihkelu_environment_ok(void) {
 #define DIHKELU_BARE 53
 #define DIHKELU_COATED 69
 
-/* The gate. A sheet is of edition 1, or of edition 2, in which a layer may be of kind 6, a glass whose index changes with
- * colour, and a kind 7 may stand before a surface: the wavelength from there on. In either edition the 1 to 4 layers of a
- * custom surface at angle zero may be metal films. Returns the count of surfaces; refuses with 4, 5, 6. */
+/* The gate. The words of a sheet stand in dihkelu-sheet(5); dihkelu_sheet.h writes one from numbers. It is of edition
+ * 1, or of edition 2, in which a layer may be of kind 6, a glass whose index changes with colour, and a kind 7 may
+ * stand before a surface: the wavelength from there on. In either edition the 1 to 4 layers of a custom surface at
+ * angle zero may be metal films. Returns the count of surfaces; refuses with 4, 5, 6. */
 DIHKELU_MUST_USE uint64_t dihkelu_gate(const uint8_t *sheet, size_t sheet_count);
 
 /* A train's state is four numbers: surfaces done, s, p and the wavelength held in nm. The calls take any state, also one
@@ -213,6 +220,12 @@ DIHKELU_MUST_USE uint64_t dihkelu_band(const uint8_t *sheet, size_t sheet_count,
  *   53 to 68  of a coated surface alone: its response, as dihkelu_evaluate writes it */
 DIHKELU_MUST_USE uint64_t dihkelu_answers(const uint8_t *sheet, size_t sheet_count, uint32_t surface, double *list,
                                           size_t list_count);
+
+/* The same where the train is retuned to wavelength_nm right before that surface is stepped: at this wavelength, or
+ * at that of a kind 7 before the surface, which acts over the retune. Refuses with 4, 5, 6, 7, then 11 as
+ * dihkelu_retune does with so many surfaces done, then 8. */
+DIHKELU_MUST_USE uint64_t dihkelu_answers_at(const uint8_t *sheet, size_t sheet_count, uint32_t surface,
+                                             double wavelength_nm, double *list, size_t list_count);
 
 /* SurfaceCoating::evaluate. Codes: 1 IdealAr, 2 MgF2 (at the design wavelength), 3 BroadbandAr,
  * 4 HighReflectanceMirror, 5 Custom layers, 6 Custom beamsplitter, 7 Custom mirror, 8 Custom IdealAr. The layers are
@@ -331,6 +344,11 @@ DIHKELU_MUST_USE uint64_t dihkelu_coating_from_name(const uint8_t *name, size_t 
  * dihkelu_coating_from_name gives the code of the name back, but 1 for CUSTOM. Refuses with 2 for any other code, then
  * with 8. */
 DIHKELU_MUST_USE uint64_t dihkelu_coating_name(uint32_t code, uint8_t *output, size_t output_count);
+
+/* The trimmed part of a name, as dihkelu_coating_from_name reads it: bytes 0x09 to 0x0D and 0x20 go from both ends. Writes
+ * its place in the name and its length in bytes, and returns 0. A name without any other byte has a part of length 0 at
+ * place 0. Takes all bytes and refuses none. */
+DIHKELU_MUST_USE uint64_t dihkelu_trim(const uint8_t *name, size_t name_count, uint64_t *place, uint64_t *length);
 
 /* ---- Jones and Stokes vectors. A Jones vector is 4 doubles, Ex and Ey, each re, im; a Stokes vector is S0 to S3; a Jones
  * matrix is 8 doubles, as dihkelu_to_mueller takes it; a Mueller matrix is 16, row after row. A list of another count is

@@ -53,6 +53,14 @@ extern "C" {
         list: *mut f64,
         list_count: usize,
     ) -> u64;
+    fn dihkelu_answers_at(
+        sheet: *const u8,
+        sheet_count: usize,
+        surface: u32,
+        wavelength_nm: f64,
+        list: *mut f64,
+        list_count: usize,
+    ) -> u64;
     fn dihkelu_evaluate(
         code: u32,
         design_wavelength_nm: f64,
@@ -166,6 +174,7 @@ extern "C" {
     ) -> u64;
     fn dihkelu_coating_from_name(name: *const u8, name_count: usize) -> u64;
     fn dihkelu_coating_name(code: u32, output: *mut u8, output_count: usize) -> u64;
+    fn dihkelu_trim(name: *const u8, name_count: usize, place: *mut u64, length: *mut u64) -> u64;
     fn dihkelu_to_stokes(
         field: *const f64,
         field_count: usize,
@@ -232,7 +241,7 @@ extern "C" {
 }
 
 /// The version that these declarations are of: major × 2^16 + minor.
-pub const VERSION: u32 = 0x0000_0003;
+pub const VERSION: u32 = 0x0000_0004;
 
 /// The library's version.
 pub fn version() -> u32 {
@@ -254,11 +263,52 @@ pub const EDITION_1: usize = 30_500;
 pub const MUELLER: usize = 16;
 
 /// A refusal of the documents.
-#[derive(Clone, Copy, Debug, PartialEq)]
+#[derive(Clone, Copy, Debug, PartialEq, Eq)]
 pub struct Refusal {
     pub number: u32,
     pub place: u32,
 }
+
+impl Refusal {
+    /// What it says, before its place and behind it; a sentence without its place is whole.
+    fn sentence(&self) -> (&'static str, Option<&'static str>) {
+        match (self.number, self.place) {
+            (1, _) => ("an argument is none that the call takes: an index, a wavelength, a code, or a count of numbers", None),
+            (2, 32) => ("the name has more than 32 bytes", None),
+            (2, _) => ("byte ", Some(" of the name is no ASCII, or there is no coating of this code")),
+            (3, _) => ("there are more than 64 layers, or more than 31 pairs", None),
+            (4, _) => ("the sheet's bytes are no multiple of 4, too few or too many", None),
+            (5, _) => ("word ", Some(" of the sheet is out of grammar")),
+            (6, _) => ("the block at word ", Some(" of the sheet is outside the limits")),
+            (7, _) => ("the sheet has no such surface", None),
+            (8, _) => ("the list is too short", None),
+            (9, _) => ("no stack can have the byte at place ", Some(" of the text")),
+            (10, _) => ("the stack has more than 64 layers", None),
+            (11, _) => ("the wavelength is outside 100 to 10,000 nm, or a layer still to come fails at it", None),
+            (12, _) => ("a kind 7 stands in the sheet, the first at word ", Some("")),
+            (13, _) => ("a low end is above its high end, or an end is no number from 1 to 4", None),
+            (14, _) => ("the index is outside 1 to 4, the thickness outside 0 to 100,000 nm or the wavelength outside 100 to 10,000 nm", None),
+            (15, 64) => ("there are no lines, more than 64, or not as many weights as wavelengths", None),
+            (15, _) => ("the weight of line ", Some(" is no whole number from 1 to 1,000")),
+            (16, _) => ("the wavelength of line ", Some(" is outside 100 to 10,000 nm, or a layer of the sheet fails at it")),
+            _ => ("a number that no call refuses with", None),
+        }
+    }
+}
+
+impl std::fmt::Display for Refusal {
+    fn fmt(&self, f: &mut std::fmt::Formatter<'_>) -> std::fmt::Result {
+        let (number, place) = (self.number, self.place);
+        match self.sentence() {
+            (whole, None) => write!(f, "refused {number} {place}: {whole}"),
+            (before, Some(behind)) => {
+                write!(f, "refused {number} {place}: {before}{place}{behind}")
+            }
+        }
+    }
+}
+
+impl std::error::Error for Refusal {}
 
 /// What a call returned, taken apart: the refusal's number is the high half, so all 64 bits are looked at.
 fn outcome(returned: u64) -> Result<u32, Refusal> {
@@ -370,23 +420,56 @@ pub fn answers(sheet: &[u8], surface: u32, list: &mut [f64]) -> Result<u32, Refu
     outcome(unsafe { dihkelu_answers(sheet.as_ptr(), sheet.len(), surface, at, count) })
 }
 
-/// One coated surface at n_incident, n_substrate, angle and wavelength; the layers are n, k, thickness one after the
-/// other. Gives how many numbers it wrote.
+/// The same where the train is retuned to a wavelength right before that surface is stepped.
+pub fn answers_at(
+    sheet: &[u8],
+    surface: u32,
+    wavelength_nm: f64,
+    list: &mut [f64],
+) -> Result<u32, Refusal> {
+    let (at, count) = (list.as_mut_ptr(), list.len());
+    outcome(unsafe {
+        dihkelu_answers_at(sheet.as_ptr(), sheet.len(), surface, wavelength_nm, at, count)
+    })
+}
+
+/// The light that meets a coated surface, from one index to the other. An array has its numbers in this order.
+#[derive(Clone, Copy, Debug, PartialEq)]
+pub struct Incidence {
+    pub n_incident: f64,
+    pub n_substrate: f64,
+    pub angle_rad: f64,
+    pub wavelength_nm: f64,
+}
+
+impl From<[f64; 4]> for Incidence {
+    fn from([n_incident, n_substrate, angle_rad, wavelength_nm]: [f64; 4]) -> Incidence {
+        Incidence {
+            n_incident,
+            n_substrate,
+            angle_rad,
+            wavelength_nm,
+        }
+    }
+}
+
+/// One coated surface; the layers are n, k, thickness one after the other. Gives how many numbers it wrote.
 pub fn evaluate(
     code: u32,
     design_wavelength_nm: f64,
-    [n_incident, n_substrate, angle, wavelength]: [f64; 4],
+    light: impl Into<Incidence>,
     layers: &[f64],
     list: &mut [f64],
 ) -> Result<u32, Refusal> {
+    let light = light.into();
     outcome(unsafe {
         dihkelu_evaluate(
             code,
             design_wavelength_nm,
-            n_incident,
-            n_substrate,
-            angle,
-            wavelength,
+            light.n_incident,
+            light.n_substrate,
+            light.angle_rad,
+            light.wavelength_nm,
             layers.as_ptr(),
             layers.len(),
             list.as_mut_ptr(),
@@ -398,7 +481,7 @@ pub fn evaluate(
 /// The place of a refusal of `evaluate_list` that is of no case: lists of unequal length, or so many cases.
 pub const CASES: u32 = 0x1000_0000;
 
-/// The same at many angles and wavelengths, case i having angles_rad[i] and wavelengths_nm[i]: writes the responses one
+/// The same at many angles and wavelengths, case i having `angles_rad[i]` and `wavelengths_nm[i]`: writes the responses one
 /// after the other, gives how many numbers these are. A refusal's place is the case.
 pub fn evaluate_list(
     code: u32,
@@ -428,26 +511,49 @@ pub fn evaluate_list(
 }
 
 /// Which of n_incident, n_substrate, angle and wavelength earned a 1 of `evaluate`, counted from 1; 0 where none did.
-pub fn invalid_argument([n_incident, n_substrate, angle, wavelength]: [f64; 4]) -> u32 {
-    unsafe { dihkelu_invalid_argument(n_incident, n_substrate, angle, wavelength) as u32 }
+pub fn invalid_argument(light: impl Into<Incidence>) -> u32 {
+    let light = light.into();
+    unsafe {
+        dihkelu_invalid_argument(
+            light.n_incident,
+            light.n_substrate,
+            light.angle_rad,
+            light.wavelength_nm,
+        ) as u32
+    }
+}
+
+/// The indices of the letters of a stack in shorthand. An array has them in this order.
+#[derive(Clone, Copy, Debug, PartialEq)]
+pub struct Letters {
+    pub h: f64,
+    pub l: f64,
+    pub m: f64,
+}
+
+impl From<[f64; 3]> for Letters {
+    fn from([h, l, m]: [f64; 3]) -> Letters {
+        Letters { h, l, m }
+    }
 }
 
 /// A stack in the coating makers' shorthand, H, L and M being quarter waves of three indices at a design wavelength:
 /// writes n, k, thickness of one layer after the other, gives how many numbers these are.
 pub fn stack(
     text: &[u8],
-    [n_h, n_l, n_m]: [f64; 3],
+    indices: impl Into<Letters>,
     design_wavelength_nm: f64,
     list: &mut [f64],
 ) -> Result<u32, Refusal> {
+    let n = indices.into();
     let (at, count) = (list.as_mut_ptr(), list.len());
     outcome(unsafe {
         dihkelu_stack(
             text.as_ptr(),
             text.len(),
-            n_h,
-            n_l,
-            n_m,
+            n.h,
+            n.l,
+            n.m,
             design_wavelength_nm,
             at,
             count,
@@ -569,6 +675,13 @@ pub const NAME: usize = 6;
 pub fn coating_name(code: u32, output: &mut [u8]) -> Result<u32, Refusal> {
     let (at, count) = (output.as_mut_ptr(), output.len());
     outcome(unsafe { dihkelu_coating_name(code, at, count) })
+}
+
+/// Where the trimmed part of a name lies in it: the call takes all bytes and refuses none.
+pub fn trim(name: &[u8]) -> std::ops::Range<usize> {
+    let (mut place, mut length) = (0, 0);
+    unsafe { dihkelu_trim(name.as_ptr(), name.len(), &mut place, &mut length) };
+    place as usize..(place + length) as usize
 }
 
 /// The Stokes vector of a Jones vector: writes it, gives 4.

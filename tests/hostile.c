@@ -195,6 +195,30 @@ static void sheet_calls(const uint8_t *bytes, size_t size) {
         leave("answers", l, r, may | (refused ? 0 : BIT(7) | BIT(8)), count);
         leave("answers", full, f, may | (refused ? 0 : BIT(7)), count);
     }
+    /* a surface's answers after a retune: refused as the retune is, and else those that a step from there would meet: those
+     * of steps alone where the wavelength is the one that they hold */
+    for (int i = 0; i < 10; i++) {
+        uint32_t surface = below(8) == 0 ? (uint32_t)draw() : (uint32_t)below(surfaces + 1);
+        uint32_t done = 0;
+        double held = 0.0, s = 0.0, p = 0.0, to = 0.0;
+        if (dihkelu_start(sheet, size, &done, &s, &p, &held) != gate) wrong("start", "another number than the gate's", gate);
+        while (surface < surfaces && done < surface)
+            if (dihkelu_refusal(dihkelu_step(sheet, size, &done, &s, &p, &held))) wrong("step", "refused on the way", done);
+        double w = i % 2 ? any() : held;
+        List l = lend(around[i]), full = lend(DIHKELU_COATED), alone = lend(DIHKELU_COATED);
+        uint64_t r = dihkelu_answers_at(sheet, size, surface, w, (double *)l.now, l.count);
+        uint64_t f = dihkelu_answers_at(sheet, size, surface, w, (double *)full.now, full.count);
+        uint64_t a = dihkelu_answers(sheet, size, surface, (double *)alone.now, alone.count);
+        uint64_t t = dihkelu_retune(sheet, size, surface, &to, w);
+        size_t count = dihkelu_value(f);
+        uint64_t no = refused ? gate : surface >= surfaces ? 7ull << 32 : dihkelu_refusal(t) ? t : 0;
+        if (no ? f != no || r != no : dihkelu_refusal(f) != 0 || (l.count < count ? r != 8ull << 32 : r != f)) wrong("answers_at", "another number", f);
+        if (count && l.count >= count && memcmp(l.now, full.now, 8 * count) != 0) wrong("answers_at", "other answers in a longer list", r);
+        if (count && i % 2 == 0 && (a != f || memcmp(alone.now, full.now, 8 * count) != 0)) wrong("answers_at", "other answers than those of steps alone", f);
+        leave("answers_at", l, r, may | (refused ? 0 : BIT(7) | BIT(8) | BIT(11)), count);
+        leave("answers_at", full, f, may | (refused ? 0 : BIT(7) | BIT(11)), count);
+        leave("answers", alone, a, may | (refused ? 0 : BIT(7)), dihkelu_value(a));
+    }
     /* an edition 1 sheet: refused alike whatever the output, 8 exactly where it is too short; it runs as the old one does */
     uint8_t *new = block(size);
     memset(new, 0x5A, size);
@@ -458,6 +482,24 @@ static void single_calls(void) {
     free(before);
 }
 
+/* The trimmed part of any bytes, held to a search from each end. */
+static int is_blank(uint8_t b) { return (b >= 9 && b <= 13) || b == 32; }
+
+static void trim_call(void) {
+    static const uint8_t ends[] = {0x09, 0x0A, 0x0B, 0x0C, 0x0D, 0x20, 0x08, 0x0E, 0x1F, 0x21, 0x00, 0x85, 0xA0};
+    size_t size = below(8) ? below(12) : below(500), first = 0, last = size;
+    uint8_t *name = block(size);
+    for (size_t j = 0; j < size; j++) name[j] = below(2) ? ends[below(below(3) ? 6 : sizeof ends)] : (uint8_t)draw();
+    while (first < size && is_blank(name[first])) first++;
+    while (last > first && is_blank(name[last - 1])) last--;
+    uint64_t place = draw(), length = draw();
+    uint64_t r = dihkelu_trim(name, size, &place, &length);
+    calls++;
+    answers_given++;
+    if (r != 0 || place != (first == size ? 0 : first) || length != last - first) wrong("trim", "another part", r);
+    free(name);
+}
+
 /* An index: an end of what is allowed or a neighbour of it, an index of glass, or any number. */
 static double range_end(void) {
     static const double some[] = {1.0, 4.0, 1.38, 1.5, 1.52, 2.3, 3.0, 0.99999999999999989, 1.0000000000000002, 3.9999999999999996, 4.0000000000000009};
@@ -520,6 +562,7 @@ static void null_calls(void) {
     expect("retune", dihkelu_retune(NULL, 0, 0, &w, 0.0), four);
     expect("run", dihkelu_run(NULL, 0, NULL, 0), four);
     expect("answers", dihkelu_answers(NULL, 0, 0, NULL, 0), four);
+    expect("answers_at", dihkelu_answers_at(NULL, 0, 0, 550.0, NULL, 0), four);
     expect("edition_1", dihkelu_edition_1(NULL, 0, NULL, 0), four);
     size_t size = build(sheet, 0, -1);
     expect("edition_1", dihkelu_edition_1(sheet, size, NULL, 0), eight);
@@ -537,11 +580,14 @@ static void null_calls(void) {
     expect("retune", dihkelu_retune(sheet, size, 4, &w, 99.0), eleven);
     expect("retune", dihkelu_retune(sheet, size, 4, &w, 100.0), 4);
     expect("answers", dihkelu_answers(sheet, size, 0, NULL, 0), seven);
+    expect("answers_at", dihkelu_answers_at(sheet, size, 0, 99.0, NULL, 0), seven);
     size = build(sheet, 1, 0);
     w = 99.0;
     expect("step", dihkelu_step(sheet, size, &done, &s, &p, &w), eleven);
     expect("run", dihkelu_run(sheet, size, NULL, 0), eight);
     expect("answers", dihkelu_answers(sheet, size, 0, NULL, 0), eight);
+    expect("answers_at", dihkelu_answers_at(sheet, size, 0, 99.0, NULL, 0), eleven);
+    expect("answers_at", dihkelu_answers_at(sheet, size, 0, 550.0, NULL, 0), eight);
     expect("stack", dihkelu_stack(NULL, 0, 2.3, 1.46, 1.8, 550.0, NULL, 0), 9ull << 32);
     expect("stack", dihkelu_stack(NULL, 0, 0.0, 1.46, 1.8, 550.0, NULL, 0), 1ull << 32);
     expect("stack", dihkelu_stack((const uint8_t *)"H", 1, 2.3, 1.46, 1.8, 550.0, NULL, 0), eight);
@@ -560,6 +606,9 @@ static void null_calls(void) {
     expect("linear_polarizer", dihkelu_linear_polarizer(0.0, NULL, 0), eight);
     expect("bragg_mirror", dihkelu_bragg_mirror(2.3, 1.46, 7, 550.0, NULL, 0), eight);
     expect("coating_from_name", dihkelu_coating_from_name(NULL, 0), 0);
+    uint64_t place = 7, length = 7;
+    expect("trim", dihkelu_trim(NULL, 0, &place, &length), 0);
+    if (place != 0 || length != 0) wrong("trim", "a part of no bytes", place);
     expect("coating_name", dihkelu_coating_name(0, NULL, 0), 2ull << 32);
     expect("coating_name", dihkelu_coating_name(1, NULL, 0), eight);
     for (uint32_t code = 1; code <= 8; code++) {
@@ -593,14 +642,16 @@ int main(int count, char **words) {
     if (dihkelu_step(much, huge, &done, two, two + 1, &at) != 4ull << 32) wrong("step", "100 MB not refused with 4", 0);
     if (dihkelu_retune(much, huge, done, &at, 550.0) != 4ull << 32) wrong("retune", "100 MB not refused with 4", 0);
     if (dihkelu_answers(much, huge, 0, two, 2) != 4ull << 32) wrong("answers", "100 MB not refused with 4", 0);
+    if (dihkelu_answers_at(much, huge, 0, 550.0, two, 2) != 4ull << 32) wrong("answers_at", "100 MB not refused with 4", 0);
     if (dihkelu_run(bytes, build(bytes, 64, 16), (double *)much, huge / 8) != 64) wrong("run", "a list of 100 MB refused", 0);
     if (dihkelu_run(much, huge, two, 2) != 4ull << 32) wrong("run", "100 MB not refused with 4", 0);
     if (dihkelu_edition_1(much, huge, bytes, sizeof bytes) != 4ull << 32) wrong("edition_1", "100 MB not refused with 4", 0);
     if (dihkelu_edition_1(bytes, build(bytes, 0, -1), much, huge) != 36) wrong("edition_1", "an output of 100 MB refused", 0);
     free(much);
-    calls += 9;
+    calls += 10;
 
     for (uint64_t k = 0; k < times; k++) {
+        if (dihkelu_version() != DIHKELU_VERSION) wrong("version", "another version than the header's", dihkelu_version());
         size_t size = build(bytes, below(4) ? (int)below(4) : (int)below(65), -1);
         sheet_calls(bytes, size);
         sheet_calls(bytes, below(size + 1));
@@ -618,6 +669,7 @@ int main(int count, char **words) {
         for (int i = 0; i < 16; i++) evaluate_calls();
         for (int i = 0; i < 16; i++) list_calls();
         for (int i = 0; i < 16; i++) stack_calls();
+        for (int i = 0; i < 16; i++) trim_call();
         for (int i = 0; i < 16; i++) mueller_calls();
         for (int i = 0; i < 16; i++) single_calls();
         for (int i = 0; i < 16; i++) range_calls();

@@ -11,6 +11,11 @@ die() { # SENTENCE
     exit 1
 }
 
+# What a test does not try for want of a tool.
+left_out() { # SENTENCE
+    echo "-- LEFT OUT: $1"
+}
+
 # Each command must be there; what it is for is said if not.
 need() { # COMMAND..
     local command

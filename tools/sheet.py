@@ -12,7 +12,7 @@ from pathlib import Path
 ROOT = Path(__file__).resolve().parent.parent
 sys.path.insert(0, str(ROOT / "python"))
 try:
-    from dihkelu import explain, files, reports, text
+    from dihkelu import LibraryMissing, explain, files, reports, text
     from dihkelu.refusals import BY_NUMBER, Refused
     from dihkelu.words import Wrong, counted
 except (ImportError, OSError) as error:
@@ -154,12 +154,12 @@ def main(words):
     given = arguments().parse_args(words)
     try:
         printed, made = execute(given)
-        for kind, sentences in [("note", made.notes), ("hint", explain.hints(made))]:
+        for kind, sentences in [("note", made.notes), ("hint", reports.hints(made))]:
             for sentence in sentences:
                 print(f"{given.file}: {kind}: {sentence}", file=sys.stderr)
         files.emit(printed)
         return 0
-    except Wrong as wrong:
+    except (Wrong, LibraryMissing) as wrong:
         print(f"{given.file}: {wrong}", file=sys.stderr)
         return 1
 

@@ -1,6 +1,7 @@
 #!/usr/bin/env python3
 """Tests of tools/c_printer: what it must not move, what it must refuse, and what the files that it makes say."""
 
+import re
 import sys
 import unittest
 from pathlib import Path
@@ -8,7 +9,7 @@ from pathlib import Path
 ROOT = Path(__file__).resolve().parent.parent
 sys.path.insert(0, str(ROOT / "tools"))
 sys.dont_write_bytecode = True
-from c_printer import emit, header, program, source  # noqa: E402
+from c_printer import emit, environment, files, header, program, source  # noqa: E402
 
 HEADER = (ROOT / "include" / "dihkelu.h").read_text()
 U64, F64, LENT = "(tyInt 64)", "(tyFloat 64)", "(tyRef (named 0) mut (tyFloat 64))"
@@ -151,6 +152,75 @@ class Refused(unittest.TestCase):
             header.calls("DIHKELU_MUST_USE uint64_t dihkelu_new(float x);")
 
 
+class Environment(unittest.TestCase):
+    """An exported call that reaches an operation on doubles is a body, and a call around it that sets the environment."""
+
+    def unit(self, operation):
+        slots = listed([f"(local {t} valueLocal)" for t in (F64, F64)])
+        inner = f'(fn-def "std::inner" (fnItem 0 lnil 1 {slots} {seq(assign("0", operation), "return")}))'
+        call = f'(call (direct (fnRef "std::inner")) {listed([copy(1)])} {var(0)})'
+        outer = f'(fn-def "std::outer" (fnItem 0 lnil 1 {slots} {seq(call, "return")}))'
+        text = f'program {listed([inner, outer])} (fnRef "std::outer")'
+        return files.Unit(text, {}, {}, lambda functions: ["std::outer"])
+
+    def test_reached_through_another_function(self):
+        unit = self.unit(op2("floatMul", copy(1), copy(1)))
+        self.assertEqual(environment.working(unit.functions, files.called), {"std::inner", "std::outer"})
+        c = unit.print(emit.Types(unit.named, {}), lambda name: name == "std::outer")
+        self.assertIn("static double std_outer_body(double a) {", c)
+        self.assertIn("\ndouble std_outer(double a) {\n    double (*LOOKED_UP body)(double) = std_outer_body;\n    environment caller = environment_enter();", c)
+        self.assertIn("    double returned = body(a);\n    environment_leave(caller);\n    return returned;\n}", c)
+
+    def test_none_is_reached(self):
+        unit = self.unit(f"(rvOpd {copy(1)})")
+        self.assertEqual(environment.working(unit.functions, files.called), set())
+        self.assertIn("\ndouble std_outer(double a) {\n    return std_inner(a);", unit.print(emit.Types(unit.named, {}), lambda name: name == "std::outer"))
+
+    def test_which_calls_set_none(self):
+        c = (ROOT / "c" / "dihkelu.c").read_text()
+        bare = {call.name for call in header.calls(HEADER) if f"static {call.returns} {call.name}_body(" not in c}
+        self.assertEqual(bare, {"dihkelu_version", "dihkelu_coating_from_name", "dihkelu_coating_name", "dihkelu_diattenuator"})
+
+
+class Release(unittest.TestCase):
+    def test_one_version(self):
+        text = header.version(HEADER)
+        major, minor, _ = map(int, text.split("."))
+
+        def found(path, pattern):
+            return re.search(pattern, (ROOT / path).read_text(), re.M).group(1)
+
+        self.assertEqual(found("CHANGELOG.md", r"^## (\S+) \(\d{4}-\d\d-\d\d\)$"), text)
+        self.assertEqual(found("rust/dihkelu-sys/Cargo.toml", r'^version = "(.*)"$'), text)
+        self.assertEqual(found("python/dihkelu/__init__.py", r'^__version__ = "(.*)"$'), text)
+        self.assertEqual(int(found("include/dihkelu.rs", r"^pub const VERSION: u32 = (\w+);"), 16), (major << 16) + minor)
+        self.assertEqual(int(found("python/dihkelu/library.py", r"^VERSION = (\w+)"), 16), (major << 16) + minor)
+        self.assertEqual(int(found("crates/dihkelu/src/lib.rt", r"dihkelu_version\(\)[^{]*\{[^}]*\}\n\{\n    (\w+)"), 16), (major << 16) + minor)
+        self.assertEqual(found("c/dihkelu.c", r"^uint32_t dihkelu_version\(void\) \{\n    return (\d+);"), str((major << 16) + minor))
+
+    def test_the_name_of_debians_package(self):
+        folder = ROOT / "packaging" / "debian"
+        name = "libdihkelu" + header.version(HEADER).rsplit(".", 1)[0]
+        self.assertEqual(set(re.findall(r"libdihkelu[\d.]+", (folder / "control").read_text())), {name})
+        self.assertEqual([p.stem for p in folder.glob("libdihkelu[0-9]*")], [name])
+
+    def test_two_versions_in_the_header(self):
+        with self.assertRaises(ValueError):
+            header.version(HEADER.replace("DIHKELU_VERSION_TEXT \"0.", "DIHKELU_VERSION_TEXT \"9."))
+
+    def test_dates_and_order_of_the_changelog(self):
+        titles = re.findall(r"^## (.*)$", (ROOT / "CHANGELOG.md").read_text(), re.M)
+        numbers = [tuple(map(int, re.fullmatch(r"(\d+)\.(\d+)\.(\d+) \(\d{4}-\d\d-\d\d\)", t).groups())) for t in titles]
+        self.assertEqual(numbers, sorted(numbers, reverse=True))
+
+    def test_each_package_carries_the_licences(self):
+        for path, text in files.licences(ROOT).items():
+            self.assertEqual((ROOT / path).read_text(), text, path)
+        c = (ROOT / "c" / "dihkelu.c").read_text()
+        for line in ("Copyright (c) 2026 OpticsLab Contributors", "Permission is hereby granted", 'THE SOFTWARE IS PROVIDED "AS IS"'):
+            self.assertIn(line, c)
+
+
 class Made(unittest.TestCase):
     def test_every_call_is_declared_and_defined(self):
         names = [c.name for c in header.calls(HEADER)]
@@ -173,8 +243,6 @@ class Made(unittest.TestCase):
         self.assertIn("    while (1 < step) {\n        step = step / 2;\n        uint64_t t = 2 * q + step;\n", c)
 
     def test_nothing_is_cast_but_whole_numbers(self):
-        import re
-
         c = (ROOT / "c" / "dihkelu.c").read_text() + (ROOT / "c" / "train_text.c").read_text()
         self.assertEqual(set(re.findall(r"\(((?:u?int\d+_t|double|size_t|char|void)(?: \*)?)\)[\w(]", c)) - {"void"}, {"uint8_t", "uint16_t", "uint32_t", "uint64_t", "double"})
 

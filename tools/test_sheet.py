@@ -82,10 +82,10 @@ BAD_TEXTS = [
     (BEAM + "surface bare transmitted from 1 to 2 at 0 rad twice\n", "line 2: 'twice' is more than the line takes: surface COATING transmitted|reflected from INDEX to INDEX at NUMBER deg|rad"),
     (BEAM + LAYER, "line 2: a layer stands only under a surface whose coating is custom"),
     (BEAM + "surface mgf2 transmitted from 1 to 2 at 0 rad\n" + LAYER, "line 3: a layer stands only under a surface whose coating is custom"),
-    (BEAM + CUSTOM + 17 * LAYER, "line 19: a surface has at most 16 layers"),
+    (BEAM + CUSTOM + 17 * LAYER, "line 19: a surface has at most 16 layers; dihkelu evaluate takes 64, of a surface alone"),
     (BEAM + 65 * CUSTOM, "line 66: a sheet has at most 64 surfaces"),
     (BEAM + GLASS, "line 2: a layer stands only under a surface whose coating is custom"),
-    (BEAM + CUSTOM + 8 * (LAYER + GLASS) + GLASS, "line 19: a surface has at most 16 layers"),
+    (BEAM + CUSTOM + 8 * (LAYER + GLASS) + GLASS, "line 19: a surface has at most 16 layers; dihkelu evaluate takes 64, of a surface alone"),
     (BEAM + CUSTOM + "glass a 1.5 b 0 thickness 80 nm\n", "line 3: 'thickness' stands where 'c' should: glass a NUMBER b NUMBER c NUMBER thickness NUMBER nm|um"),
     ("retune to 1064 nm\n", "line 1: a retune before the beam"),
     (BEAM + "retune to 1064\n", "line 2: the line ends where nm|um should stand: retune to NUMBER nm|um"),
@@ -105,16 +105,16 @@ STACK_FORM = "stack TEXT with H INDEX L INDEX [M INDEX] at NUMBER nm|um"
 
 # a stack, and what is said of it
 BAD_STACKS = [
-    ("stack H^32H with H 2.3 L 1.46 at 550 nm", "refused 9 3: 'H^32H' is no stack: '2' cannot stand at its byte 3, counted from 0"),
+    ("stack H^32H with H 2.3 L 1.46 at 550 nm", "refused 9 3: 'H^32H' is no stack: a power is from 1 to 31, and 32 is none, at its byte 3, counted from 0"),
     ("stack (HL with H 2.3 L 1.46 at 550 nm", "refused 9 3: '(HL' stops early"),
     ("stack " + 256 * "H" + " with H 2.3 L 1.46 at 550 nm", "refused 9 255: the stack has 256 bytes; a stack has 255 at most"),
-    ("stack H\u00e9 with H 2.3 L 1.46 at 550 nm", "refused 9 1: 'H\u00e9' is no stack: '\u00e9' cannot stand at its byte 1, counted from 0"),
+    ("stack H\u00e9 with H 2.3 L 1.46 at 550 nm", "refused 9 1: 'H\u00e9' is no stack: '\u00e9' cannot stand at its byte 1, counted from 0; its letters are H, L and M"),
     ("stack (H^31)^3 with H 2.3 L 1.46 at 550 nm", "refused 10 0: '(H^31)^3' has more than 64 layers"),
     ("stack H with H 0 L 1.46 at 550 nm", "refused 1 0: an index or the design wavelength is not positive and finite"),
     ("stack HM with H 2.3 L 1.46 at 550 nm", f"M stands in 'HM' and has no index: {STACK_FORM}"),
     ("stack with H 2.3 L 1.46 at 550 nm", f"a stack has its text, the word with, and what the letters are: {STACK_FORM}"),
     ("stack H with H 2.3 at 550 nm", f"'at' stands where 'l' should: {STACK_FORM}"),
-    ("stack (HL)^8 H with H 2.3 L 1.46 at 550 nm", "a surface has at most 16 layers; with this stack it has 17"),
+    ("stack (HL)^8 H with H 2.3 L 1.46 at 550 nm", "a surface has at most 16 layers; with this stack it has 17; dihkelu evaluate takes 64, of a surface alone"),
 ]
 
 # a text that the gate refuses, and what is said of it
@@ -123,10 +123,10 @@ REFUSED = [
     (BEAM + "surface bare transmitted from 1 to 5 at 0 rad\n", "refused 6 8: surface 1 (line 2) is outside the gate: the second index is 5, not from 1 to 4"),
     (BEAM + "surface bare transmitted from 1 to 2 at 80 deg\n", "refused 6 8: surface 1 (line 2) is outside the gate: the angle's cosine is 0.17364817766693041, less than 0.25"),
     (BEAM + "surface mgf2 transmitted from 2 to 4 at 45 deg\n", "refused 6 8: surface 1 (line 2) is outside the gate: n_incident times sin is 1.414213562373095, more than 0.875 of the coating's index 1.38, 1.2075"),
-    (BEAM + CUSTOM.replace("0 rad", "0.1 rad") + LAYER + "layer 1.38 thickness 99 nm k 0.1\n", "refused 6 22: layer 2 of surface 1 (line 4) is outside the gate: k is 0.1, not zero; of metal films, they are met at angle 0 only"),
-    (BEAM + CUSTOM + 4 * LAYER + "layer 1.38 thickness 99 nm k 0.1\n", "refused 6 43: layer 5 of surface 1 (line 7) is outside the gate: k is 0.1, not zero; of metal films, at most 4 layers are with them, not 5"),
-    (BEAM + CUSTOM + LAYER + "layer 0.05 thickness 99 nm\n", "refused 6 22: layer 2 of surface 1 (line 4) is outside the gate: n is 0.05, not from 1 to 4; of metal films, n of layer 2 is 0.05, not from 0.0625 to 4"),
-    (BEAM + CUSTOM + LAYER + "layer 0.5 thickness 500 nm k 4\n", "refused 6 22: layer 2 of surface 1 (line 4) is outside the gate: n is 0.5, not from 1 to 4; k is 4, not zero; of metal films, 2 pi thickness / wavelength times k adds up to 25.132741228718345, more than 16"),
+    (BEAM + CUSTOM.replace("0 rad", "0.1 rad") + LAYER + "layer 1.38 thickness 99 nm k 0.1\n", "refused 6 22: layer 2 of surface 1 (line 4) is outside the gate: with n 1.38 and k 0.1 it is a metal film, and these are met at angle 0 only, not at 5.72958 deg"),
+    (BEAM + CUSTOM + 4 * LAYER + "layer 1.38 thickness 99 nm k 0.1\n", "refused 6 43: layer 5 of surface 1 (line 7) is outside the gate: with n 1.38 and k 0.1 it is a metal film, and these stand on surfaces of at most 4 layers, not of 5"),
+    (BEAM + CUSTOM + LAYER + "layer 0.05 thickness 99 nm\n", "refused 6 22: layer 2 of surface 1 (line 4) is outside the gate: with n 0.05 and k 0 it is a metal film, and n of layer 2 is 0.05, not from 0.0625 to 4"),
+    (BEAM + CUSTOM + LAYER + "layer 0.5 thickness 500 nm k 4\n", "refused 6 22: layer 2 of surface 1 (line 4) is outside the gate: with n 0.5 and k 4 it is a metal film, and 2 pi thickness / wavelength times k adds up to 25.132741228718345, more than 16"),
     (BEAM + CUSTOM + GLASS + "glass a 1.5 b 1 c 0 thickness 80 nm\n", "refused 6 24: layer 2 of surface 1 (line 4) is outside the gate: its index at 500 nm is 5.5, not from 1 to 4"),
     (BEAM + CUSTOM + GLASS + "glass a 1.5 b 0x7FF0000000000000 c 0 thickness 80 nm\n", "refused 6 24: layer 2 of surface 1 (line 4) is outside the gate: B is not finite; its index at 500 nm is 0x7FF0000000000000, not from 1 to 4"),
 ]
@@ -149,7 +149,7 @@ class Stacks(unittest.TestCase):
 
     def test_beside_layers(self):
         self.assertEqual(tool("write", "-", given=BEAM + CUSTOM + LAYER + STACK)[0], 0)
-        self.assertEqual(tool("write", "-", given=BEAM + CUSTOM + 2 * LAYER + STACK)[2], "-: line 5: a surface has at most 16 layers; with this stack it has 17\n")
+        self.assertEqual(tool("write", "-", given=BEAM + CUSTOM + 2 * LAYER + STACK)[2], "-: line 5: a surface has at most 16 layers; with this stack it has 17; dihkelu evaluate takes 64, of a surface alone\n")
 
     def test_bad_stacks(self):
         for line, said in BAD_STACKS:
@@ -528,7 +528,7 @@ class Texts(unittest.TestCase):
             self.assertEqual(tool("write", "-", given=KNOWN_TEXT.decode() + comment), (0, KNOWN_SHEET, ""))
 
     def test_other_digits(self):
-        for digits in ["\u0665\u0660\u0660", "\uff15\uff10\uff10", "5\u0660\u0660", "1_000", "nan", "inf", "0x1p3", "5,5"]:
+        for digits in ["\u0665\u0660\u0660", "\uff15\uff10\uff10", "5\u0660\u0660", "1_000", "nan", "inf", "0x1p3", "5,5,5", "5,5.5"]:
             self.wrong(f"beam {digits} nm s 0.5 p 0.5\n", f"line 1: '{digits}' is no number")
 
 

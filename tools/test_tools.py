@@ -40,6 +40,42 @@ class Folder(unittest.TestCase):
         return path
 
 
+class WrongPrograms(Folder):
+    """tools/wrong_programs with an rt that prints what it is asked for and which edits it would try."""
+
+    def setUp(self):
+        super().setUp()
+        self.write("bin/rt", "#!/bin/sh\necho rt $*\nls crates/*/must-fail/*.edit\n")
+        self.write("crates.txt", "")
+        for crate in ["gate", "sheet"]:
+            self.write(f"crates/{crate}/must-fail/of_rt_ci.edit", "")
+            for number in range(5):
+                self.write(f"crates/{crate}/must-fail/more/wrong_{number}.edit", "")
+
+    def tried(self, *words):
+        status, out, said = run(self.folder / "tools/wrong_programs", *words, PATH=f"{self.folder}/bin:{os.environ['PATH']}")
+        self.assertEqual((status, said), (0, ""))
+        return [line.replace("/more/", "/") for line in out.splitlines()]
+
+    def test_all(self):
+        asked, *edits = self.tried()
+        self.assertEqual(asked, "rt must-fail gate sheet")
+        self.assertEqual(edits, [f"crates/{crate}/must-fail/wrong_{number}.edit" for crate in ["gate", "sheet"] for number in range(5)])
+
+    def test_a_sample(self):
+        first = self.tried("3", "2026-11-17")
+        self.assertEqual(first[0], "tools/wrong_programs: drawn by the day 2026-11-17:")
+        self.assertEqual(first[1:4], first[5:], "what is printed is what is tried")
+        self.assertEqual(self.tried("3", "2026-11-17"), first)
+        self.assertTrue(any(self.tried("3", f"2026-11-{day}")[1:4] != first[1:4] for day in range(10, 14)))
+
+    def test_a_wrong_word(self):
+        for words in [("six",), ("0",), ("6", "today"), ("6", "2026-11-17", "x")]:
+            status, out, said = run(self.folder / "tools/wrong_programs", *words, PATH=f"{self.folder}/bin:{os.environ['PATH']}")
+            self.assertEqual((status, out), (1, ""))
+            self.assertIn("usage: tools/wrong_programs [COUNT [DAY]]", said)
+
+
 class Run(Folder):
     def test_nothing_built(self):
         self.assertEqual(run(self.folder / "tools/run", "train"), (1, "", "tools/run: train is not built yet; run: rt check train\n"))

@@ -3,13 +3,14 @@ import math
 from pathlib import Path
 
 from dihkelu import text
+from dihkelu.plans import Plan
 from dihkelu.reports import powers
 
 HERE = Path(__file__).resolve().parent
 OUT, BACK = (text.read((HERE / name).read_bytes()) for name in ("out.txt", "back.txt"))
 
 
-def left(plan, window, wavelength, degrees):
+def left(plan: Plan, window: int, wavelength: float, degrees: float) -> float:
     """What is left of the beam's power with the window, counted from 1, at an angle."""
     angles = {face: math.radians(degrees) for face in plan.swept([window])}
     s, p = powers(plan.make(wavelength, angles))[-1]

@@ -67,6 +67,8 @@ pub enum Arg {
     Old,
     /// A surface's number, counted from 0, then a sheet.
     Answers,
+    /// A wavelength for a retune, then the same.
+    AnswersAt,
     /// A count of actions, each of them, then a sheet.
     Actions,
     /// Counts of wavelengths and of weights, each of these, then a sheet.
@@ -225,6 +227,7 @@ impl Arg {
             Arg::Run => train::push_run(rng, words),
             Arg::Old => edition_1::push_old(rng, words),
             Arg::Answers => train::push_answers(rng, words),
+            Arg::AnswersAt => train::push_answers_at(rng, words),
             Arg::Retune => train::push_retune(rng, words),
             Arg::Actions => train::push_actions(rng, words),
             Arg::Band => band::push_band(rng, words),

@@ -10,7 +10,7 @@ use crate::record::{bits, Arguments};
 use crate::values::Rng;
 
 /// The numbers of these calls.
-pub const NUMBERS: std::ops::RangeInclusive<u16> = 206..=227;
+pub const NUMBERS: std::ops::RangeInclusive<u16> = 206..=229;
 
 /// A list as it is lent.
 fn lent(room: u64) -> Vec<f64> {
@@ -50,6 +50,15 @@ fn made(number: u16, words: &[u64]) -> Vec<u64> {
             let mut words = vec![returned(dihkelu::coating_name(code, &mut output))];
             words.extend(output.into_iter().map(u64::from));
             words
+        }
+        228 => {
+            let part = dihkelu::trim(&a.bytes());
+            vec![0, part.start as u64, part.len() as u64]
+        }
+        229 => {
+            let (mut list, wavelength, number) = (lent(a.int()), a.float(), a.int() as u32);
+            let outcome = dihkelu::answers_at(&a.bytes(), number, wavelength, &mut list);
+            left(outcome, &list)
         }
         _ => {
             let mut list = lent(a.int());

@@ -53,6 +53,7 @@ impl Arg {
             Arg::Run => train::run_cases(),
             Arg::Old => edition_1::old_cases(),
             Arg::Answers => train::answers_cases(),
+            Arg::AnswersAt => train::answers_at_cases(),
             Arg::Retune => train::retune_cases(),
             Arg::Actions => train::actions_cases(),
             Arg::Band => band::cases(),

@@ -161,6 +161,21 @@ pub fn retune(bytes: &[u8], state: State, wavelength: f64) -> Result<State, Refu
     })
 }
 
+/// A surface of a sheet and the wavelength that it is met with where the train is retuned right before it is stepped: the
+/// one that the step leaves behind. 4, 5, 6, 7, 11 in that order.
+pub fn met_after(bytes: &[u8], number: u64, wavelength: f64) -> Result<(Surface, f64), Refusal> {
+    let mut sheet = gate(bytes)?;
+    if number >= sheet.surfaces.len() as u64 {
+        return Err(refused(7));
+    }
+    let before = State {
+        done: number,
+        ..start(&sheet)
+    };
+    let after = step(bytes, retune(bytes, before, wavelength)?)?;
+    Ok((sheet.surfaces.swap_remove(number as usize), after.wavelength))
+}
+
 /// A list of actions from Start, by the slip's words and no call: how each is answered (0, 7 or 11) and the state after
 /// it. A step takes the surface of its own number among the steps; an action's wavelength is found by looking back.
 pub fn listed(sheet: &Sheet, actions: &[Action]) -> Vec<(u64, State)> {

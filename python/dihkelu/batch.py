@@ -3,21 +3,24 @@ from __future__ import annotations
 
 import concurrent.futures
 import os
+import struct
 import sys
-from dataclasses import dataclass
+import time
 from pathlib import Path
-from typing import Callable, Iterable, Iterator
+from typing import Callable, Iterable, Iterator, NamedTuple
 
 from . import explain, text
+from .calls import run as run_sheet
 from .files import Failed, load
+from .refusals import Refused
 from .reports import percent_of, powers
 from .words import Wrong
 
-FEW = 200  # so many are done without other processes
+ALONE_S = 0.2  # so many seconds are worked without other processes
+ENDINGS = (".txt", ".text", ".sheet")  # of the files that are taken from a folder, in letters of either size
 
 
-@dataclass(frozen=True)
-class Result:
+class Result(NamedTuple):
     """A file's powers after its last surface, or why it has none. `status` is that of the command for this file alone."""
 
     file: str
@@ -28,31 +31,66 @@ class Result:
     sum: float | None = None
     lost_percent: float | None = None
     refused: str = ""
+    hints: tuple[str, ...] = ()
 
 
 def one(name: str) -> Result:
-    """A file, text or sheet."""
+    """A file, text or sheet. A sheet's bytes go to the library as they are; what is wrong with one that is refused is then looked for."""
     try:
         data = load(name)
-        made = text.read(data).make() if text.is_text(data) else explain.read_sheet(data)
-        after = powers(made)
+        if text.is_text(data):
+            return _of_text(name, data)
+        try:
+            after = run_sheet(data)
+        except Refused:
+            after = powers(explain.read_sheet(data))
+        return _result(name, _BEAM.unpack_from(data, 16), after, explain.sheet_hints(data, after))
     except Wrong as wrong:
         return Result(name, 2 if isinstance(wrong, Failed) else 1, refused=str(wrong))
-    start = made.sheet.s + made.sheet.p
-    s, p = after[-1] if after else (made.sheet.s, made.sheet.p)
-    return Result(name, 0, len(after), s, p, s + p, percent_of(start - (s + p), start))
+
+
+def _of_text(name: str, data: bytes) -> Result:
+    made = text.read(data).make()
+    after = powers(made)
+    return _result(name, (made.sheet.s, made.sheet.p), after, explain.hints(made, after))
+
+
+def _result(name: str, beam: tuple[float, ...], after: list[tuple[float, float]], hints: list[str]) -> Result:
+    start = sum(beam)
+    s, p = after[-1] if after else beam
+    return Result(name, 0, len(after), s, p, s + p, percent_of(start - (s + p), start), hints=tuple(hints))
+
+
+_BEAM = struct.Struct(">2d")
 
 
 def files(names: Iterable[str]) -> list[str]:
-    """The files; of a folder its texts and sheets."""
+    """The files; of a folder and the folders in it the texts and sheets, by their endings."""
     found: list[str] = []
     for name in names:
-        path = Path(name)
         try:
-            found += sorted(str(x) for x in path.iterdir() if x.suffix in (".txt", ".sheet")) if path.is_dir() else [name]
+            found += in_folder(name) if os.path.isdir(name) else [name]
         except OSError as error:
             raise Failed(f"{name} cannot be read: {error.strerror}") from None
     return found
+
+
+def in_folder(name: str) -> list[str]:
+    paths = sorted(path for path in Path(name).rglob("*") if path.is_file())
+    taken = [str(path) for path in paths if path.suffix.lower() in ENDINGS]
+    if not taken:
+        raise Failed(f"{name} has no text and no sheet: no file in it ends with {', '.join(ENDINGS)}; name the files themselves")
+    return taken
+
+
+def left_out(names: Iterable[str]) -> list[str]:
+    """What is said of a folder's other files."""
+    said = []
+    for name in names:
+        others = sorted({path.suffix or path.name for path in Path(name).rglob("*") if path.is_file() and path.suffix.lower() not in ENDINGS}) if os.path.isdir(name) else []
+        if others:
+            said.append(f"{name}: files that end with none of {', '.join(ENDINGS)} are left out: {', '.join(others[:8])}{' ..' if len(others) > 8 else ''}")
+    return said
 
 
 def run(names: list[str], jobs: int | None = None, done: Callable[[int], None] = lambda count: None) -> list[Result]:
@@ -66,11 +104,16 @@ def run(names: list[str], jobs: int | None = None, done: Callable[[int], None] =
 
 
 def _results(names: list[str], jobs: int) -> Iterator[Result]:
-    if jobs == 1 or len(names) <= FEW:
-        yield from map(one, names)
-        return
-    with concurrent.futures.ProcessPoolExecutor(jobs) as pool:
-        yield from pool.map(one, names, chunksize=max(1, len(names) // (8 * jobs)))
+    """In this process for as long as others would take to start; what is left then, in all of them."""
+    ends, count = time.perf_counter() + ALONE_S, 0
+    for count, name in enumerate(names, 1):
+        yield one(name)
+        if jobs > 1 and time.perf_counter() > ends:
+            break
+    rest = names[count:]
+    if rest:
+        with concurrent.futures.ProcessPoolExecutor(jobs) as pool:
+            yield from pool.map(one, rest, chunksize=max(1, min(1000, len(rest) // (4 * jobs))))
 
 
 def bar(total: int) -> Callable[[int], None]:

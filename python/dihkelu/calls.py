@@ -1,42 +1,27 @@
 """The calls, each with Python's own values. What each gives and refuses stands in dihkelu.h."""
 from __future__ import annotations
 
+import array
 import ctypes
+import itertools
+import math
 import operator
-import struct
-import sys
-from dataclasses import dataclass
-from typing import Any, Iterable, Sequence, Union
+from dataclasses import dataclass, fields
+from typing import Any, Iterable, Iterator, Sequence, Union
 
-from .library import load
-from .refusals import answered
+from .library import Library
+from .refusals import BY_NUMBER, InvalidParameter, Refused, answered
 from .sheet import Coating, Layer, Sheet
 
-_library = load()
+_library = Library()
 
 Matrix = tuple[tuple[complex, complex], tuple[complex, complex]]
 Mueller = tuple[tuple[float, ...], ...]
 SheetLike = Union[Sheet, bytes, bytearray, memoryview]
+Buffer = Any  # doubles of ctypes
 
 IDEAL_AR, MGF2, BROADBAND_AR, MIRROR, LAYERS, IDEAL_BEAMSPLITTER, IDEAL_MIRROR, CUSTOM_IDEAL_AR = range(1, 9)
 """The codes that `evaluate` takes; those up to 7 are also Coating's."""
-
-
-class WrongEnvironment(RuntimeError):
-    """Subnormal numbers are flushed to zero, or rounding is not to nearest: no answer would be right."""
-
-
-def environment_ok() -> bool:
-    """Whether this thread's floating-point environment is one that the answers are right in, as the header's own test finds out."""
-    least, tie = sys.float_info.min, sys.float_info.epsilon / 2
-    half = least * 0.5
-    found = [half, half + half, 1.0 + tie, -1.0 - tie, 1.0 + 3.0 * tie]
-    wanted = ["0008000000000000", "0010000000000000", "3ff0000000000000", "bff0000000000000", "3ff0000000000002"]
-    return [struct.pack(">d", x).hex() for x in found] == wanted
-
-
-if not environment_ok():
-    raise WrongEnvironment("subnormal numbers are flushed to zero or rounding is not to nearest: a library that was loaded has changed that")
 
 
 def _bytes(sheet: SheetLike) -> bytes:
@@ -85,13 +70,27 @@ class Train:
         self.surfaces = answered(_library.dihkelu_start(self._sheet, len(self._sheet), *self._state()), "start")
 
     def _state(self) -> list[Any]:
-        return [ctypes.byref(x) for x in (self._done, self._s, self._p, self._nm)]
+        return [ctypes.byref(self._done), ctypes.byref(self._s), ctypes.byref(self._p), ctypes.byref(self._nm)]
 
-    surfaces_done = property(lambda self: self._done.value)
-    s = property(lambda self: self._s.value)
-    p = property(lambda self: self._p.value)
-    wavelength_nm = property(lambda self: self._nm.value)
-    sum = property(lambda self: self._s.value + self._p.value)
+    @property
+    def surfaces_done(self) -> int:
+        return self._done.value
+
+    @property
+    def s(self) -> float:
+        return self._s.value
+
+    @property
+    def p(self) -> float:
+        return self._p.value
+
+    @property
+    def wavelength_nm(self) -> float:
+        return self._nm.value
+
+    @property
+    def sum(self) -> float:
+        return self._s.value + self._p.value
 
     def step(self) -> int:
         """Takes the next surface; the surfaces done then."""
@@ -108,10 +107,33 @@ class Train:
 
 def run(sheet: SheetLike) -> list[tuple[float, float]]:
     """s and p after each surface."""
-    data = _bytes(sheet)
-    out = _numbers(count=128)
-    count = answered(_library.dihkelu_run(data, len(data), out, len(out)), "run")
-    return [(out[2 * i], out[2 * i + 1]) for i in range(count)]
+    return _run(_bytes(sheet), _Powers())
+
+
+def run_each(sheets: Iterable[SheetLike]) -> list[list[tuple[float, float]] | Refused]:
+    """What `run` gives of each sheet; of one that is refused, its refusal."""
+    out, found = _Powers(), list[Union[list[tuple[float, float]], Refused]]()
+    for sheet in sheets:
+        try:
+            found.append(_run(_bytes(sheet), out))
+        except Refused as refused:
+            found.append(refused)
+    return found
+
+
+def last_powers(sheet: SheetLike) -> tuple[float, float]:
+    """s and p after the last surface of a sheet that has one."""
+    data, out = _bytes(sheet), _Powers()
+    count = 2 * answered(_library.dihkelu_run(data, len(data), out, 128), "run")
+    return out[count - 2], out[count - 1]
+
+
+_Powers = ctypes.c_double * 128
+
+
+def _run(data: bytes, out: Buffer) -> list[tuple[float, float]]:
+    count = 2 * answered(_library.dihkelu_run(data, len(data), out, 128), "run")
+    return list(zip(out[0:count:2], out[1:count:2]))
 
 
 def edition_1(sheet: SheetLike) -> bytes:
@@ -126,15 +148,15 @@ def band(sheet: SheetLike, lines: Iterable[tuple[float, int]]) -> tuple[float, f
     """The means of s and of p over lines, each a wavelength in nm and a whole weight from 1 to 1,000."""
     data, lines = _bytes(sheet), list(lines)
     wavelengths = _numbers(w for w, _ in lines)
-    weights = (ctypes.c_uint32 * len(lines))(*(_weight(w) for _, w in lines))
+    weights = (ctypes.c_uint32 * len(lines))(*(_within(w, 0) for _, w in lines))
     out = _numbers(count=2)
     answered(_library.dihkelu_band(data, len(data), wavelengths, len(wavelengths), weights, len(weights), out, len(out)), "band")
     return out[0], out[1]
 
 
-def _weight(x: int) -> int:
-    """A weight as the library has it; 0, which is refused, for what it cannot hold."""
-    return operator.index(x) if 0 <= x < 1 << 32 else 0
+def _within(x: int, refused: int) -> int:
+    """A whole number as the library has it; for one that it cannot hold, another that is refused alike."""
+    return operator.index(x) if 0 <= x < 1 << 32 else refused
 
 
 # ---- a surface
@@ -178,68 +200,186 @@ class Answers:
     response: Response | None
 
 
-def answers(sheet: SheetLike, surface: int) -> Answers:
-    """Of a sheet's surface, counted from 0, at the wavelength that steps alone meet it with."""
+def _answers(call: str, sheet: SheetLike, surface: int, *wavelength_nm: float) -> Answers:
+    """A surface's answers by a call; no sheet has a surface 64."""
     data = _bytes(sheet)
     out = _numbers(count=69)
-    count = answered(_library.dihkelu_answers(data, len(data), surface, out, len(out)), "answers")
+    count = answered(getattr(_library, "dihkelu_" + call)(data, len(data), _within(surface, 0xFFFFFFFF), *wavelength_nm, out, len(out)), call)
     x = out[:count]
     matrices = _matrix(x[5:13]), _matrix(x[13:21]), _mueller(x[21:37]), _mueller(x[37:53])
-    return Answers(x[0] == 1.0, *x[1:5], *matrices, _response(x[53:]) if count > 53 else None)
+    return Answers(x[0] == 1.0, x[1], x[2], x[3], x[4], *matrices, _response(x[53:]) if count > 53 else None)
 
 
-def _flat(layers: Iterable[Any]) -> list[float]:
-    out: list[float] = []
-    for x in layers:
-        out += [x.n, x.k, x.thickness_nm] if isinstance(x, Layer) else [float(v) for v in x]
-    return out
+def answers(sheet: SheetLike, surface: int) -> Answers:
+    """Of a sheet's surface, counted from 0, at the wavelength that steps alone meet it with."""
+    return _answers("answers", sheet, surface)
 
 
-def _listed(x: Any) -> tuple[list[float] | None, bool]:
-    """A list of numbers, or None for one number; and whether it was an array of numpy's."""
-    if hasattr(x, "tolist") and hasattr(x, "shape"):
-        if len(x.shape) > 1:
-            raise ValueError("an array of more than one dimension; take x.ravel()")
-        return (None, False) if x.shape == () else ([float(v) for v in x.tolist()], True)
-    return ([float(v) for v in x], False) if isinstance(x, Iterable) else (None, False)
+def answers_at(sheet: SheetLike, surface: int, wavelength_nm: float) -> Answers:
+    """The same where the train is retuned to a wavelength right before that surface is stepped."""
+    return _answers("answers_at", sheet, surface, float(wavelength_nm))
+
+
+def _layer(place: int, x: Any) -> tuple[float, float, float]:
+    if isinstance(x, Layer):
+        return x.n, x.k, x.thickness_nm
+    try:
+        n, k, thickness_nm = x
+        return float(n), float(k), float(thickness_nm)
+    except (TypeError, ValueError):
+        raise ValueError(f"layers[{place}] is {_shown(x)}: a layer is a Layer, or three numbers: n, k and the thickness in nm") from None
+
+
+def _shown(x: Any) -> str:
+    """A value in a sentence, cut where it is long."""
+    text = repr(x)
+    return text if len(text) <= 60 else text[:57] + "..."
+
+
+def _flat(layers: Any) -> Buffer:
+    """The layers' numbers one after the other; an n × 3 array of doubles as it stands."""
+    if _is_array(layers):
+        if len(layers.shape) != 2 or layers.shape[1] != 3:
+            raise ValueError(f"layers is an array of shape {layers.shape}: give n × 3, a row of n, k and thickness in nm for each layer")
+        return _lent(layers.reshape(-1))
+    return _lent(array.array("d", [x for place, one in enumerate(layers) for x in _layer(place, one)]))
+
+
+def _lent(values: Any) -> Buffer:
+    """Doubles for the library to read: the memory of an array that has them one after the other, else a copy."""
+    try:
+        view = memoryview(values)
+    except TypeError:
+        view = None
+    if view is None or view.ndim != 1 or view.format != "d" or not view.contiguous:
+        view = memoryview(array.array("d", values))
+    elif view.readonly:
+        view = memoryview(array.array("d", view.tobytes()))
+    return (ctypes.c_double * len(view)).from_buffer(view)
+
+
+def _is_array(x: Any) -> bool:
+    """Whether it is an array of numpy's; no other module's is asked for a dtype."""
+    return hasattr(x, "dtype")
+
+
+def _is_many(x: Any) -> bool:
+    """Whether an argument is a list or an array of numbers; an array of no dimensions is one number."""
+    return not isinstance(x, (float, int)) and (x.shape != () if _is_array(x) else isinstance(x, Iterable))
+
+
+def _broadcast(given: dict[str, Any]) -> tuple[dict[str, Any], tuple[int, ...] | None]:
+    """The arguments that are many, all of one length and one dimension; and the shape of numpy's arrays, where there is one."""
+    many = {name: x for name, x in given.items() if _is_many(x)}
+    if any(_is_array(x) for x in many.values()):
+        import numpy
+
+        arrays = numpy.broadcast_arrays(*(numpy.asarray(x, dtype=float) for x in many.values()))
+        return {name: numpy.ascontiguousarray(x).reshape(-1) for name, x in zip(many, arrays)}, arrays[0].shape
+    many = {name: x if hasattr(x, "__len__") else list(x) for name, x in many.items()}
+    if len({len(x) for x in many.values()}) > 1:
+        raise ValueError("lists of unequal length: " + ", ".join(f"{len(x)} of {name}" for name, x in many.items()))
+    return many, None
+
+
+class _Columns(Response):
+    """The responses of many cases, which stand in one buffer of 16 numbers a case. A field is made when it is asked for."""
+
+    def __init__(self, numbers: Any, shape: tuple[int, ...] | None):
+        object.__setattr__(self, "_kept", (numbers, shape))
+
+    def __getattr__(self, name: str) -> Any:
+        if name not in _FIELDS:
+            raise AttributeError(name)
+        (numbers, shape), at = self._kept, _FIELDS.index(name)
+        if shape is not None:
+            column = (numbers[:, at + 4] if at >= 4 else numbers.view(complex)[:, at]).reshape(shape)
+        elif at >= 4:
+            column = numbers[at + 4 :: 16].tolist()
+        else:
+            column = list(map(complex, numbers[2 * at :: 16], numbers[2 * at + 1 :: 16]))
+        object.__setattr__(self, name, column)
+        return column
+
+
+_FIELDS = [field.name for field in fields(Response)]
 
 
 def evaluate(
     code: int,
-    n_incident: float,
-    n_substrate: float,
+    n_incident: Any,
+    n_substrate: Any,
     angle_rad: Any,
     wavelength_nm: Any,
-    layers: Iterable[Any] = (),
+    layers: Any = (),
     design_wavelength_nm: float = 550.0,
 ) -> Response:
-    """One coated surface. The layers are Layer or (n, k, thickness in nm), from the side of the lower index.
+    """One coated surface. The layers are Layer or (n, k, thickness in nm), or an n × 3 array, from the side of the lower index.
 
-    Angle and wavelength are numbers, or lists or arrays of one dimension and one length; each field of the response is then a list,
-    or an array of numpy's where one was given. The library is called once for all of them; a refusal's place is the first case that
-    is refused, counted from 0.
+    Indices, angle and wavelength are numbers, or lists of one length; each field of the response is then a list. Where one is an
+    array of numpy's they are broadcast, and each field is an array of their shape. An array of doubles that stand one after the other
+    is read where it is. A refusal's place is the first case that is refused, counted from 0.
     """
-    flat = _numbers(_flat(layers))
-    (angles, first), (wavelengths, second) = _listed(angle_rad), _listed(wavelength_nm)
-    if angles is None and wavelengths is None:
-        out = _numbers(count=16)
-        at = code, design_wavelength_nm, n_incident, n_substrate, float(angle_rad), float(wavelength_nm)
-        answered(_library.dihkelu_evaluate(*at, flat, len(flat), out, len(out)), "evaluate")
-        return _response(out)
-    if angles is not None and wavelengths is not None and len(angles) != len(wavelengths):
-        raise ValueError(f"{len(angles)} angles and {len(wavelengths)} wavelengths")
-    count = len(wavelengths if angles is None else angles)
-    cases = _numbers([float(angle_rad)] * count if angles is None else angles), _numbers([float(wavelength_nm)] * count if wavelengths is None else wavelengths)
-    out = _numbers(count=16 * count)
-    lists = [x for case in cases for x in (case, count)]
-    answered(_library.dihkelu_evaluate_list(code, design_wavelength_nm, n_incident, n_substrate, *lists, flat, len(flat), out, len(out)), "evaluate")
-    parts: list[Any] = [out[i::16] for i in range(16)]
-    columns: list[Any] = [[complex(re, im) for re, im in zip(parts[i], parts[i + 1])] for i in range(0, 8, 2)] + parts[8:]
-    if first or second:
+    flat, code = _flat(layers), _within(code, 0xFFFFFFFF)
+    given = {"n_incident": n_incident, "n_substrate": n_substrate, "angle_rad": angle_rad, "wavelength_nm": wavelength_nm}
+    many, shape = _broadcast(given)
+    if not many:
+        out = (ctypes.c_double * 16)()
+        case = [float(x) for x in given.values()]
+        returned = _library.dihkelu_evaluate(code, design_wavelength_nm, *case, flat, len(flat), out, 16)
+        if returned >> 32 == 1:
+            raise InvalidParameter(1, 0, "evaluate", invalid_argument(*case) or "code")
+        answered(returned, "evaluate")
+        return _response(out[:])
+    count = len(next(iter(many.values())))
+    numbers: Any = None
+    if shape is None:
+        numbers = array.array("d", bytes(128 * count))
+    else:
         import numpy
 
-        columns = [numpy.array(c) for c in columns]
-    return Response(*columns)
+        numbers = numpy.empty((count, 16))
+    columns = {name: _lent(many[name]) if name in many else float(x) for name, x in given.items()}
+    _evaluate_cases(code, design_wavelength_nm, columns, flat, count, (ctypes.c_double * (16 * count)).from_buffer(numbers))
+    return _Columns(numbers, shape)
+
+
+def _evaluate_cases(code: int, design: float, columns: dict[str, Any], flat: Buffer, count: int, out: Buffer) -> None:
+    """One call of the library for each run of cases with the same two indices."""
+    n0, n1, angles, wavelengths = columns.values()
+    angles, wavelengths = (x if isinstance(x, ctypes.Array) else _lent(array.array("d", [x]) * count) for x in (angles, wavelengths))
+    angles_at, wavelengths_at, out_at = (ctypes.addressof(x) for x in (angles, wavelengths, out))
+    call, films, numbers = _library.dihkelu_evaluate_list, ctypes.addressof(flat), len(flat)
+    for begin, end, first, second in _runs(n0, n1, count):
+        size, at = end - begin, 8 * begin
+        returned = call(code, design, first, second, angles_at + at, size, wavelengths_at + at, size, films, numbers, out_at + 16 * at, 16 * size)
+        if not returned >> 32:
+            continue
+        number, place = returned >> 32, begin + (returned & 0xFFFFFFFF)
+        if number == 1:
+            raise InvalidParameter(1, place, "evaluate", invalid_argument(first, second, angles[place], wavelengths[place]) or "code")
+        raise BY_NUMBER[number](number, place, "evaluate")
+
+
+CASES = 1 << 24  # of one call, below the library's own limit
+
+
+def _runs(n0: Any, n1: Any, count: int) -> Iterator[tuple[int, int, float, float]]:
+    """Where the pair of indices stays the same: begin, end and the two."""
+    if not isinstance(n0, ctypes.Array) and not isinstance(n1, ctypes.Array):
+        yield from ((begin, min(begin + CASES, count), n0, n1) for begin in range(0, count, CASES))
+        return
+    begin = 0
+    for (first, second), run_ in itertools.groupby(zip(_each(n0, count), _each(n1, count))):
+        end = begin + sum(1 for _ in run_)
+        yield begin, end, first, second
+        begin = end
+
+
+def _each(x: Any, count: int) -> Iterable[float]:
+    if isinstance(x, ctypes.Array):
+        return x
+    return itertools.repeat(float(x), count)
 
 
 ARGUMENTS = (None, "n_incident", "n_substrate", "angle_rad", "wavelength_nm")
@@ -257,26 +397,22 @@ def stack(text: str | bytes, n_h: float, n_l: float, n_m: float | None = None, d
     """The layers of a text such as "(HL)^7 H". Where n_m is not given it is n_l: all three must be positive."""
     data = text.encode() if isinstance(text, str) else text
     out = _numbers(count=192)
-    returned = _library.dihkelu_stack(data, len(data), n_h, n_l, n_l if n_m is None else n_m, design_wavelength_nm, out, len(out))
+    positive = {"n_h": n_h, "n_l": n_l, "n_m": n_l if n_m is None else n_m, "design_wavelength_nm": design_wavelength_nm}
+    returned = _library.dihkelu_stack(data, len(data), *positive.values(), out, len(out))
+    if returned >> 32 == 1:
+        raise InvalidParameter(1, 0, "stack", next(name for name, x in positive.items() if not 0 < x < math.inf))
     count = answered(returned, "stack")
     return [Layer(*out[i : i + 3]) for i in range(0, count, 3)]
 
 
-def _converted(call: Any, name: str, jones: Sequence[Sequence[complex]]) -> Mueller:
-    parts = [x for row in jones for z in row for x in (complex(z).real, complex(z).imag)]
-    given, out = _numbers(parts), _numbers(count=16)
-    answered(call(given, len(given), out, len(out)), name)
-    return _mueller(out)
-
-
 def to_mueller(jones: Sequence[Sequence[complex]]) -> Mueller:
     """The Mueller matrix of a Jones matrix, with the signs of the Rust's to_mueller."""
-    return _converted(_library.dihkelu_to_mueller, "to_mueller", jones)
+    return _mueller(_written("to_mueller", 16, jones=_entries(jones)))
 
 
 def mueller_born_wolf(jones: Sequence[Sequence[complex]]) -> Mueller:
     """The same over Stokes vectors with S3 = 2 Im(Ex* Ey), as Born and Wolf have them."""
-    return _converted(_library.dihkelu_mueller_born_wolf, "mueller_born_wolf", jones)
+    return _mueller(_written("mueller_born_wolf", 16, jones=_entries(jones)))
 
 
 def reflectance_range(n1: tuple[float, float], n2: tuple[float, float]) -> tuple[float, float]:
@@ -299,13 +435,17 @@ Vector = tuple[complex, complex]
 Stokes = tuple[float, float, float, float]
 
 
-def _written(name: str, count: int, *given: Any) -> list[float]:
-    """The numbers that a call writes of those given, each a number or a list of numbers."""
+def _written(name: str, count: int, *numbers: float, **lists: Any) -> list[float]:
+    """The numbers that a call writes of the numbers and lists given."""
     out = _numbers(count=count)
-    words: list[Any] = []
-    for x in given:
-        words += [x] if isinstance(x, (int, float)) else [x, len(x)]
-    return out[: answered(getattr(_library, "dihkelu_" + name)(*words, out, len(out)), name)]
+    words: list[Any] = [*numbers, *(word for x in lists.values() for word in (x, len(x)))]
+    returned = getattr(_library, "dihkelu_" + name)(*words, out, len(out))
+    if returned >> 32 == 1 and lists:
+        raise InvalidParameter(1, 0, name, next(key for key, x in lists.items() if len(x) != _COUNTS.get((name, key), _COUNTS.get(key))))
+    return out[: answered(returned, name)]
+
+
+_COUNTS: dict[Any, int] = {"field": 4, "beam": 4, "jones": 8, "matrix": 8, "left": 8, "right": 8, ("mueller_apply", "matrix"): 16}  # of doubles
 
 
 def _parts(values: Iterable[complex]) -> ctypes.Array[ctypes.c_double]:
@@ -335,7 +475,12 @@ def schlick_approx(cos_theta_i: float, n1: float, n2: float) -> float:
 
 def surface_fresnel_jones(n1: float, n2: float, angle_rad: float) -> tuple[Matrix, Matrix]:
     """The Jones matrices of a bare surface, of the reflected light and of the transmitted."""
-    x = _written("surface_fresnel_jones", 16, float(n1), float(n2), float(angle_rad))
+    try:
+        x = _written("surface_fresnel_jones", 16, float(n1), float(n2), float(angle_rad))
+    except InvalidParameter:
+        named = {"n_incident": "n1", "n_substrate": "n2"}
+        culprit = invalid_argument(n1, n2, angle_rad, 1.0) or ""
+        raise InvalidParameter(1, 0, "surface_fresnel_jones", named.get(culprit, culprit)) from None
     return _matrix(x[:8]), _matrix(x[8:])
 
 
@@ -346,7 +491,7 @@ def quarter_wave_ar(n_ambient: float, n_substrate: float, design_wavelength_nm: 
 
 def bragg_mirror(n_high: float, n_low: float, pairs: int, design_wavelength_nm: float) -> list[Layer]:
     """The layers of (H L)^pairs H, a quarter wave each."""
-    x = _written("bragg_mirror", 189, float(n_high), float(n_low), min(operator.index(pairs) % (1 << 64), 32), float(design_wavelength_nm))
+    x = _written("bragg_mirror", 189, float(n_high), float(n_low), _within(pairs, 32), float(design_wavelength_nm))
     return [Layer(*x[i : i + 3]) for i in range(0, len(x), 3)]
 
 
@@ -359,25 +504,33 @@ def coating_from_name(name: str | bytes) -> int:
 def coating_name(code: int) -> str:
     """The name of the coating that `evaluate` has by a code."""
     out = (ctypes.c_uint8 * 6)()
-    count = answered(_library.dihkelu_coating_name(min(operator.index(code) % (1 << 64), 9), out, len(out)), "coating_name")
+    count = answered(_library.dihkelu_coating_name(_within(code, 9), out, len(out)), "coating_name")
     return bytes(out[:count]).decode()
+
+
+def trim(name: str | bytes) -> tuple[int, bytes]:
+    """The trimmed part of a name, as `coating_from_name` reads it: its place among the name's bytes, and its bytes."""
+    data = name.encode() if isinstance(name, str) else name
+    place, length = ctypes.c_uint64(), ctypes.c_uint64()
+    answered(_library.dihkelu_trim(data, len(data), place, length), "trim")
+    return place.value, data[place.value : place.value + length.value]
 
 
 def to_stokes(field: Sequence[complex]) -> Stokes:
     """The Stokes vector of a Jones vector, Ex and Ey."""
-    s0, s1, s2, s3 = _written("to_stokes", 4, _parts(field))
+    s0, s1, s2, s3 = _written("to_stokes", 4, field=_parts(field))
     return s0, s1, s2, s3
 
 
 def jones_normalize(field: Sequence[complex]) -> Vector:
     """A Jones vector at intensity 1."""
-    ex, ey = _pairs(_written("jones_normalize", 4, _parts(field)))
+    ex, ey = _pairs(_written("jones_normalize", 4, field=_parts(field)))
     return ex, ey
 
 
 def jones_intensity(field: Sequence[complex]) -> float:
     """A Jones vector's intensity."""
-    return _written("jones_intensity", 1, _parts(field))[0]
+    return _written("jones_intensity", 1, field=_parts(field))[0]
 
 
 @dataclass(frozen=True)
@@ -393,29 +546,29 @@ class StokesFigures:
 
 def stokes_figures(beam: Sequence[float]) -> StokesFigures:
     """Degrees of polarization, orientation and ellipticity of a Stokes vector."""
-    return StokesFigures(*_written("stokes_figures", 5, _numbers(beam)))
+    return StokesFigures(*_written("stokes_figures", 5, beam=_numbers(beam)))
 
 
 def jones_apply(matrix: Sequence[Sequence[complex]], field: Sequence[complex]) -> Vector:
     """A Jones matrix applied to a Jones vector."""
-    ex, ey = _pairs(_written("jones_apply", 4, _entries(matrix), _parts(field)))
+    ex, ey = _pairs(_written("jones_apply", 4, matrix=_entries(matrix), field=_parts(field)))
     return ex, ey
 
 
 def jones_mul(left: Sequence[Sequence[complex]], right: Sequence[Sequence[complex]]) -> Matrix:
     """The product of two Jones matrices; light passes the right one first."""
-    return _matrix(_written("jones_mul", 8, _entries(left), _entries(right)))
+    return _matrix(_written("jones_mul", 8, left=_entries(left), right=_entries(right)))
 
 
 def mueller_apply(matrix: Sequence[Sequence[float]], beam: Sequence[float]) -> Stokes:
     """A Mueller matrix applied to a Stokes vector."""
-    s0, s1, s2, s3 = _written("mueller_apply", 4, _numbers(x for row in matrix for x in row), _numbers(beam))
+    s0, s1, s2, s3 = _written("mueller_apply", 4, matrix=_numbers(x for row in matrix for x in row), beam=_numbers(beam))
     return s0, s1, s2, s3
 
 
 def diattenuator(tx: complex, ty: complex) -> Matrix:
     """A diagonal Jones matrix of two amplitudes, such as a response's rs and rp, or ts and tp."""
-    return _matrix(_written("diattenuator", 8, _parts([tx, ty])))
+    return _matrix(_written("diattenuator", 8, amplitudes=_parts([tx, ty])))
 
 
 def linear_polarizer(angle_rad: float) -> Matrix:

@@ -7,15 +7,15 @@ from __future__ import annotations
 import math
 import re
 import struct
-from dataclasses import dataclass
-from typing import Iterator, Sequence, Union
+from dataclasses import dataclass, replace
+from typing import Iterator, NamedTuple, Sequence, Union
 
-from .calls import gate
-from .plans import MOST_LAYERS, MOST_SURFACES, Made, index_at, met, of_sheet
+from .calls import gate, last_powers
+from .plans import MOST_LAYERS, MOST_SURFACES, Made, cauchy, index_at, met, of_sheet
 from .refusals import Refused
 from .sheet import Coating, Glass, Layer, Sheet, Surface
 from .text import without_mark
-from .words import Wrong, counted, in_line, written
+from .words import Wrong, counted, in_line, printable, written
 
 PRESET_INDICES = {Coating.MGF2: [1.38], Coating.BROADBAND_AR: [1.46, 2.3], Coating.MIRROR: [2.3, 1.46]}  # which the gate tests too
 PRESET_NM = 550.0
@@ -98,34 +98,48 @@ def surface_missed(surface: Surface) -> str:
 
 
 def layer_missed(layer: Union[Layer, Glass], surface: Surface, wavelength: float) -> str:
-    n = index_at(layer, wavelength)
-    if isinstance(layer, Glass):
-        said = [f"{name} is not finite" for name, x in zip("ABC", (layer.a, layer.b, layer.c)) if not math.isfinite(x)]
-        said.append(within(f"its index at {written(wavelength)} nm", n, 1, 4))
-    else:
-        said = [within("n", n, 1, 4), "" if layer.k == 0 else f"k is {written(layer.k)}, not zero"]
-    said += [within("the thickness", layer.thickness_nm, 0, 100000), bends(surface, "n", n)]
+    n, k = index_at(layer, wavelength), 0.0 if isinstance(layer, Glass) else layer.k
     metal = metal_missed(surface, wavelength)
-    absorbs = n < 1 or isinstance(layer, Layer) and layer.k != 0
-    return joined(said + (["of metal films, " + ", ".join(metal)] if absorbs else [])) if metal else ""
+    if not metal:
+        return ""
+    if (n < 1 or k != 0) and not isinstance(layer, Glass):
+        return f"with n {written(n)} and k {written(k)} it is a metal film, and {joined(metal)}"
+    said = [f"{name} is not finite" for name, x in zip("ABC", (layer.a, layer.b, layer.c)) if not math.isfinite(x)] if isinstance(layer, Glass) else []
+    said.append(within(f"its index at {written(wavelength)} nm" if isinstance(layer, Glass) else "n", n, 1, 4))
+    return joined(said + [within("the thickness", layer.thickness_nm, 0, 100000), bends(surface, "n", n)])
 
 
 def metal_missed(surface: Surface, wavelength: float) -> list[str]:
-    """Which limits of metal films (document 02, slip 12) a surface with its layers misses."""
-    if surface.angle_rad != 0:
-        return ["they are met at angle 0 only"]
-    if len(surface.layers) > MOST_METAL:
-        return [f"at most {MOST_METAL} layers are with them, not {len(surface.layers)}"]
+    """Which limits of metal films (document 02, slip 12) a surface with its layers misses, all of them."""
     said, total = [], 0.0
+    if surface.angle_rad != 0:
+        said.append(f"these are met at angle 0 only, not at {math.degrees(surface.angle_rad):.6g} deg")
+    if len(surface.layers) > MOST_METAL:
+        said.append(f"these stand on surfaces of at most {MOST_METAL} layers, not of {len(surface.layers)}")
     for number, layer in enumerate(surface.layers, 1):
         k = 0.0 if isinstance(layer, Glass) else layer.k
         of = f"of layer {number}"
         limits = [(f"n {of}", index_at(layer, wavelength), 0.0625, 4), (f"k {of}", k, 0, 8), (f"the thickness {of}", layer.thickness_nm, 0, 100000)]
         said += [one for one in (within(*limit) for limit in limits) if one]
         total += 2 * math.pi * layer.thickness_nm / wavelength * k if wavelength else math.nan
-    if not said and not total <= 16:
+    if not total <= 16:
         said.append(f"2 pi thickness / wavelength times k adds up to {written(total)}, more than 16")
     return said
+
+
+def no_sheet(made: Made, count: int, wavelength: float) -> str:
+    """Why a sheet admits no such surface, counted from 0; empty where it does."""
+    surface = replace(made.sheet.surfaces[count], retune_nm=None)
+    if len(surface.layers) > MOST_LAYERS:
+        return f"a surface of a sheet has at most {MOST_LAYERS} layers, and this has {len(surface.layers)}"
+    plan = replace(made.plan, faces=[made.plan.faces[count]])
+    one = Made(plan, replace(made.sheet, wavelength_nm=wavelength, surfaces=(surface,)))
+    try:
+        gate(one.sheet)
+        return ""
+    except Refused:
+        missed = [(name, why) for _, name, _, why in blocks(one) if why]
+    return joined([why if name == "surface 1" else f"{name.replace(' of surface 1', '')}: {why}" for name, why in missed])
 
 
 # ---- sentences
@@ -228,42 +242,201 @@ def line_of(said: str) -> int | None:
 def content(data: bytes, line: int) -> str:
     """A line of a text, as far as it can be read."""
     lines = re.split(rb"\r\n|\n|\r", without_mark(data))
-    return lines[line - 1].decode("utf-8", "replace").strip() if line <= len(lines) else ""
+    found = lines[line - 1].decode("utf-8", "replace").strip() if line <= len(lines) else ""
+    return printable(found if len(found) <= 140 else found[:138] + "..")
 
 
 # ---- hints
 
+STEEP = math.pi / 2
+FAR = 2.0**20  # radians: beyond it the documents' sine and cosine fold with the f64 next to 2 pi
+SEEN = 0.01  # of s or p: light to and fro in a plate is said from here on
+HARDLY = SEEN / (1 + SEEN)  # the product of both reflectances there
+NUDGE = 2.0**-40  # of the wavelength, for a stack's resonance
+ROUNDED = 4 * 2.0**-53  # of a phase
+FEW_FILMS = 3  # on a surface: fewer do not resonate
+SHOWS = 1e-9  # of the beam: what rounding may change without a word
+CANCEL = 1e6  # a glass's coefficients over its index
 
-def hints(made: Made) -> list[str]:
-    """Where a sheet is hardly what was meant; the gate takes it all the same."""
-    said = list(made.hints)
-    one: Surface | None = None
-    for count, (face, surface, wavelength) in enumerate(zip(made.plan.faces, made.sheet.surfaces, met(made.sheet)), 1):
-        name = f"surface {count}{in_line(face.line)}"
-        said += neighbour_hints(one, surface, name) + preset_hints(surface, wavelength, name)
-        one = surface
+_BEAM, _SURFACE, _GLASS, _DOUBLE = struct.Struct(">3d"), struct.Struct(">I3d"), struct.Struct(">4x4d"), struct.Struct(">d")
+_ZERO = bytes(8)
+
+
+class Crossing(NamedTuple):
+    """A surface as the hints look at it."""
+
+    coating: int
+    reflected: bool
+    n0: float
+    n1: float
+    angle: float
+    nm: float
+
+
+@dataclass
+class Walk:
+    """What the hints look at in an admitted sheet's bytes; `wavelengths` has the places of the beam's and of each retune's."""
+
+    s: float
+    p: float
+    crossings: list[Crossing]
+    wavelengths: list[int]
+    absorbing: set[int]  # the surfaces, from 0, with a film that has a k
+    glasses: list[tuple[int, float, float]]  # of surfaces, from 0: the wavelength and the sum of the terms' sizes
+    most_films: int = 0  # of a surface
+
+
+def walk(data: bytes) -> Walk:
+    nm, s, p = _BEAM.unpack_from(data, 8)
+    crossings: list[Crossing] = []
+    found = Walk(s, p, crossings, [8], set(), [])
+    at, end, films, most = 32, len(data) - 4, 0, 0
+    while at < end:
+        kind = data[at] >> 4
+        if kind == 3:
+            word, n0, n1, angle = _SURFACE.unpack_from(data, at)
+            crossings.append(Crossing((word & 15) >> 1, bool(word & 1), n0, n1, angle, nm))
+            most, films, at = max(most, films), 0, at + 28
+        elif kind == 4:
+            if data[at + 12 : at + 20] != _ZERO:
+                found.absorbing.add(len(crossings) - 1)
+            films, at = films + 1, at + 28
+        elif kind == 6:
+            a, b, c, _ = _GLASS.unpack_from(data, at)
+            found.glasses.append((len(crossings) - 1, nm, cauchy(abs(a), abs(b), abs(c), nm)))
+            films, at = films + 1, at + 36
+        else:
+            (nm,) = _DOUBLE.unpack_from(data, at + 4)
+            found.wavelengths.append(at + 4)
+            at += 12
+    found.most_films = max(most, films)
+    return found
+
+
+def hints(made: Made, after: Sequence[tuple[float, float]] | None = None) -> list[str]:
+    """Where a sheet is hardly what was meant; the gate takes it all the same. `after` has s and p after each surface, where it runs."""
+    lines = [face.line for face in made.plan.faces]
+    return made.plan.hints + made.hints + metal_hints(made) + sheet_hints(made.sheet.to_bytes(), after, made.plan.beam_line, lines)
+
+
+def sheet_hints(data: bytes, after: Sequence[tuple[float, float]] | None, beam: int | None = None, lines: Sequence[int | None] = ()) -> list[str]:
+    """Those of a sheet's bytes that are in grammar."""
+    walked = walk(data)
+    said = beam_hints(walked, beam)
+    one: Crossing | None = None
+    for count, two in enumerate(walked.crossings):
+        plate = one is not None and is_plate(one, two)
+        for sentence in crossing_hints(one, two, plate):
+            said.append(f"{named(count, lines)} {sentence}")
+        if plate and after is not None and not two.reflected:
+            for sentence in pass_hints(walked, count, after):
+                said.append(f"{named(count, lines)} {sentence}")
+        one = two
+    said += [f"{named(count, lines)} {sentence}" for count, sentence in glass_hints(walked)]
+    return said + (resonance_hints(data, walked, after) if after else [])
+
+
+def named(count: int, lines: Sequence[int | None]) -> str:
+    return f"surface {count + 1}{in_line(lines[count] if lines else None)}"
+
+
+def beam_hints(walked: Walk, line: int | None) -> list[str]:
+    """A beam of more than itself."""
+    if not walked.s + walked.p > 1 + 1e-9:
+        return []
+    total = f"s {written(walked.s)} and p {written(walked.p)}, {written(walked.s + walked.p)} in all"
+    return [f"the beam{in_line(line)} has {total}; they are shares of one beam, such as s 0.5 p 0.5"]
+
+
+def crossing_hints(one: Crossing | None, two: Crossing, plate: bool) -> list[str]:
+    """A surface that begins in another index than the light comes in or stands at a strange angle, and a preset away from its design."""
+    said = []
+    if plate and one is not None:
+        said += angle_hints(one, two)
+    elif one is not None and two.n0 != (comes := one.n0 if one.reflected else one.n1):
+        said.append(f"begins in index {written(two.n0)}; the light comes in index {written(comes)}")
+    if not -STEEP <= two.angle <= STEEP and math.isfinite(two.angle):
+        said.append(turned_hint(two.angle))
+    if two.coating in PRESET_INDICES and abs(two.nm - PRESET_NM) > PRESET_NM / 10:
+        called = Coating(two.coating).name.lower().replace("_", "-")
+        said.append(f"has the preset {called}, designed for {PRESET_NM:g} nm; the light has {written(two.nm)} nm")
     return said
 
 
-def neighbour_hints(one: Surface | None, two: Surface, name: str) -> list[str]:
-    """A surface that begins in another index than the light comes in, or stands at another angle than a plate's second face."""
-    if one is None:
-        return []
-    n0, n1 = one.n_incident, one.n_substrate
-    comes = n0 if one.reflected else n1
-    if two.n_incident != comes:
-        return [f"{name} begins in index {written(two.n_incident)}; the light comes in index {written(comes)}"]
-    if n1 > n0 > 0 and math.isfinite(one.angle_rad) and not one.reflected and two.n_substrate < comes:
-        expected = abs(math.degrees(math.asin(n0 * math.sin(one.angle_rad) / n1)))
-        found = math.degrees(two.angle_rad)
-        if abs(expected - abs(found)) > 0.5:
-            return [f"{name} is at {found:.2f} deg; in a plate with parallel faces it is at {expected:.2f} deg"]
-    return []
+def is_plate(one: Crossing, two: Crossing) -> bool:
+    """Whether light goes into a denser medium by the one surface and out of it by the other."""
+    return one.n1 > one.n0 > 0 and two.n0 == one.n1 > two.n1 and not one.reflected
 
 
-def preset_hints(surface: Surface, wavelength: float, name: str) -> list[str]:
-    """A preset more than a tenth away from its design wavelength."""
-    if surface.coating not in PRESET_INDICES or abs(wavelength - PRESET_NM) <= PRESET_NM / 10:
+def angle_hints(one: Crossing, two: Crossing) -> list[str]:
+    """The second face of a plate at another angle than the first leads to."""
+    if not math.isfinite(one.angle):
         return []
-    called = surface.coating.name.lower().replace("_", "-")
-    return [f"{name} has the preset {called}, designed for {PRESET_NM:g} nm; the light has {written(wavelength)} nm"]
+    expected, found = abs(math.degrees(math.asin(one.n0 * math.sin(one.angle) / one.n1))), math.degrees(two.angle)
+    return [] if abs(expected - abs(found)) <= 0.5 else [f"is at {found:.2f} deg; in a plate with parallel faces it is at {expected:.2f} deg"]
+
+
+def turned_hint(angle: float) -> str:
+    if abs(angle) <= FAR:
+        return f"is at {written(angle)} rad, {math.degrees(angle):.2f} deg, more than a right angle; where degrees are meant write deg"
+    return f"is at {written(angle)} rad, beyond 2^20, where the library's sine and cosine drift away from the angle's; give it without whole turns"
+
+
+def glass_hints(walked: Walk) -> list[tuple[int, str]]:
+    """Coefficients that cancel each other: their sum keeps few of their digits."""
+    why = "they cancel, so that rounding may show in the index; give it as a number"
+    return [(count, f"has a glass whose coefficients add up from {size:.2g} at {written(nm)} nm: {why}") for count, nm, size in walked.glasses if size > CANCEL]
+
+
+def pass_hints(walked: Walk, count: int, after: Sequence[tuple[float, float]]) -> list[str]:
+    """Light to and fro between a plate's faces, which one pass leaves out: R1 R2 / (1 - R1 R2) of what passes, R being 1 - T."""
+    (s0, p0), (s1, p1), (s2, p2) = after[count - 2] if count > 1 else (walked.s, walked.p), after[count - 1], after[count]
+    few = (s0 - s1) * (s1 - s2) <= HARDLY * s0 * s1 and (p0 - p1) * (p1 - p2) <= HARDLY * p0 * p1
+    if few or {count - 1, count} & walked.absorbing:
+        return []
+    s, p = passes(s0, s1, s2), passes(p0, p1, p2)
+    why = "the light to and fro between it and the surface before, which one pass leaves out, would add"
+    return [f"is the second face of a plate: {why} {100 * s:.2g} % to s and {100 * p:.2g} % to p, without interference"]
+
+
+def passes(before: float, between: float, behind: float) -> float:
+    """What all passes add to one, as a share, by the powers before a plate, in it and behind it."""
+    if not (before > 0 and between > 0):
+        return 0.0
+    both = (1 - between / before) * (1 - behind / between)
+    return both / (1 - both) if both < 1 else 0.0
+
+
+def resonance_hints(data: bytes, walked: Walk, after: Sequence[tuple[float, float]]) -> list[str]:
+    """How far the last powers move when all wavelengths do by a hair says what the rounding of a phase can do."""
+    if walked.most_films < FEW_FILMS:
+        return []
+    moved = bytearray(data)
+    for at in walked.wavelengths:
+        (nm,) = _DOUBLE.unpack_from(data, at)
+        _DOUBLE.pack_into(moved, at, nm * (1 - NUDGE if nm > 1000 else 1 + NUDGE))
+    try:
+        s, p = last_powers(bytes(moved))
+    except Refused:
+        return []
+    change = max(abs(s - after[-1][0]), abs(p - after[-1][1])) / NUDGE
+    if not change * ROUNDED > SHOWS:
+        return []
+    return [f"the films are so resonant that one part in 10^12 of the wavelength changes a power by {change * 1e-12:.2g}: rounding may show from {change * ROUNDED:.0e} on"]
+
+
+def metal_hints(made: Made) -> list[str]:
+    """A film's n and k in numbers are those at the wavelength of its text; the sheet was made for another."""
+    given, found = made.plan.wavelength_nm, made.sheet.wavelength_nm
+    said: list[str] = []
+    for count, face in enumerate(made.plan.faces, 1):
+        if face.retune_nm is not None or given == found:
+            break
+        for number, film in enumerate(face.films, 1):
+            if isinstance(film.given, Layer) and film.given.k != 0:
+                numbers = f"n {written(film.given.n)} and k {written(film.given.k)}"
+                said.append(f"layer {number} of surface {count}{in_line(film.line)} keeps {numbers} of {written(given)} nm at {written(found)} nm; {METAL}")
+    return said
+
+
+METAL = "a metal's change with the wavelength: give them in lines material NAME at .. n .. k .."

@@ -22,13 +22,25 @@ def load(name: str) -> bytes:
                 raise Failed("standard input is closed")
             data = sys.stdin.buffer.read(MOST_BYTES + 1)
         else:
-            with open(name, "rb") as file:
-                data = file.read(MOST_BYTES + 1)
+            data = whole(name)
     except (OSError, ValueError) as error:
         raise Failed(getattr(error, "strerror", None) or error) from None
     if len(data) > MOST_BYTES:
         raise Failed(f"it has more than {MOST_BYTES} bytes: no sheet, and no text of one")
     return data
+
+
+def whole(name: str) -> bytes:
+    """A file's bytes up to one more than are taken, past Python's own buffers: most are small and there may be many."""
+    file = os.open(name, os.O_RDONLY | getattr(os, "O_BINARY", 0))
+    try:
+        parts, size = [], 0
+        while size <= MOST_BYTES and (part := os.read(file, 65536)):
+            parts.append(part)
+            size += len(part)
+        return b"".join(parts)
+    finally:
+        os.close(file)
 
 
 def save(name: str, data: bytes) -> None:

@@ -1,13 +1,20 @@
 """Glasses by name: the index at a wavelength by the published formula, within its range.
 
-The coefficients are written from memory of the papers and of the maker's data sheet; a test holds each glass to a well-known index.
+The table is glasses.json, which the page in web/ has too. Its coefficients are written from memory of the papers and of the maker's
+data sheet; a test holds each glass to a well-known index.
 Films of TiO2, Ta2O5 and other oxides are left out: their index depends on how the film was made, so that the coating maker's own
 coefficients belong into a `material` line. Air is 1, as in the sheets.
 """
 from __future__ import annotations
 
+import json
 import math
+import re
 from dataclasses import dataclass
+from pathlib import Path
+from typing import Any
+
+from .words import quoted, suggested
 
 
 class UnknownGlass(ValueError):
@@ -37,8 +44,11 @@ class Glass:
         if not self.from_nm <= wavelength_nm <= self.to_nm:
             known = f"{self.name} is known from {self.from_nm:g} to {self.to_nm:g} nm ({self.source})"
             raise OutOfRange(f"{known}; the wavelength is {wavelength_nm!r} nm")
-        u2 = (wavelength_nm / 1000) ** 2
-        return math.sqrt(self.constant + sum(b * u2 / (u2 - c) for b, c in self.terms))
+        u = wavelength_nm / 1000
+        u2, total = u * u, 0.0
+        for b, c in self.terms:  # one rounding after the other, as the page has it; some Pythons' sum has fewer
+            total += b * u2 / (u2 - c)
+        return math.sqrt(self.constant + total)
 
     @property
     def coloured(self) -> bool:
@@ -51,47 +61,39 @@ class Glass:
         return f"n = {math.sqrt(self.constant):g}" if not terms else f"n2 = {self.constant!r} + {terms}"
 
 
-def _squared(*terms: tuple[float, float]) -> tuple[tuple[float, float], ...]:
-    """Terms as papers have them that give the resonance itself and not its square."""
-    return tuple((b, c * c) for b, c in terms)
+def _glass(given: dict[str, Any]) -> Glass:
+    """A glass of the table's file."""
+    given = dict(given)
+    resonances = given.pop("resonances", [])
+    terms = [(b, c) for b, c in given.pop("terms", [])] + [(b, r * r) for b, r in resonances]
+    return Glass(terms=tuple(terms), **given)
 
 
-TABLE = {
-    glass.name: glass
-    for glass in [
-        Glass("air", 1.0, remark="1, as sheets have it; so is vacuum"),
-        Glass(
-            "fused-silica", 1.0, _squared((0.6961663, 0.0684043), (0.4079426, 0.1162414), (0.8974794, 9.896161)), 210, 3710,
-            "I. H. Malitson, J. Opt. Soc. Am. 55, 1205 (1965)", "a film of SiO2 is near it, some 0.01 above: take the maker's figure",
-        ),
-        Glass(
-            "n-bk7", 1.0, ((1.03961212, 0.00600069867), (0.231792344, 0.0200179144), (1.01046945, 103.560653)), 300, 2500,
-            "Schott, data sheet of N-BK7",
-        ),
-        Glass(
-            "caf2", 1.0, _squared((0.5675888, 0.050263605), (0.4710914, 0.1003909), (3.8484723, 34.649040)), 230, 9700,
-            "I. H. Malitson, Appl. Opt. 2, 1103 (1963)",
-        ),
-        Glass(
-            "mgf2", 1.0, _squared((0.48755108, 0.04338408), (0.39875031, 0.09461442), (2.3120353, 23.793604)), 200, 7000,
-            "M. J. Dodge, Appl. Opt. 23, 1980 (1984)", "the crystal's ordinary ray; the preset coating mgf2 has 1.38 at every wavelength",
-        ),
-        Glass(
-            "sapphire", 1.0, ((1.023798, 0.00377588), (1.058264, 0.0122544), (5.280792, 321.3616)), 265.2, 5577,
-            "I. H. Malitson, J. Opt. Soc. Am. 52, 1377 (1962)", "the ordinary ray",
-        ),
-    ]
-}
-OTHER_NAMES = {"vacuum": "air", "silica": "fused-silica", "sio2": "fused-silica", "bk7": "n-bk7"}
-LEFT_OUT = ("tio2", "ta2o5", "al2o3", "hfo2", "nb2o5", "zro2")
+_FILE = json.loads((Path(__file__).resolve().parent / "glasses.json").read_text("utf-8"))
+TABLE = {one["name"]: _glass(one) for one in _FILE["glasses"]}
+OTHER_NAMES: dict[str, str] = _FILE["other_names"]
+LEFT_OUT: list[str] = _FILE["left_out"]
+
+
+def key(name: str) -> str:
+    """A name without what people write in different ways: small letters, no hyphens, spaces or points."""
+    return re.sub(r"[-_. ]", "", name.lower())
+
+
+_BY_KEY = {key(name): of for name, of in [*zip(TABLE, TABLE), *OTHER_NAMES.items()]}
+
+
+def is_named(name: str) -> bool:
+    """Whether a glass has this name."""
+    return key(name) in _BY_KEY
 
 
 def glass(name: str) -> Glass:
-    """The glass of a name, in letters of either size."""
-    key = OTHER_NAMES.get(name.lower(), name.lower())
-    if key in LEFT_OUT:
+    """The glass of a name, in letters of either size, with hyphens or without."""
+    if key(name) in LEFT_OUT:
         made = "a film's index depends on how it was made"
-        raise UnknownGlass(f"'{name}' has no index by its name: {made}; give the maker's coefficients, material {name} a .. b .. c .., or a number")
-    if key not in TABLE:
-        raise UnknownGlass(f"there is no glass '{name}'; there are {', '.join([*TABLE, *OTHER_NAMES])}")
-    return TABLE[key]
+        raise UnknownGlass(f"{quoted(name)} has no index by its name: {made}; give the maker's coefficients, material {name} a .. b .. c .., or a number")
+    if key(name) not in _BY_KEY:
+        names = [*TABLE, *OTHER_NAMES]
+        raise UnknownGlass(f"there is no glass {quoted(name)}{suggested(name, names)}; there are {', '.join(names)}")
+    return TABLE[_BY_KEY[key(name)]]

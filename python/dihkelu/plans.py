@@ -9,12 +9,14 @@ from dataclasses import dataclass, field, replace
 from typing import Union
 
 from . import glasses
+from .angles import arcsine, sine
 from .sheet import Coating, Glass, Layer, Sheet, Surface
 from .words import Wrong, counted, where, written
 
 COATINGS = [coating.name.lower().replace("_", "-") for coating in Coating]
 DIRECTIONS = ["transmitted", "reflected"]
 MOST_SURFACES, MOST_LAYERS = 64, 16
+MOST_ALONE = 64  # layers of a surface that is evaluated alone
 STEEPEST = math.asin(0.875)  # of a window in its medium: the gate takes n_incident times sin up to 0.875 of the second index
 
 
@@ -26,20 +28,52 @@ def cauchy(a: float, b: float, c: float, wavelength_nm: float) -> float:
 
 @dataclass(frozen=True)
 class Material:
-    """A glass of the text, by its maker's coefficients."""
+    """A glass of the text, by its maker's coefficients, with a k that is the same at every wavelength."""
 
     name: str
     a: float
     b: float
     c: float
+    k: float = 0.0
     coloured = True
     source = "its coefficients in the text"
 
     def index(self, wavelength_nm: float) -> float:
         return cauchy(self.a, self.b, self.c, wavelength_nm)
 
+    def k_at(self, wavelength_nm: float) -> float:
+        return self.k
 
-Named = Union[glasses.Glass, Material]
+
+@dataclass(eq=False)
+class Tabled:
+    """A material of the text, by n and k at wavelengths in nm; between two of them both go in a straight line over the wavelength."""
+
+    name: str
+    points: list[tuple[float, float, float]] = field(default_factory=list)
+    coloured = True
+    source = "its lines in the text"
+
+    def index(self, wavelength_nm: float) -> float:
+        return self.between(wavelength_nm, 1)
+
+    def k_at(self, wavelength_nm: float) -> float:
+        return self.between(wavelength_nm, 2)
+
+    def between(self, nm: float, column: int) -> float:
+        """n or k at a wavelength."""
+        points = sorted(self.points)
+        for one, two in zip(points, points[1:] or points):
+            if one[0] <= nm <= two[0]:
+                if nm in (one[0], two[0]):
+                    return (one if nm == one[0] else two)[column]
+                share = (nm - one[0]) / (two[0] - one[0])
+                return one[column] + share * (two[column] - one[column])
+        known = f"at {written(points[0][0])} nm" if len(points) == 1 else f"from {written(points[0][0])} to {written(points[-1][0])} nm"
+        raise glasses.OutOfRange(f"{self.name} is known {known} by its lines in the text; the wavelength is {written(nm)} nm: add a line for it")
+
+
+Named = Union[glasses.Glass, Material, Tabled]
 Known = dict[tuple[Named, float], float]  # indices that were worked out, by glass and wavelength
 
 
@@ -60,28 +94,44 @@ class Index:
             known[key] = self.glass.index(wavelength_nm)
         return known[key]
 
+    def k_at(self, wavelength_nm: float) -> float:
+        return 0.0 if self.glass is None or isinstance(self.glass, glasses.Glass) else self.glass.k_at(wavelength_nm)
+
+    def clear_at(self, wavelength_nm: float, known: Known) -> float:
+        """The index of what a surface lies between, which has no k."""
+        n, k = self.at(wavelength_nm, known), self.k_at(wavelength_nm)
+        if k != 0 and self.glass is not None:
+            raise Wrong(f"{self.glass.name} has k {written(k)} at {written(wavelength_nm)} nm, and a surface lies between indices without k: make it a layer")
+        return n
+
 
 @dataclass(frozen=True)
 class Film:
-    """A layer as it was written: itself, or where its index is that of a glass, the rest of it."""
+    """A layer as it was written: itself, or where its index is that of a glass, the rest of it. A k of None is the material's."""
 
     line: int | None
     index: Index = Index()
-    k: float = 0.0
+    k: float | None = None
     thickness_nm: float = 0.0
     given: Union[Layer, Glass, None] = None
 
     def at(self, wavelength_nm: float, known: Known | None = None) -> Union[Layer, Glass]:
-        return self.given or Layer(self.index.at(wavelength_nm, known), self.k, self.thickness_nm)
+        if self.given is not None:
+            return self.given
+        k = self.index.k_at(wavelength_nm) if self.k is None else self.k
+        return Layer(self.index.at(wavelength_nm, known), k, self.thickness_nm)
 
 
-def film(line: int | None, index: Index, k: float, thickness_nm: float) -> Film:
-    """A layer; one of a material changes with colour in the sheet itself, as kind 6."""
-    made: Union[Layer, Glass, None] = Layer(index.number, k, thickness_nm) if index.glass is None else None
-    if isinstance(index.glass, Material):
-        if k != 0:
-            raise Wrong(f"a layer of a material with coefficients has no k; this has {written(k)}")
-        made = Glass(index.glass.a, index.glass.b, index.glass.c, thickness_nm)
+def film(line: int | None, index: Index, k: float | None, thickness_nm: float) -> Film:
+    """A layer; one of a material with coefficients and no k changes with colour in the sheet itself, as kind 6."""
+    made: Union[Layer, Glass, None] = None
+    if index.glass is None:
+        made = Layer(index.number, 0.0 if k is None else k, thickness_nm)
+    elif not isinstance(index.glass, glasses.Glass):
+        if k is not None:
+            raise Wrong(f"a layer of a material has the k of its material; this has {written(k)} too")
+        if isinstance(index.glass, Material) and index.glass.k == 0:
+            made = Glass(index.glass.a, index.glass.b, index.glass.c, thickness_nm)
     return Film(line, index, k, thickness_nm, made)
 
 
@@ -112,6 +162,7 @@ class Plan:
     p: float = math.nan
     beam_line: int | None = None
     faces: list[Face] = field(default_factory=list)
+    hints: list[str] = field(default_factory=list)  # what is hardly meant in the text itself
 
     def make(self, wavelength_nm: float | None = None, angles: dict[int, float] | None = None) -> Made:
         """The sheet at a wavelength, the beam's own unless given, with other angles in radians by the faces' numbers from 0."""
@@ -123,8 +174,8 @@ class Plan:
             angle = (angles or {}).get(count, face.angle_rad)
             try:
                 surfaces.append(_surface(face, nm, angle, surfaces, made))
-            except glasses.OutOfRange as wrong:
-                raise Wrong(f"{where(face.line)}{wrong}") from None
+            except (glasses.OutOfRange, Wrong) as wrong:
+                raise Wrong(str(wrong) if str(wrong).startswith("line ") else f"{where(face.line)}{wrong}") from None
         made.sheet = replace(made.sheet, surfaces=tuple(surfaces))
         return made
 
@@ -162,7 +213,7 @@ class Made:
     @property
     def notes(self) -> list[str]:
         """What was worked out for the sheet."""
-        indices = [f"{glass.name} has n {n:.7g} at {written(nm)} nm, by {glass.source}" for (glass, nm), n in self.coloured.items()]
+        indices = [f"{glass.name} has n {n:.7g}{_and_k(glass, nm)} at {written(nm)} nm, by {glass.source}" for (glass, nm), n in self.coloured.items()]
         angles = [f"{where(line)}inside the window the light is at {math.degrees(inner):.4f} deg, by Snell's law" for line, _, inner in self.windows]
         return indices + angles
 
@@ -174,9 +225,14 @@ class Made:
         return [f"{where(line)}the window is at {outer:.2f} deg; {past}" for line, outer in steep]
 
 
+def _and_k(glass: Named, nm: float) -> str:
+    k = Index(glass=glass).k_at(nm)
+    return f" and k {k:.7g}" if k else ""
+
+
 def _surface(face: Face, nm: float, angle: float, before: list[Surface], made: Made) -> Surface:
     """A face at its wavelength; the second of a window at the angle that the first leads to."""
-    n0, n1 = face.before.at(nm, made.known), face.after.at(nm, made.known)
+    n0, n1 = face.before.clear_at(nm, made.known), face.after.clear_at(nm, made.known)
     layers = tuple([film.at(nm, made.known) for film in face.films])
     if face.second:
         outer = before[-1].angle_rad
@@ -187,10 +243,10 @@ def _surface(face: Face, nm: float, angle: float, before: list[Surface], made: M
 
 def inside(angle_rad: float, n0: float, n1: float, line: int | None = None) -> float:
     """The angle in index n1 of light that comes in index n0 at an angle, by Snell's law."""
-    sine = n0 * math.sin(angle_rad) / n1 if math.isfinite(angle_rad) and n1 else math.nan
-    if not abs(sine) <= 1:
+    ratio = n0 * sine(angle_rad) / n1 if math.isfinite(angle_rad) and n1 else math.nan
+    if not abs(ratio) <= 1:
         raise Wrong(f"{where(line)}no light at {math.degrees(angle_rad):.2f} deg in index {written(n0)} comes into index {written(n1)}")
-    return math.asin(sine)
+    return arcsine(ratio)
 
 
 def of_sheet(sheet: Sheet) -> Plan:

@@ -1,13 +1,16 @@
 """Pictures of losses, sweeps and bands, by matplotlib where it is installed: PNG, SVG or PDF by the file's ending."""
 from __future__ import annotations
 
+import io
+import itertools
 import math
 import sys
 from pathlib import Path
-from typing import TYPE_CHECKING, Any
+from typing import TYPE_CHECKING, Any, Sequence
 
 from .files import Failed
-from .reports import Losses, Point, percent_of
+from .reports import Losses, Point, lost_at_each
+from .tolerance import Tolerance
 
 if TYPE_CHECKING:
     from matplotlib.figure import Figure
@@ -49,30 +52,79 @@ def _dress(axes: Any, title: str, x: str, y: str) -> None:
     axes.set_axisbelow(True)
 
 
-def sweep(points: list[Point], start: tuple[float, float], over: str, names: list[str], title: str) -> Figure:
-    """Two panels over angle or wavelength: what is lost of s, of p and of both, and the part of each surface, one upon the other."""
+def sweep(points: list[Point], start: tuple[float, float], over: str, names: list[str], title: str, about: str = "", log: bool = False) -> Figure:
+    """Two panels over angle or wavelength: what is lost of s, of p and of both, and the part of each surface.
+
+    The parts stand one upon the other; over a logarithmic axis they are lines. Where points were refused the picture is grey."""
     figure = _figure(6.4)
     above, below = figure.subplots(2, 1, sharex=True)
     x = [point.at for point in points]
-    for label, colour, whole, left in [
-        ("s", S, start[0], lambda point: point.s),
-        ("p", P, start[1], lambda point: point.p),
-        ("both", BOTH, start[0] + start[1], lambda point: None if point.s is None else point.s + point.p),
-    ]:
-        if whole:
-            lost = [math.nan if left(point) is None else percent_of(whole - left(point), whole) for point in points]
-            above.plot(x, lost, color=colour, label=label, linestyle="--" if label == "both" else "-")
-    _dress(above, title, "", "lost, % of each")
-    _legend(above, *above.get_legend_handles_labels())
-    if lost_at := surface_losses(points, start):
-        below.stackplot(x, lost_at, labels=names if len(names) <= MOST_NAMES else [])
+    for label, colour, key in [("s", S, "s_lost_percent"), ("p", P, "p_lost_percent"), ("both", BOTH, "lost_percent")]:
+        lost = [getattr(point, key) for point in points]
+        if any(one is not None for one in lost):
+            above.plot(x, [math.nan if one is None else one for one in lost], color=colour, label=label, linestyle="--" if label == "both" else "-")
+    _dress(above, "\n".join(filter(None, [title, about])), "", "lost, % of each")
+    labels = names if len(names) <= MOST_NAMES else []
+    lost_at = surface_losses(points, start)
+    if log:
+        for row, name in itertools.zip_longest(lost_at, labels):
+            below.plot(x, row, label=name)
+    elif lost_at:
+        below.stackplot(x, lost_at, labels=labels)
     _dress(below, "", over, "lost at each surface, % of the beam")
-    handles, labels = below.get_legend_handles_labels()
-    if labels:
-        _legend(below, handles[::-1], labels[::-1])  # in the order in which the areas stand, the last on top
     for axes in (above, below):
-        axes.set_ylim(bottom=0)
+        _refused(axes, points)
+        if log:
+            axes.set_yscale("log", nonpositive="mask")
+            _plain(axes.yaxis)
+        else:
+            axes.set_ylim(bottom=0)
         axes.margins(x=0)
+        handles, found = axes.get_legend_handles_labels()
+        if found:  # those of areas in the order in which they stand, the last on top
+            turned = -1 if axes is below and not log else 1
+            _legend(axes, handles[::turned], found[::turned])
+    return figure
+
+
+def _plain(axis: Any) -> None:
+    """Percentages on a logarithmic axis as they are, not as powers of ten."""
+    from matplotlib.ticker import LogFormatter
+
+    axis.set_major_formatter("{x:g}")
+    axis.set_minor_formatter(LogFormatter(labelOnlyBase=False, minor_thresholds=(1, 0.5)))
+
+
+def _refused(axes: Any, points: list[Point]) -> None:
+    """Grey where points were refused, half way to the next ones that were not."""
+    for count, (low, high) in enumerate(refused_spans(points)):
+        axes.axvspan(low, high, facecolor="#e6e6e6", hatch="//", edgecolor="#bbbbbb", linewidth=0, label=None if count else "refused", zorder=0)
+
+
+def refused_spans(points: list[Point]) -> list[tuple[float, float]]:
+    x = [point.at for point in points]
+    edges = [x[0], *((one + two) / 2 for one, two in zip(x, x[1:])), x[-1]]
+    return [(edges[i], edges[i + 1]) for i, point in enumerate(points) if point.refused]
+
+
+def sweep_map(degrees: Sequence[float], nanometres: Sequence[float], points: list[list[Point]], title: str, about: str = "", log: bool = False) -> Figure:
+    """What is lost over the wavelength and the angle, as colours; grey where points were refused."""
+    from matplotlib.colors import LogNorm
+
+    figure = _figure(4.8)
+    axes = figure.subplots()
+    axes.set_facecolor("#d0d0d0")
+    lost = [[math.nan if one.lost_percent is None else one.lost_percent for one in row] for row in points]
+    good = [x for row in lost for x in row if x > 0]
+    scale = {"norm": LogNorm(min(good), max(good))} if log and good else {}
+    drawn = axes.pcolormesh(list(nanometres), list(degrees), lost, shading="nearest", cmap="viridis", **scale)
+    figure.colorbar(drawn, ax=axes, label="lost, % of the beam")
+    _dress(axes, "\n".join(filter(None, [title, about])), "wavelength, nm", "angle, degrees")
+    axes.grid(False)
+    if any(one.refused for row in points for one in row):
+        from matplotlib.patches import Patch
+
+        axes.legend(handles=[Patch(color="#d0d0d0", label="refused")], loc="upper right", fontsize=8)
     return figure
 
 
@@ -83,16 +135,12 @@ def _legend(axes: Any, handles: list[Any], labels: list[str]) -> None:
 
 def surface_losses(points: list[Point], start: tuple[float, float]) -> list[list[float]]:
     """For each surface what it loses at each point, in percent of the beam; NaN where a point was refused."""
-    whole, count = start[0] + start[1], max((len(point.after) for point in points), default=0)
-    rows: list[list[float]] = [[] for _ in range(count)]
-    for point in points:
-        sums = [whole] + [s + p for s, p in point.after]
-        for i, row in enumerate(rows):
-            row.append(100 * (sums[i] - sums[i + 1]) / whole if point.after and whole else math.nan)
-    return rows
+    count = max((len(point.after) for point in points), default=0)
+    columns = [lost_at_each(point, sum(start)) or [None] * count for point in points]
+    return [[math.nan if x is None else x for x in row] for row in zip(*columns)]
 
 
-def losses(found: Losses, title: str) -> Figure:
+def losses(found: Losses, title: str, about: str = "", log: bool = False) -> Figure:
     """For each surface, from the first on top, what it loses of s and of p."""
     figure = _figure(1.6 + 0.45 * max(len(found.surfaces), 2))
     axes = figure.subplots()
@@ -100,12 +148,36 @@ def losses(found: Losses, title: str) -> Figure:
     for shift, label, colour, key in [(-0.2, "s", S, "s_lost_percent"), (0.2, "p", P, "p_lost_percent")]:
         lost = [getattr(one, key) for one in found.surfaces]
         bars = axes.barh([place + shift for place in places], [x or 0.0 for x in lost], height=0.38, color=colour, label=label)
-        axes.bar_label(bars, labels=[" -" if x is None else f" {x:.2f}" for x in lost], fontsize=8)
+        axes.bar_label(bars, labels=[" -" if x is None else f" {x:.2g}" if log else f" {x:.2f}" for x in lost], fontsize=8)
     axes.set_yticks(list(places), [f"{one.number}: {one.surface}" for one in found.surfaces], fontsize=8)
     axes.invert_yaxis()
-    _dress(axes, title, "lost, % of what came to the surface", "")
+    _dress(axes, "\n".join(filter(None, [title, about])), "lost, % of what came to the surface", "")
+    if log:
+        axes.set_xscale("log", nonpositive="clip")
+        _plain(axes.xaxis)
     axes.margins(x=0.12)
     _legend(axes, *axes.get_legend_handles_labels())
+    return figure
+
+
+def tolerance(found: Tolerance, start: tuple[float, float], title: str, about: str) -> Figure:
+    """Above how often which loss is drawn, the design's own dashed; below what one per cent of each layer does to the loss."""
+    figure = _figure(6.4)
+    above, below = figure.subplots(2, 1)
+    lefts = {"s": [one.s for one in found.draws], "p": [one.p for one in found.draws], "both": [one.s + one.p for one in found.draws]}
+    wholes = {"s": start[0], "p": start[1], "both": sum(start)}
+    for one in found.spreads:
+        colour = {"s": S, "p": P, "both": BOTH}[one.of]
+        above.hist([100 * (1 - left / wholes[one.of]) for left in lefts[one.of]], bins=40, histtype="step", color=colour, label=one.of)
+        above.axvline(one.designed, color=colour, linestyle="--", linewidth=1)
+    _dress(above, f"{title}\n{about}", "lost, % of each; dashed as designed", "draws")
+    _legend(above, *above.get_legend_handles_labels())
+    places = range(len(found.weights))
+    for shift, label, colour, key in [(-0.2, "index", "#227755", "index_more"), (0.2, "thickness", "#aa7700", "thickness_more")]:
+        below.bar([place + shift for place in places], [getattr(one, key) or 0.0 for one in found.weights], width=0.38, color=colour, label=f"{label} + 1 %")
+    below.set_xticks(list(places), [f"{one.surface}.{one.layer}" for one in found.weights], rotation=90, fontsize=7)
+    _dress(below, "", "surface and layer", "change of what is lost, %")
+    _legend(below, *below.get_legend_handles_labels())
     return figure
 
 
@@ -133,14 +205,20 @@ def band(lines: list[tuple[float, int, int]], each: list[tuple[float, float]], m
     return figure
 
 
-def save(figure: Figure, name: str) -> None:
+def save(figure: Figure, name: str, dpi: int = 100) -> None:
     """Writes a picture; the same figure gives the same file."""
+    try:
+        Path(name).write_bytes(drawn(figure, Path(name).suffix.lower(), dpi))
+    except OSError as error:
+        raise Failed(f"{name} cannot be written: {error.strerror}") from None
+
+
+def drawn(figure: Figure, ending: str, dpi: int = 100) -> bytes:
+    """A picture's bytes, by the ending of its file."""
     import matplotlib
 
-    ending = Path(name).suffix.lower()
     undated: dict[str, Any] = {".svg": {"Date": None}, ".pdf": {"CreationDate": None}, ".png": {"Software": None}}[ending]
+    out = io.BytesIO()
     with matplotlib.rc_context({"svg.hashsalt": "dihkelu"}):
-        try:
-            figure.savefig(name, dpi=100, metadata=undated)
-        except OSError as error:
-            raise Failed(f"{name} cannot be written: {error.strerror}") from None
+        figure.savefig(out, format=ending[1:], dpi=dpi, metadata=undated)
+    return out.getvalue()

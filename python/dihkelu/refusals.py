@@ -20,8 +20,23 @@ class Refused(Exception):
 
 
 class InvalidParameter(Refused):
-    sentence = "an argument is none that the call takes: an index, a wavelength, a code, or a count of numbers"
+    """`argument` is the name of the one that earned it, where it is known."""
+
     of = 1
+
+    def __init__(self, number: int, place: int, call: str = "", argument: str = ""):
+        super().__init__(number, place, call)
+        self.argument = argument
+
+    @property
+    def sentence(self) -> str:  # type: ignore[override]
+        if not self.argument:
+            return "an argument is none that the call takes: an index, a wavelength, a code, or a count of numbers"
+        if self.argument == "code":
+            return "there is no coating of this code; the codes are 1 to 8"
+        if self.argument in ("field", "beam", "jones", "matrix", "left", "right"):
+            return f"{self.argument} has not as many numbers as the call takes"
+        return f"{self.argument} is not finite" + ("" if self.argument == "angle_rad" else " and above zero")
 
 
 class NameRefused(Refused):

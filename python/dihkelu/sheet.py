@@ -140,7 +140,7 @@ def _number(x: Any) -> float:
     if not isinstance(x, str):
         return float(x)
     if len(x) == 16 and "." not in x and "x" not in x:
-        return struct.unpack(">d", bytes.fromhex(x))[0]
+        return float(struct.unpack(">d", bytes.fromhex(x))[0])
     return float.fromhex(x)
 
 
@@ -184,13 +184,15 @@ class _Reader:
                 _, payload, floats = self.block(3)
             if payload > 15:
                 raise NotASheet(f"word {begun} is out of grammar", begun)
-            layers = []
+            layers: list[Union[Layer, Glass]] = []
             while self.peek() in (4, 6):
                 kind, _, numbers = self.block(4, 6)
                 layers.append(Glass(*numbers) if kind == 6 else Layer(*numbers))
-            surfaces.append(Surface(Coating(payload // 2), *floats, reflected=payload % 2 == 1, layers=tuple(layers), retune_nm=retune))
+            n0, n1, angle = floats
+            surfaces.append(Surface(Coating(payload // 2), n0, n1, angle, payload % 2 == 1, tuple(layers), retune))
         begun = self.at
         _, count, _ = self.block(5)
         if count != len(surfaces) or 4 * self.at != len(self.data):
             raise NotASheet(f"word {begun} is no end of {len(surfaces)} surfaces", begun)
-        return Sheet(*beam, surfaces=tuple(surfaces), edition=edition)
+        nm, s, p = beam
+        return Sheet(nm, s, p, tuple(surfaces), edition)

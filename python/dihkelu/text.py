@@ -6,14 +6,14 @@ from __future__ import annotations
 
 import math
 import re
-from typing import Iterator, Union
+from typing import Any, Iterator, Union
 
 from . import glasses
 from .calls import stack
-from .plans import COATINGS, DIRECTIONS, MOST_LAYERS, MOST_SURFACES, Face, Film, Index, Material, Plan, film, index_at, met
+from .plans import COATINGS, DIRECTIONS, MOST_ALONE, MOST_LAYERS, MOST_SURFACES, Face, Film, Index, Material, Plan, Tabled, film, index_at, met
 from .refusals import NoStack, Refused, StackTooLong
 from .sheet import Coating, Glass, Layer, Sheet
-from .words import Wrong, number, written
+from .words import UNITS, Wrong, apart, number, quoted, suggested, unit, written
 
 EDITION_FORM = "edition 1|2"
 BEAM_FORM = "beam NUMBER nm|um s NUMBER p NUMBER"
@@ -22,13 +22,13 @@ WINDOW_FORM = "window INDEX at NUMBER deg|rad [in INDEX]"
 FACE_FORM = "front|back|both COATING"
 LAYER_FORM = "layer INDEX thickness NUMBER nm|um [k NUMBER]"
 QUARTER_FORM = "layer INDEX quarter-waves NUMBER at NUMBER nm|um"
-MATERIAL_FORM = "material NAME a NUMBER b NUMBER c NUMBER"
+MATERIAL_FORM = "material NAME a NUMBER b NUMBER c NUMBER [k NUMBER]"
+POINT_FORM = "material NAME at NUMBER nm|um n NUMBER k NUMBER"
 GLASS_FORM = "glass a NUMBER b NUMBER c NUMBER thickness NUMBER nm|um"
 RETUNE_FORM = "retune to NUMBER nm|um"
 STACK_FORM = "stack TEXT with H INDEX L INDEX [M INDEX] at NUMBER nm|um"
 BAND_FORM = "NUMBER nm|um weight NUMBER"
 HEADS = "edition, material, beam, retune, surface, window, front, back, both, layer, glass, stack"
-UNITS = {"nm": 1.0, "um": 1000.0, "deg": math.pi / 180, "rad": 1.0}
 WHAT = {"transmitted": "direction", "1": "edition", "front": "face"}  # what alternatives are; else units
 
 
@@ -38,41 +38,43 @@ Materials = dict[str, Index]  # of the text, by their names
 
 
 def choice(token: str, names: list[str], what: str) -> int:
-    if token.lower() not in names:
-        raise Wrong(f"there is no {what} '{token}'; there are {', '.join(names)}")
-    return names.index(token.lower())
+    word = unit(token) if what == "unit" else token.lower()
+    if word not in names:
+        raise Wrong(f"there is no {what} {quoted(token)}{suggested(token, names) if what == 'coating' else ''}; there are {', '.join(names)}")
+    return names.index(word)
 
 
 def index(token: str, materials: Materials = {}) -> Index:
     """A number, the name of a material of the text, or that of a glass."""
-    if re.match(r"[+-]?\.?[0-9]", token):
+    if re.match(r"[+\u2212-]?[.,]?[0-9]", token):
         return Index(number(token))
     if token.lower() in materials:
         return materials[token.lower()]
     try:
         return Index(glass=glasses.glass(token))
     except glasses.UnknownGlass as wrong:
-        raise Wrong(f"'{token}' is no number; {wrong}" if "there is no glass" in str(wrong) else str(wrong)) from None
+        raise Wrong(f"{quoted(token)} is no number; {wrong}" if "there is no glass" in str(wrong) else str(wrong)) from None
 
 
 def name(token: str) -> str:
     """A name for a material of the text, in small letters."""
     if not re.fullmatch(r"[A-Za-z][A-Za-z0-9_.-]*", token):
-        raise Wrong(f"'{token}' is no name: a name is a letter, then letters, digits, '-', '_' and '.'")
-    if token.lower() in {*glasses.TABLE, *glasses.OTHER_NAMES}:
-        raise Wrong(f"'{token}' is a glass that has its name already")
+        raise Wrong(f"{quoted(token)} is no name: a name is a letter, then letters, digits, '-', '_' and '.'")
+    if glasses.is_named(token):
+        raise Wrong(f"{quoted(token)} is a glass that has its name already")
     return token.lower()
 
 
-def match(tokens: list[str], form: str, materials: Materials = {}) -> list:
+def match(tokens: list[str], form: str, materials: Materials = {}) -> list[Any]:
     """What stands at the places of NUMBER, INDEX, NAME, COATING and the alternatives of the form; its other words must stand there.
 
-    A NUMBER before a unit is in nanometres or radians."""
+    A NUMBER before a unit, which may stand right behind it, is in nanometres or radians."""
+    tokens = [word for token in tokens for word in apart(token)]
     optional = form.split(" [")
     wanted = optional[0].split()
     if len(optional) == 2 and len(tokens) > len(wanted):
         wanted += optional[1].rstrip("]").split()
-    found: list = []
+    found: list[Any] = []
     for place, want in enumerate(wanted):
         if place == len(tokens):
             raise Wrong(f"the line ends where {want} should stand: {form}")
@@ -93,9 +95,9 @@ def match(tokens: list[str], form: str, materials: Materials = {}) -> list:
             else:
                 found[-1] = in_unit(found[-1], names[chosen])
         elif token.lower() != want:
-            raise Wrong(f"'{token}' stands where '{want}' should: {form}")
+            raise Wrong(f"{quoted(token)} stands where '{want}' should: {form}")
     if len(tokens) > len(wanted):
-        raise Wrong(f"'{tokens[len(wanted)]}' is more than the line takes: {form}")
+        raise Wrong(f"{quoted(tokens[len(wanted)])} is more than the line takes: {form}")
     return found
 
 
@@ -107,18 +109,47 @@ def in_unit(x: float, unit: str) -> float:
 # ---- stacks
 
 
+SUPERSCRIPTS = "\u2070\u00b9\u00b2\u00b3\u2074\u2075\u2076\u2077\u2078\u2079"
+
+
+def plain_stack(text: str) -> str:
+    """A stack with powers that are written small and high as the library has them, behind ^."""
+    return re.sub(f"[{SUPERSCRIPTS}]+", lambda found: "^" + "".join(str(SUPERSCRIPTS.index(c)) for c in found[0]), text)
+
+
+def stack_hints(text: str) -> list[str]:
+    """A power that may have lost its place: a number behind a bracket belongs to the letter after it."""
+    found = re.search(r"(\([^()]*\))\s*([0-9]+)\s*([HLM])", text)
+    if not found:
+        return []
+    return [f"in {quoted(text)} the {found[2]} makes the {found[3]} behind it {found[2]} quarter waves thick; to repeat the bracket write {found[1]}^{found[2]}"]
+
+
 def stack_refused(text: str, refused: Refused) -> str:
     if isinstance(refused, StackTooLong):
-        return f"'{text}' has more than 64 layers"
+        return f"{quoted(text)} has more than 64 layers"
     if not isinstance(refused, NoStack):
         return "an index or the design wavelength is not positive and finite"
     data = text.encode()
     if len(data) > 255:
         return f"the stack has {len(data)} bytes; a stack has 255 at most"
     if refused.place == len(data):
-        return f"'{text}' stops early"
-    stands = data[refused.place :].decode("utf-8", "replace")[0]
-    return f"'{text}' is no stack: '{stands}' cannot stand at its byte {refused.place}, counted from 0"
+        return f"{quoted(text)} stops early"
+    return f"{quoted(text)} is no stack: {stack_wrong(data, refused.place)}"
+
+
+def stack_wrong(data: bytes, place: int) -> str:
+    """What stands at a byte where no stack can have it."""
+    digits = next((found for found in re.finditer(rb"[0-9]+", data) if found.start() <= place < found.end()), None)
+    if digits:
+        power = data[: digits.start()].rstrip().endswith(b"^")
+        limit = "a power is from 1 to 31" if power else "a number before a letter is from 1 to 99"
+        return f"{limit}, and {digits[0].decode()[:20]} is none, at its byte {place}, counted from 0"
+    stands = data[place:].decode("utf-8", "replace")[0]
+    before = data[:place]
+    deep = "; brackets stand within brackets at most four deep" if stands == "(" and before.count(b"(") - before.count(b")") >= 4 else ""
+    letters = "; its letters are H, L and M" if stands.isalpha() else ""
+    return f"{quoted(stands)} cannot stand at its byte {place}, counted from 0{deep}{letters}"
 
 
 def stack_films(text: str, letters: list[Index], design_nm: float, line: int | None) -> list[Film]:
@@ -131,7 +162,7 @@ def stack_films(text: str, letters: list[Index], design_nm: float, line: int | N
         raise Wrong(f"refused {refused.number} {refused.place}: {stack_refused(text, refused)}") from None
     except glasses.OutOfRange as wrong:
         raise Wrong(str(wrong)) from None
-    return [film(line, letters[int(name.n) - 1], 0.0, layer.thickness_nm) for layer, name in zip(layers, named)]
+    return [film(line, letters[int(name.n) - 1], None, layer.thickness_nm) for layer, name in zip(layers, named)]
 
 
 def stack_line(content: str, line: int, materials: Materials) -> list[Film]:
@@ -139,10 +170,10 @@ def stack_line(content: str, line: int, materials: Materials) -> list[Film]:
     parts = re.fullmatch(r"\s*stack\s+(.*\S)\s+with\s+(.*?)\s*", content, re.IGNORECASE)
     if not parts:
         raise Wrong(f"a stack has its text, the word with, and what the letters are: {STACK_FORM}")
-    text, tokens = parts[1], parts[2].split()
+    text, tokens = plain_stack(parts[1]), parts[2].split()
     with_m = len(tokens) > 4 and tokens[4].lower() == "m"
     if "M" in text and not with_m:
-        raise Wrong(f"M stands in '{text}' and has no index: {STACK_FORM}")
+        raise Wrong(f"M stands in {quoted(text)} and has no index: {STACK_FORM}")
     form = "h INDEX l INDEX m INDEX at NUMBER nm|um" if with_m else "h INDEX l INDEX at NUMBER nm|um"
     try:
         given = match(tokens, form, materials)
@@ -155,8 +186,8 @@ def layer_line(tokens: list[str], line: int, materials: Materials) -> Film:
     if len(tokens) > 2 and tokens[2].lower() == "quarter-waves":
         n, count, design = match(tokens, QUARTER_FORM, materials)
         (one,) = stack_films("H", [n, n, n], design, line)
-        return film(line, n, 0.0, count * one.thickness_nm)
-    n, thickness, k = (match(tokens, LAYER_FORM, materials) + [0.0])[:3]
+        return film(line, n, None, count * one.thickness_nm)
+    n, thickness, k = (match(tokens, LAYER_FORM, materials) + [None])[:3]
     return film(line, n, k, thickness)
 
 
@@ -166,8 +197,8 @@ def layer_line(tokens: list[str], line: int, materials: Materials) -> Film:
 class Reader:
     """Takes one line after the other."""
 
-    def __init__(self) -> None:
-        self.plan = Plan()
+    def __init__(self, most_layers: int = MOST_LAYERS) -> None:
+        self.plan, self.most_layers = Plan(), most_layers
         self.materials: Materials = {}
         self.waiting: tuple[float, int] | None = None  # a retune's wavelength and line, until its surface comes
         self.under: list[Face] = []  # the faces that a layer belongs to
@@ -180,9 +211,10 @@ class Reader:
         if head in ("surface", "window", "retune") and self.plan.beam_line is None:
             raise Wrong(f"a {head} before the beam")
         if head not in HEADS.split(", "):
-            raise Wrong(f"'{tokens[0]}' begins no line; a line begins with {HEADS} or #")
+            raise Wrong(f"{quoted(tokens[0])}{suggested(head, HEADS.split(', '))} begins no line; a line begins with {HEADS} or #")
         if head == "stack":
             self.add_films(stack_line(content, line, self.materials))
+            self.plan.hints += [f"line {line}: {hint}" for hint in stack_hints(re.sub(r"(?i)^\s*stack\s+|\s+with\s.*$", "", content))]
         elif head in ("front", "back", "both"):
             self.face(tokens)
         else:
@@ -232,13 +264,25 @@ class Reader:
 
     def glass(self, tokens: list[str], line: int) -> None:
         a, b, c, thickness = match(tokens, GLASS_FORM)
-        self.add_films([film(line, Index(glass=Material("", a, b, c)), 0.0, thickness)])
+        self.add_films([film(line, Index(glass=Material("", a, b, c)), None, thickness)])
 
     def material(self, tokens: list[str], line: int) -> None:
-        called, a, b, c = match(tokens, MATERIAL_FORM)
+        if len(tokens) > 2 and tokens[2].lower() == "at":
+            self.point(*match(tokens, POINT_FORM))
+            return
+        called, a, b, c, k = (match(tokens, MATERIAL_FORM) + [0.0])[:5]
         if called in self.materials:
             raise Wrong(f"there is a material '{called}' already")
-        self.materials[called] = Index(glass=Material(called, a, b, c))
+        self.materials[called] = Index(glass=Material(called, a, b, c, k))
+
+    def point(self, called: str, nm: float, n: float, k: float) -> None:
+        """A line of a material's table."""
+        table = self.materials.setdefault(called, Index(glass=Tabled(called))).glass
+        if not isinstance(table, Tabled):
+            raise Wrong(f"there is a material '{called}' with coefficients already")
+        if not (math.isfinite(nm) and math.isfinite(n) and math.isfinite(k)) or nm in (point[0] for point in table.points):
+            raise Wrong(f"the material '{called}' has a line for {written(nm)} nm already, or a number of this one is not finite")
+        table.points.append((nm, n, k))
 
     def add_faces(self, faces: list[Face]) -> None:
         if len(self.plan.faces) + len(faces) > MOST_SURFACES:
@@ -255,9 +299,12 @@ class Reader:
             raise Wrong("a layer stands only under a surface whose coating is custom")
         for face in self.under:
             total = len(face.films) + len(films)
-            if total > MOST_LAYERS:
-                raise Wrong(f"a surface has at most {MOST_LAYERS} layers" + (f"; with this stack it has {total}" if len(films) > 1 else ""))
+            if total > self.most_layers:
+                raise Wrong(f"a surface has at most {self.most_layers} layers" + (f"; with this stack it has {total}" if len(films) > 1 else "") + self.alone())
             face.films.extend(films)
+
+    def alone(self) -> str:
+        return "" if self.most_layers > MOST_LAYERS else f"; dihkelu evaluate takes {MOST_ALONE}, of a surface alone"
 
     def end(self) -> Plan:
         if self.plan.beam_line is None:
@@ -282,14 +329,19 @@ def without_mark(data: bytes) -> bytes:
 
 def is_text(data: bytes) -> bool:
     """A text is UTF-8 with hardly a control byte; a sheet begins with OPEN's byte 0x10 and is full of them."""
+    if data[:1] == b"\x10":
+        return False
     if is_utf_16(data):
         return True
-    controls = sum(byte < 32 and byte not in (9, 10, 13) for byte in data)
+    controls = len(data) - len(data.translate(None, CONTROLS))
     try:
         without_mark(data).decode("utf-8")
     except UnicodeDecodeError:
         return not controls
-    return data[:1] != b"\x10" and 8 * controls <= len(data)
+    return 8 * controls <= len(data)
+
+
+CONTROLS = bytes(byte for byte in range(32) if byte not in (9, 10, 13))
 
 
 def lines_of(data: bytes) -> Iterator[tuple[int, str]]:
@@ -306,9 +358,9 @@ def lines_of(data: bytes) -> Iterator[tuple[int, str]]:
             raise Wrong(f"line {line}: the byte 0x{content[error.start]:02X} is not UTF-8; save the text as UTF-8") from None
 
 
-def read(data: Union[str, bytes]) -> Plan:
-    """The plan of a text."""
-    reader, line = Reader(), 0
+def read(data: Union[str, bytes], most_layers: int = MOST_LAYERS) -> Plan:
+    """The plan of a text; its surfaces have at most so many layers."""
+    reader, line = Reader(most_layers), 0
     for line, content in lines_of(data.encode() if isinstance(data, str) else data):
         content = content.split("#")[0]
         try:

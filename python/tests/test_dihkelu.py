@@ -1,11 +1,12 @@
 """Tests of the package: python3 -m unittest discover -s python/tests (from the repository)."""
+import array
+import cmath
 import doctest
 import math
 import pathlib
 import random
 import struct
 import sys
-import types
 import unittest
 
 ROOT = pathlib.Path(__file__).resolve().parent.parent.parent
@@ -111,6 +112,16 @@ class Trains(unittest.TestCase):
             with self.assertRaises(dihkelu.NoSuchSurface):
                 train.step()
 
+    def test_run_each(self):
+        """Many sheets are what each is alone, refusals among them."""
+        sheets = [path.read_bytes() for path in sorted((ROOT / "examples").glob("*.sheet"))]
+        for data, found in zip(sheets, dihkelu.run_each(sheets)):
+            try:
+                self.assertEqual(found, dihkelu.run(data))
+            except dihkelu.Refused as refused:
+                self.assertEqual((type(found), found.args), (type(refused), refused.args))
+        self.assertEqual(dihkelu.run_each([BARE, BARE.to_bytes()]), [[(0.375, 0.375)]] * 2)
+
     def test_retune(self):
         train = dihkelu.Train(BARE)
         self.assertEqual(train.retune(632.8), 0)
@@ -161,6 +172,9 @@ class Refusals(unittest.TestCase):
             (dihkelu.OutOfGrammar, 5, 8, lambda: dihkelu.gate(out_of_grammar)),
             (dihkelu.OutsideLimits, 6, 1, lambda: dihkelu.run(outside)),
             (dihkelu.NoSuchSurface, 7, 0, lambda: dihkelu.answers(BARE, 1)),
+            (dihkelu.NoSuchSurface, 7, 0, lambda: dihkelu.answers(BARE, 1 << 32)),
+            (dihkelu.NoSuchSurface, 7, 0, lambda: dihkelu.answers_at(BARE, -1, 99.0)),
+            (dihkelu.WavelengthRefused, 11, 0, lambda: dihkelu.answers_at(BARE, 0, 99.0)),
             (dihkelu.NoStack, 9, 3, lambda: dihkelu.stack("H^32H", 2.3, 1.46)),
             (dihkelu.StackTooLong, 10, 0, lambda: dihkelu.stack("(H^31)^31", 2.3, 1.46)),
             (dihkelu.Retuned, 12, 8, lambda: dihkelu.edition_1(RETUNED)),
@@ -192,6 +206,23 @@ class Refusals(unittest.TestCase):
         self.assertIn(f"DIHKELU_VERSION 0x{dihkelu.library.VERSION:08x}u", header)
 
 
+def transfer_matrix(p, n0, n1, angle, nm, layers):
+    """r and t of s or p light: 2 x 2 matrices of interfaces and layers, one after the other."""
+    indices = [complex(n0), *(complex(n, k) for n, k, _ in layers), complex(n1)]
+    cosines = [cmath.sqrt(1 - (n0 * math.sin(angle) / n) ** 2) for n in indices]
+    whole = [[1, 0], [0, 1]]
+    for i in range(len(indices) - 1):
+        if i:
+            phase = 2 * math.pi * indices[i] * cosines[i] * layers[i - 1][2] / nm
+            whole = [[row[0] * cmath.exp(-1j * phase), row[1] * cmath.exp(1j * phase)] for row in whole]
+        a, b = indices[i] * cosines[i], indices[i + 1] * cosines[i + 1]
+        if p:
+            a, b = indices[i + 1] * cosines[i], indices[i] * cosines[i + 1]
+        r, t = (a - b) / (a + b), 2 * indices[i] * cosines[i] / (a + b)
+        whole = [[(x + y * r) / t, (x * r + y) / t] for x, y in whole]
+    return whole[1][0] / whole[0][0], 1 / whole[0][0]
+
+
 class Surfaces(unittest.TestCase):
     def test_answers(self):
         a = dihkelu.answers(BARE, 0)
@@ -202,6 +233,15 @@ class Surfaces(unittest.TestCase):
         self.assertEqual(a.reflectance_s, a.response.reflectance_s)
         self.assertEqual(a.jones_reflected[0][0], a.response.rs)
         self.assertEqual(dihkelu.to_mueller(a.jones_reflected), a.mueller_reflected)
+
+    def test_answers_after_a_retune(self):
+        glass = (Glass(2.2, 0.03, 0.001, 60.0),)
+        faces = [Surface(Coating.CUSTOM, 1.0, 1.5, 0.5, layers=glass), Surface(Coating.MGF2, 1.0, 1.52, 0.3, retune_nm=800.0)]
+        sheet = Sheet(550.0, 1.0, 1.0, tuple(faces), edition=2)
+        at = lambda nm: Sheet(nm, 1.0, 1.0, (faces[0],), edition=2)
+        self.assertEqual(dihkelu.answers_at(sheet, 0, 632.8), dihkelu.answers(at(632.8), 0))
+        self.assertNotEqual(dihkelu.answers_at(sheet, 0, 632.8), dihkelu.answers(sheet, 0))
+        self.assertEqual(dihkelu.answers_at(sheet, 1, 632.8), dihkelu.answers(sheet, 1))
 
     def test_lists(self):
         angles = [0.0, 0.25, 0.5]
@@ -227,21 +267,107 @@ class Surfaces(unittest.TestCase):
             self.assertEqual(dihkelu.invalid_argument(*good[:i], math.nan, *good[i + 1 :]), name)
         self.assertEqual(dihkelu.invalid_argument(1.0, 0.0, math.inf, -1.0), "n_substrate")
 
+    def test_layers_that_are_none(self):
+        """Pairs were flattened to other layers and answered."""
+        pairs = [(2.3, 115.6), (1.46, 182.2), (2.3, 115.6)]
+        for wrong, said in [
+            (pairs, r"layers\[0\] is \(2.3, 115.6\): a layer is a Layer, or three numbers"),
+            ([Layer(2.3, 0.0, 99.0), 1.5], r"layers\[1\] is 1.5: "),
+            ([(1.5, 0.0, "x")], r"layers\[0\] is "),
+            ([Glass(1.5, 0.0, 0.0, 99.0)], r"layers\[0\] is Glass"),
+        ]:
+            for at in (550.0, [550.0, 560.0]):
+                with self.assertRaisesRegex(ValueError, said):
+                    dihkelu.evaluate(dihkelu.LAYERS, 1.0, 1.52, 0.0, at, wrong)
+        triples = [(2.3, 0.0, 115.6), [1.46, 0.0, 182.2], Layer(2.3, 0, 115.6)]
+        self.assertEqual(dihkelu.evaluate(dihkelu.LAYERS, 1.0, 1.52, 0.0, 1064.0, triples), dihkelu.evaluate(dihkelu.LAYERS, 1.0, 1.52, 0.0, 1064.0, [Layer(2.3, 0.0, 115.6), Layer(1.46, 0.0, 182.2), Layer(2.3, 0.0, 115.6)]))
+
+    def test_whole_numbers_that_do_not_fit(self):
+        """2^32 + x was taken for x."""
+        with self.assertRaises(dihkelu.InvalidParameter):
+            dihkelu.evaluate((1 << 32) + 2, 1.0, 1.52, 0.0, 550.0)
+        with self.assertRaises(dihkelu.NoSuchSurface):
+            dihkelu.answers(BARE, 1 << 32)
+
+    def test_the_argument_is_named(self):
+        for call, name in [
+            (lambda: dihkelu.evaluate(9, 1.0, 1.5, 0.0, 550.0), "code"),
+            (lambda: dihkelu.evaluate(5, math.inf, 1.5, 0.0, 550.0), "n_incident"),
+            (lambda: dihkelu.evaluate(5, 1.0, [1.5, 0.0], 0.0, 550.0), "n_substrate"),
+            (lambda: dihkelu.evaluate(5, 1.0, 1.5, [0.0, math.nan], 550.0), "angle_rad"),
+            (lambda: dihkelu.evaluate(5, 1.0, 1.5, 0.0, [550.0, -1.0]), "wavelength_nm"),
+            (lambda: dihkelu.stack("H", 2.3, 1.46, -1.0), "n_m"),
+            (lambda: dihkelu.stack("H", 2.3, 1.46, design_wavelength_nm=0.0), "design_wavelength_nm"),
+            (lambda: dihkelu.surface_fresnel_jones(1.0, -1.5, 0.0), "n2"),
+            (lambda: dihkelu.jones_apply(((1, 0), (0, 1)), (1.0, 0.0, 0.0)), "field"),
+            (lambda: dihkelu.mueller_apply(((1, 0), (0, 1)), (1.0, 0.0, 0.0, 0.0)), "matrix"),
+        ]:
+            with self.subTest(name), self.assertRaises(dihkelu.InvalidParameter) as caught:
+                call()
+            self.assertEqual(caught.exception.argument, name)
+            self.assertIn(": there is no coating of this code" if name == "code" else f": {name} ", str(caught.exception))
+
+    def test_lists_of_indices(self):
+        n0, n1, angles, nm = [1.0, 1.0, 1.33, 1.0], [1.5, 1.5, 1.5, 1.6], [0.0, 0.1, 0.2, 0.3], [500.0, 550.0, 600.0, 650.0]
+        whole = dihkelu.evaluate(dihkelu.MGF2, n0, n1, angles, nm)
+        each = [dihkelu.evaluate(dihkelu.MGF2, *case) for case in zip(n0, n1, angles, nm)]
+        for name in vars(each[0]):
+            self.assertEqual(getattr(whole, name), [getattr(one, name) for one in each])
+        with self.assertRaisesRegex(ValueError, "unequal length: 4 of n_incident, 2 of wavelength_nm"):
+            dihkelu.evaluate(dihkelu.MGF2, n0, 1.5, 0.0, [500.0, 600.0])
+        with self.assertRaises(dihkelu.InvalidParameter) as caught:
+            dihkelu.evaluate(dihkelu.MGF2, n0, n1, angles, [500.0, 550.0, -1.0, 650.0])
+        self.assertEqual((caught.exception.place, caught.exception.argument), (2, "wavelength_nm"))
+
+    def test_buffers(self):
+        """Doubles of any holder: lent, copied from memory that is read only, or converted."""
+        nm = [500.0, 550.0, 600.0]
+        wanted = dihkelu.evaluate(dihkelu.MGF2, 1.0, 1.52, 0.1, nm)
+        doubles = array.array("d", nm)
+        strided = memoryview(array.array("d", [500.0, 1.0, 550.0, 1.0, 600.0]))[::2]
+        for given in (doubles, memoryview(doubles), memoryview(doubles.tobytes()).cast("d"), strided, array.array("f", nm), iter(nm), range(500, 601, 50)):
+            self.assertEqual(dihkelu.evaluate(dihkelu.MGF2, 1.0, 1.52, 0.1, given), wanted)
+        lent = dihkelu.calls._lent(doubles)
+        doubles[0] = 7.0
+        self.assertEqual(lent[0], 7.0)
+
     def test_arrays(self):
         try:
             import numpy
         except ImportError:
-            numpy = None
-        if numpy is None:  # a stand-in: what is asked of numpy is tolist, shape and array
-            stand_in = types.ModuleType("numpy")
-            stand_in.array = lambda x: Array(x)
-            sys.modules["numpy"] = stand_in
-            self.addCleanup(sys.modules.pop, "numpy")
-            numpy = stand_in
-        angles = numpy.array([0.0, 0.25, 0.5])
-        found = dihkelu.evaluate(dihkelu.MGF2, 1.0, 1.52, angles, 550.0).reflectance_s
-        self.assertEqual(found.shape, (3,))
-        self.assertEqual(found.tolist(), dihkelu.evaluate(dihkelu.MGF2, 1.0, 1.52, [0.0, 0.25, 0.5], 550.0).reflectance_s)
+            self.skipTest("numpy is not installed for this Python")
+        angles, nm = numpy.array([0.0, 0.25, 0.5]), numpy.array([500.0, 600.0])
+        found = dihkelu.evaluate(dihkelu.MGF2, 1.0, 1.52, angles, 550.0)
+        lists = dihkelu.evaluate(dihkelu.MGF2, 1.0, 1.52, angles.tolist(), 550.0)
+        for name in vars(dihkelu.evaluate(dihkelu.MGF2, 1.0, 1.52, 0.0, 550.0)):
+            self.assertEqual(getattr(found, name).tolist(), getattr(lists, name))
+        grid = dihkelu.evaluate(dihkelu.MGF2, 1.0, numpy.array([1.5, 1.6])[:, None, None], angles[:, None], nm)
+        self.assertEqual((grid.ts.shape, grid.ts.dtype), ((2, 3, 2), complex))
+        self.assertEqual(grid.phase_rp_rad[1, 2, 0], dihkelu.evaluate(dihkelu.MGF2, 1.0, 1.6, 0.5, 500.0).phase_rp_rad)
+        frozen = angles.copy()
+        frozen.flags.writeable = False
+        for same in (angles.astype(">f8"), frozen, numpy.stack([angles, nm[[0, 0, 0]]], 1)[:, 0]):
+            self.assertEqual(dihkelu.evaluate(dihkelu.MGF2, 1.0, 1.52, same, 550.0).rs.tolist(), lists.rs)
+        rows = numpy.array([[2.3, 0.0, 115.6], [1.46, 0.0, 182.2]])
+        for layers in (rows, numpy.asfortranarray(rows), rows.astype("f4").astype(float), rows[::-1][::-1]):
+            one = dihkelu.evaluate(dihkelu.LAYERS, 1.0, 1.52, 0.0, numpy.float64(1064.0), layers)
+            self.assertAlmostEqual(one.reflectance_s, dihkelu.evaluate(dihkelu.LAYERS, 1.0, 1.52, 0.0, 1064.0, rows.tolist()).reflectance_s, places=6)
+        for wrong in (rows[:, :2], rows.ravel()):
+            with self.assertRaisesRegex(ValueError, "layers is an array of shape"):
+                dihkelu.evaluate(dihkelu.LAYERS, 1.0, 1.52, 0.0, 1064.0, wrong)
+
+    def test_beside_tmm(self):
+        """The README's table, against a transfer-matrix code with the conventions of the package tmm: n + ik, fields as e^(-iwt)."""
+        rng = random.Random(3)
+        for _ in range(50):
+            n0, n1, angle, nm = rng.uniform(1, 1.4), rng.uniform(1.4, 2), rng.uniform(0, 1.2), rng.uniform(400, 1200)
+            layers = [(rng.uniform(0.2, 3), rng.choice([0.0, rng.uniform(0, 4)]), rng.uniform(5, 200)) for _ in range(rng.randrange(1, 6))]
+            found = dihkelu.evaluate(dihkelu.LAYERS, n0, n1, angle, nm, layers)
+            cosines = cmath.sqrt(1 - (n0 * math.sin(angle) / n1) ** 2) / math.cos(angle)
+            (rs, ts), (rp, tp) = (transfer_matrix(p, n0, n1, angle, nm, layers) for p in (False, True))
+            for mine, theirs in [(found.rs, rs.conjugate()), (found.rp, -rp.conjugate()), (found.ts, ts.conjugate()), (found.tp, tp.conjugate() * cosines)]:
+                self.assertAlmostEqual(mine, theirs, delta=1e-9)
+            self.assertAlmostEqual(found.reflectance_p, abs(rp) ** 2, delta=1e-9)
 
     def test_fresnel(self):
         self.assertEqual(dihkelu.fresnel_dielectric(1.0, 1.0, 3.0), (0.25, 0.25))
@@ -262,6 +388,10 @@ class Surfaces(unittest.TestCase):
             self.assertEqual(dihkelu.coating_name(code), name)
             self.assertEqual(dihkelu.coating_from_name(name), code)
         self.assertEqual([dihkelu.coating_name(code) for code in range(5, 9)], ["CUSTOM"] * 4)
+        for name in ("", " ", " \t\n\v\f\r MgF2 \r", "a b", "\x00 \x1f", "\xa0AR\x85", b"\xff \x80 "):
+            data = name.encode() if isinstance(name, str) else name
+            part = data.strip(b"\t\n\v\f\r ")
+            self.assertEqual(dihkelu.trim(name), (data.index(part), part))
 
     def test_polarization(self):
         self.assertEqual(dihkelu.to_stokes((1.0, 1j)), (2.0, 0.0, 0.0, 2.0))
@@ -296,17 +426,6 @@ class Surfaces(unittest.TestCase):
         self.assertEqual(dihkelu.quarter_waves(2.3, 250.0, 1064.0)[0], 2)
         self.assertTrue(dihkelu.environment_ok())
         self.assertEqual(dihkelu.version(), (dihkelu.library.VERSION >> 16, dihkelu.library.VERSION & 0xFFFF))
-
-
-class Array(list):
-    """A stand-in for an array of numpy's."""
-
-    @property
-    def shape(self):
-        return (len(self),)
-
-    def tolist(self):
-        return list(self)
 
 
 if __name__ == "__main__":

@@ -5,7 +5,7 @@ import struct
 import unittest
 
 from common import ROOT, build_train, train
-from dihkelu import Coating, Glass, Layer, Sheet, Surface, explain, glasses, plans, reports, run, stack, text
+from dihkelu import Coating, Glass, Layer, Sheet, Surface, angles, explain, glasses, plans, reports, run, stack, text
 
 BEAM = "beam 1064 nm s 0.5 p 0.5\n"
 
@@ -57,6 +57,17 @@ class Glasses(unittest.TestCase):
                 glasses.glass(name)
 
 
+class Angles(unittest.TestCase):
+    def test_beside_the_system(self):
+        """The library's sine and arcsine, which the angle inside a window is worked out with, beside the system's."""
+        rng = random.Random(5)
+        for x in [0.0, 1.0, -1.0, *(rng.uniform(-1.3, 1.3) for _ in range(1000))]:
+            self.assertAlmostEqual(angles.sine(x), math.sin(x), delta=3e-16)
+            self.assertAlmostEqual(angles.arcsine(0.75 * x), math.asin(0.75 * x), delta=2e-15)
+        self.assertEqual(angles.sine(5e-324), 5e-324)
+        self.assertTrue(math.isnan(angles.sine(1e308)))
+
+
 class Windows(unittest.TestCase):
     def test_two_faces_by_hand(self):
         inner = math.asin(math.sin(math.radians(30)) / 1.5)
@@ -84,7 +95,7 @@ class Windows(unittest.TestCase):
         n = glasses.glass("fused-silica").index(532)
         self.assertEqual(other.sheet.wavelength_nm, 532.0)
         self.assertEqual(other.sheet.surfaces[0].n_substrate, n)
-        self.assertEqual(other.sheet.surfaces[1].angle_rad, math.asin(math.sin(0.25) / n))
+        self.assertAlmostEqual(other.sheet.surfaces[1].angle_rad, math.asin(math.sin(0.25) / n), delta=1e-15)
         # the layer was made at 1064 nm: its thickness stays, its index follows
         thickness = 1064 / (4 * glasses.glass("fused-silica").index(1064))
         self.assertEqual(other.sheet.surfaces[0].layers, (Layer(n, 0.0, thickness),))
@@ -96,6 +107,72 @@ class Windows(unittest.TestCase):
             "line 2: inside the window the light is at 20.1766 deg, by Snell's law",
         ])
         self.assertEqual(made(BEAM + "surface bare transmitted from 1 to 1.5 at 0 deg\n").notes, [])
+
+    def test_as_people_write(self):
+        """A comma, a unit without a space, signs for micrometres and degrees, names with hyphens and without."""
+        plain = made("beam 1064 nm s 0.5 p 0.5\nwindow n-bk7 at 8.5 deg\nboth custom\nlayer n-bk7 thickness 100 nm\n").sheet
+        for content in [
+            "beam 1064nm s 0,5 p ,5\nwindow BK-7 at 8,5\u00b0\nboth custom\nlayer NBK7 thickness 0,1\u00b5m\n",
+            "beam 1.064um s .5 p 5e-1\nwindow N-BK7 at 8.5deg\nboth custom\nlayer bk7 thickness 0.1 \u03bcm\n",
+            "beam 1,064e3 nm s 0,5 p 0,5\nwindow N_BK7 at 8.5 degrees\nboth custom\nlayer bk7 thickness 100NM\n",
+        ]:
+            self.assertEqual(made(content).sheet, plain)
+        self.assertEqual(made(BEAM + "surface bare transmitted from 1 to 1.5 at \u22128\u00b0\n").sheet.surfaces[0].angle_rad, -8 * (math.pi / 180))
+        for content, said in [
+            ("beam 1,064 nm s 1 p 0\n", "line 1: '1,064' may be 1.064 or 1064: write one of these"),
+            (BEAM + "window fusedsilca at 0 deg\n", "line 2: 'fusedsilca' is no number; there is no glass 'fusedsilca' (did you mean fused-silica or silica?); there are"),
+            (BEAM + "windw 1.5 at 0 deg\n", "line 2: 'windw' (did you mean window?) begins no line; "),
+            (BEAM + "window 1.5 at 0 deg\nboth miror\n", "line 3: there is no coating 'miror' (did you mean mirror?); there are "),
+            (BEAM + "x" * 5000 + "\n", "line 2: '" + "x" * 58 + "..' begins no line; "),
+            (BEAM + "window " + "y" * 5000 + " at 0 deg\n", "line 2: '" + "y" * 58 + "..' is no number; there is no glass '" + "y" * 58 + "..'; "),
+        ]:
+            with self.subTest(said), self.assertRaises(text.Wrong) as caught:
+                made(content)
+            self.assertTrue(str(caught.exception).startswith(said), str(caught.exception))
+
+    def test_hints_of_numbers(self):
+        """A beam of more than itself, radians that are degrees, a power that has lost its place."""
+        bare = "surface bare transmitted from 1 to 1.5 at {}\n"
+        for content, said in [
+            ("beam 1064 nm s 1 p 1\n", ["the beam (line 1) has s 1 and p 1, 2 in all; they are shares of one beam, such as s 0.5 p 0.5"]),
+            ("beam 1064 nm s 0.1 p 0.9\n", []),
+            (BEAM + bare.format("45 rad"), ["surface 1 (line 2) is at 45 rad, 2578.31 deg, more than a right angle; where degrees are meant write deg"]),
+            (BEAM + bare.format("45 deg"), []),
+            (BEAM + bare.format("1e9 rad"), ["surface 1 (line 2) is at 1000000000 rad, beyond 2^20, where the library's sine and cosine drift away from the angle's; give it without whole turns"]),
+            (BEAM + "surface custom reflected from 1 to 1.5 at 0 deg\nstack (HL)7 H with H 2.3 L 1.46 at 1064 nm\n",
+             ["line 3: in '(HL)7 H' the 7 makes the H behind it 7 quarter waves thick; to repeat the bracket write (HL)^7"]),
+            (BEAM + "surface custom reflected from 1 to 1.5 at 0 deg\nstack (HL)^7 2H with H 2.3 L 1.46 at 1064 nm\n", []),
+        ]:
+            self.assertEqual(reports.hints(made(content)), said)
+
+    def test_hint_of_passes(self):
+        """Against the sum of all passes, term by term, of a bare plate by Fresnel's formula."""
+        n, outer = 1.5, math.radians(60)
+        inner = math.asin(math.sin(outer) / n)
+        rs = ((math.cos(outer) - n * math.cos(inner)) / (math.cos(outer) + n * math.cos(inner))) ** 2
+        rp = ((n * math.cos(outer) - math.cos(inner)) / (n * math.cos(outer) + math.cos(inner))) ** 2
+        more = [sum(r ** (2 * k) for k in range(1, 60)) for r in (rs, rp)]
+        (said,) = reports.hints(made(BEAM + "window 1.5 at 60 deg\n"))
+        self.assertIn(f"would add {100 * more[0]:.2g} % to s and {100 * more[1]:.2g} % to p", said)
+        self.assertEqual(reports.hints(made(BEAM + "window 1.5 at 30 deg\n")), [])
+        film = "both custom\nlayer 0.26 thickness 2 nm k 6.97\n"
+        self.assertEqual(reports.hints(made(BEAM + "window 3 at 0 deg\n" + film)), [])  # what is not transmitted may stay in the film
+
+    def test_hint_of_resonance(self):
+        """Two mirrors with a thick layer between: what the hint says one part in 10^12 does, it does."""
+        mirrors = "surface custom transmitted from 1 to 1 at 0 deg\nstack (HL)^3 H with H 4 L 1 at 500 nm\nlayer 1 thickness 100 um\nstack H (LH)^3 with H 4 L 1 at 500 nm\n"
+        nm = 500 * (1 + 1e-8)  # on the flank of a line at 500 nm
+        (hint,) = reports.hints(made(f"beam {nm!r} nm s 1 p 0\n" + mirrors))
+        said = float(hint.split("changes a power by ")[1].split(":")[0])
+        moved = [run(made(f"beam {nm * (1 + h)!r} nm s 1 p 0\n" + mirrors).sheet)[0][0] for h in (-1e-12, 1e-12)]
+        self.assertAlmostEqual(abs(moved[1] - moved[0]) / 2, said, delta=0.05 * said)
+        self.assertEqual(reports.hints(made(BEAM + "surface custom reflected from 1 to 1.5 at 0 deg\nstack (HL)^7 H with H 2.3 L 1.46 at 1064 nm\n")), [])
+
+    def test_hint_of_coefficients(self):
+        big = "surface custom transmitted from 1 to 1.5 at 0 deg\nglass a {} b {} c 0 thickness 90 nm\n"
+        (said,) = reports.hints(made("beam 1000 nm s 1 p 0\n" + big.format("-999999998.5", "1e9")))
+        self.assertEqual(said, "surface 1 (line 2) has a glass whose coefficients add up from 2e+09 at 1000 nm: they cancel, so that rounding may show in the index; give it as a number")
+        self.assertEqual(reports.hints(made("beam 1000 nm s 1 p 0\n" + big.format("1.5", "0.01"))), [])
 
     def test_hints(self):
         self.assertEqual(explain.hints(made(BEAM + "window 1.5 at 61 deg\nwindow 1.6 at 0 deg\n")), [])
@@ -170,12 +247,59 @@ class Layers(unittest.TestCase):
             (2 * tantala, "line 2: there is a material 'ta2o5' already"),
             ("material bk7 a 1 b 0 c 0\n", "line 1: 'bk7' is a glass that has its name already"),
             ("material 2x a 1 b 0 c 0\n", "line 1: '2x' is no name: a name is a letter, then letters, digits, '-', '_' and '.'"),
-            (tantala + self.CUSTOM + "layer ta2o5 thickness 80 nm k 1\n", "line 4: a layer of a material with coefficients has no k; this has 1"),
+            (tantala + self.CUSTOM + "layer ta2o5 thickness 80 nm k 1\n", "line 4: a layer of a material has the k of its material; this has 1 too"),
             ("edition 1\n" + tantala + self.CUSTOM + "layer ta2o5 thickness 80 nm\n", "line 5: a glass stands only in a sheet of edition 2"),
         ]:
             with self.subTest(said), self.assertRaises(text.Wrong) as caught:
                 made(content)
             self.assertEqual(str(caught.exception), said)
+
+    def test_stacks_as_people_write(self):
+        mirror = self.layers("stack (HL)^7 H with H 2.3 L 1.46 at 1064 nm\n")
+        self.assertEqual(self.layers("stack (HL)\u2077 H with H 2,3 L 1,46 at 1.064um\n"), mirror)
+        self.assertEqual(self.layers("stack H\u00b9\u2070 with H 2.3 L 1.46 at 1064 nm\n"), [mirror[0]] * 10)
+        for content, said in [
+            ("H^32", "refused 9 3: 'H^32' is no stack: a power is from 1 to 31, and 32 is none, at its byte 3, counted from 0"),
+            ("100H", "refused 9 2: '100H' is no stack: a number before a letter is from 1 to 99, and 100 is none, at its byte 2, counted from 0"),
+            ("(((((H)))))", "refused 9 4: '(((((H)))))' is no stack: '(' cannot stand at its byte 4, counted from 0; brackets stand within brackets at most four deep"),
+            ("hl", "refused 9 0: 'hl' is no stack: 'h' cannot stand at its byte 0, counted from 0; its letters are H, L and M"),
+        ]:
+            with self.subTest(content), self.assertRaises(text.Wrong) as caught:
+                self.layers(f"stack {content} with H 2.3 L 1.46 at 1064 nm\n")
+            self.assertEqual(str(caught.exception), "line 3: " + said)
+
+    def test_tables(self):
+        """n and k over the wavelength, in a straight line between two lines, refused beyond them."""
+        gold = "material gold at 1064 nm n 0.26 k 6.97\nmaterial gold at 0.532 um n 0.54 k 2.23\n"
+        film = "surface custom reflected from 1 to 1.5 at 0 deg\nlayer gold thickness 80 nm\n"
+        plan = text.read(gold + BEAM + film)
+        self.assertEqual(plan.make().sheet.surfaces[0].layers, (Layer(0.26, 6.97, 80.0),))
+        self.assertEqual(plan.make(532.0).sheet.surfaces[0].layers, (Layer(0.54, 2.23, 80.0),))
+        (half,) = plan.make(798.0).sheet.surfaces[0].layers
+        self.assertEqual((round(half.n, 12), round(half.k, 12)), (0.4, 4.6))
+        self.assertEqual(plan.make().notes, ["gold has n 0.26 and k 6.97 at 1064 nm, by its lines in the text"])
+        self.assertEqual(reports.hints(plan.make(532.0)), [])
+        self.assertEqual(plan.make().sheet.to_bytes()[:4].hex(), "10000001")
+        (one,) = made("material dye a 1.6 b 0.01 c 0 k 0.02\n" + BEAM + "surface custom transmitted from 1 to 1.5 at 0 deg\nlayer dye thickness 80 nm\n").sheet.surfaces[0].layers
+        self.assertEqual(one, Layer(plans.cauchy(1.6, 0.01, 0.0, 1064.0), 0.02, 80.0))
+        for content, nm, said in [
+            (gold + BEAM + film, 1100.0, "line 4: gold is known from 532 to 1064 nm by its lines in the text; the wavelength is 1100 nm: add a line for it"),
+            (gold[: gold.index("\n") + 1] + BEAM + film, 1063.0, "line 3: gold is known at 1064 nm by its lines in the text; the wavelength is 1063 nm: add a line for it"),
+            (2 * gold + BEAM, None, "line 3: the material 'gold' has a line for 1064 nm already, or a number of this one is not finite"),
+            ("material gold a 1 b 0 c 0\n" + gold + BEAM, None, "line 2: there is a material 'gold' with coefficients already"),
+            (gold + BEAM + "surface bare reflected from 1 to gold at 0 deg\n", None, "line 4: gold has k 6.97 at 1064 nm, and a surface lies between indices without k: make it a layer"),
+            (gold + BEAM + film.replace("nm", "nm k 1"), None, "line 5: a layer of a material has the k of its material; this has 1 too"),
+        ]:
+            with self.subTest(said), self.assertRaises(text.Wrong) as caught:
+                text.read(content).make(nm)
+            self.assertEqual(str(caught.exception), said)
+
+    def test_metal_at_another_wavelength(self):
+        """Gold of 1064 nm at 532: 97.9 % where gold reflects 70 %."""
+        gold = text.read(BEAM + "surface custom reflected from air to bk7 at 0 deg\nlayer 0.26 thickness 80 nm k 6.97\nretune to 632.8 nm\nsurface custom reflected from air to bk7 at 0 deg\nlayer 1.37 thickness 80 nm k 7.62\n")
+        self.assertEqual(reports.hints(gold.make()), [])
+        (said,) = reports.hints(gold.make(532.0))
+        self.assertTrue(said.startswith("layer 1 of surface 1 (line 3) keeps n 0.26 and k 6.97 of 1064 nm at 532 nm; a metal's change with the wavelength"), said)
 
     def test_metals_and_retunes(self):
         sheet = made(BEAM + "retune to 632.8 nm\nsurface custom reflected from air to bk7 at 0 deg\nlayer 1.37 thickness 80 nm k 7.62\n").sheet

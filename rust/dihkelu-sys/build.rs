@@ -24,7 +24,7 @@ fn main() {
             let mut compile = Command::new(words.next().unwrap_or("cc"));
             compile
                 .args(words)
-                .args(["-std=c11", "-O2", "-fPIC", "-ffp-contract=off", "-c"]);
+                .args(["-std=c11", "-O3", "-fPIC", "-ffp-contract=off", "-c"]);
             run(compile.arg("c/dihkelu.c").arg("-o").arg(&object));
             let _ = std::fs::remove_file(&library);
             run(Command::new("ar").arg("rc").arg(&library).arg(&object));

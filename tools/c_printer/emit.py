@@ -1,7 +1,7 @@
 """C from functions of statements and expressions."""
 import struct
 
-from . import fold
+from . import environment, fold
 from .program import Unknown
 
 KEYWORDS = set(
@@ -129,8 +129,8 @@ class Types:
 class Printer:
     """One function."""
 
-    def __init__(self, f, types, item, exported, writers):
-        self.f, self.types, self.item, self.exported = f, types, item, exported
+    def __init__(self, f, types, item, exported, writers, guarded=False):
+        self.f, self.types, self.item, self.exported, self.guarded = f, types, item, exported, guarded
         if item is None and not f.name.startswith("std::") or item and len(item.parameters) != f.count:
             raise Unknown(f"the sources do not have the function {f.name} with {f.count} parameters")
         self.names = self.named_variables()
@@ -553,22 +553,30 @@ class Printer:
 
     # ---- the whole
 
-    def head(self):
-        f = self.f
-        parameters, given = [], []
-        for i in range(1, f.count + 1):
-            t, name = f.types[i], self.names[i]
+    def parameters(self):
+        """Each parameter's type and name; of an exported call a list's pointer and its count."""
+        found = []
+        for i in range(1, self.f.count + 1):
+            t, name = self.f.types[i], self.names[i]
             if self.exported and t[0] == "slice":
-                parameters += [f"{'' if t[1] else 'const '}{self.types.name(t[2])} *{name}_at", f"size_t {name}_count"]
-                given.append(f"    {self.types.name(t)} {name} = {{{name}_at, {name}_count}};")
+                found += [(f"{'' if t[1] else 'const '}{self.types.name(t[2])} *", f"{name}_at"), ("size_t", f"{name}_count")]
             else:
-                parameters.append(self.types.declared(t, name))
-        kind = self.types.name(f.types[0])
-        static = "" if self.exported else "static "
-        return f"{static}{kind} {identifier(f.name)}({', '.join(parameters) or 'void'})", given
+                found.append((self.types.name(t), name))
+        return found
+
+    def head(self, name, static):
+        parameters = ", ".join(t + n if t.endswith("*") else f"{t} {n}" for t, n in self.parameters())
+        return wrapped(f"{'static ' if static else ''}{self.types.name(self.f.types[0])} {name}({parameters or 'void'}) {{")
+
+    def lists_given(self):
+        """The lists of an exported call, put together."""
+        named = [(self.f.types[i], self.names[i]) for i in range(1, self.f.count + 1)] if self.exported else []
+        return [f"    {self.types.name(t)} {name} = {{{name}_at, {name}_count}};" for t, name in named if t[0] == "slice"]
 
     def printed(self):
-        head, given = self.head()
+        name = identifier(self.f.name)
+        head = self.head(name + "_body" if self.guarded else name, self.guarded or not self.exported)
+        given = self.lists_given()
         body = list(self.body)
         while body and body[-1] == ["return", None]:
             body.pop()
@@ -583,7 +591,11 @@ class Printer:
             if n not in used and not (self.exported and self.f.types[n][0] == "slice"):
                 given.append(f"    (void){self.names[n]};")
         comment = list(self.item.comment) if self.item else [f"// {self.f.name}, of the language's own library."]
-        return "\n".join(comment + wrapped(head + " {") + given + inner + ["}"])
+        lines = comment + head + given + inner + ["}"]
+        if self.guarded:
+            around = environment.around(self.types.name(self.f.types[0]), name, self.parameters())
+            lines += [""] + self.head(name, False) + [part for line in around for part in wrapped(line)] + ["}"]
+        return "\n".join(lines)
 
 
 def breaks(statements):

@@ -1,19 +1,21 @@
 """The files of the release that are made."""
 import pathlib
 
-from . import emit, fold, header as headers, program, source
+from . import emit, environment, fold, header as headers, program, source
 
 BANNER = """// Made by tools/c_source from the checked program; a change is made in crates/ and this file written anew.
 // SPDX-License-Identifier: MIT OR Apache-2.0
 """
+LICENCES = ("LICENSE-MIT", "LICENSE-APACHE", "NOTICE")
+PACKAGES = ("c", "fortran", "python", "rust/dihkelu-sys")
 
 PRELUDE = """//
 // Light through a train of coated windows: the whole library in one file. dihkelu.h says what each call does. Functions
 // have their crate's name in front, and those that are called stand before those that call.
 //
 // The answers are those of the proved library, bit for bit, only where each operation on doubles is rounded once, to
-// nearest, as IEEE 754 has it. What can be known when this is compiled is tested here; the rest is the caller's
-// (dihkelu_environment_ok of the header).
+// nearest, as IEEE 754 has it. What can be known when this is compiled is tested here; the environment of the caller is
+// set for each call and given back.
 #include "dihkelu.h"
 
 #include <float.h>
@@ -41,7 +43,9 @@ PRELUDE = """//
 _Static_assert(FLT_RADIX == 2 && DBL_MANT_DIG == 53, "double is no binary64");
 _Static_assert(DBL_MAX_EXP == 1024 && DBL_MIN_EXP == -1021, "double is no binary64");
 _Static_assert(sizeof(double) == 8 && sizeof(uint64_t) == 8, "a byte has another size");
-_Static_assert(sizeof(size_t) == 8 && sizeof(void *) == 8, "this is for machines of 64 bits");
+// A count is a size_t in dihkelu.h and a uint64_t inside: widened there, and never cut. An index is below its list's count.
+_Static_assert(sizeof(size_t) <= sizeof(uint64_t), "a count would be cut");
+_Static_assert(sizeof(int) >= 4 && sizeof(size_t) >= 4, "this is for machines of 32 bits or more");
 
 // The bits of a double, and the double of bits.
 static inline uint64_t to_bits(double x) {
@@ -131,17 +135,30 @@ class Unit:
 
     def print(self, types, exported):
         out, crate, names = [], None, set()
+        working = environment.working(self.functions, called)
         for name, f in self.functions.items():
             c = emit.identifier(name)
             if c in names:
                 raise program.Unknown(f"two functions are called {c}")
             names.add(c)
-            text = emit.Printer(f, types, self.items.get(name), exported(name), self.writers).printed()
+            guarded = exported(name) and name in working
+            text = emit.Printer(f, types, self.items.get(name), exported(name), self.writers, guarded).printed()
             if name.split("::")[0] != crate:
                 crate = name.split("::")[0]
                 out.append("\n".join([f"// ==== {crate}", "//"] + self.heads[crate]) if self.heads.get(crate) else f"// ==== {crate}")
             out.append(text)
         return "\n\n".join(out) + "\n"
+
+
+def notice(root):
+    """The notice as a comment, up to where it speaks of other files: the C may be taken alone."""
+    text = (pathlib.Path(root) / "NOTICE").read_text().split("\nThe whole notice")[0]
+    return "\n".join(f"// {line}".rstrip() for line in ["", *text.strip().split("\n")]) + "\n"
+
+
+def licences(root):
+    """Each package's copies of the licences."""
+    return {f"{package}/{name}": (pathlib.Path(root) / name).read_text() for package in PACKAGES for name in LICENCES}
 
 
 def made(root, library, text):
@@ -156,7 +173,7 @@ def made(root, library, text):
     body = unit.print(types, lambda name: name in unit.entries)
     first = len(types.definitions)
     zeros = LEADING_ZEROS if "leading_zeros(" in body else ""
-    c = BANNER + PRELUDE + zeros + "// ==== types\n\n" + "\n\n".join(types.definitions) + "\n\n" + body
+    c = BANNER + notice(root) + PRELUDE + zeros + environment.PRELUDE + "// ==== types\n\n" + "\n\n".join(types.definitions) + "\n\n" + body
     train = Unit(text, items, heads, lambda functions: ["train_text::train_text"], unit.functions)
     types.named = {**types.named, **train.named}
     body = train.print(types, lambda name: False)
@@ -170,4 +187,5 @@ def made(root, library, text):
         "fortran/dihkelu.f90": headers.fortran(header),
         "rust/dihkelu-sys/src/raw.rs": headers.rust(header),
         "rust/dihkelu-sys/Cargo.toml": headers.cargo(header),
+        **licences(root),
     }

@@ -56,7 +56,7 @@ def manual(header):
         + roff(intro).strip()
         + "\n.fi\n.SH CALLS\n.nf\n"
         + roff(rest).strip()
-        + "\n.fi\n.SH SEE ALSO\n.BR train (1)\n"
+        + "\n.fi\n.SH SEE ALSO\n.BR train (1),\n.BR dihkelu\\-sheet (5)\n"
     )
 
 
@@ -146,19 +146,28 @@ RUST = {"uint8_t": "u8", "uint32_t": "u32", "uint64_t": "u64", "size_t": "usize"
 def rust(header):
     out = [f"//! {MADE}", '//! They are unsafe: what a caller owes stands there under "WHAT THE CALLER OWES".', "", 'extern "C" {']
     for c in calls(header):
-        out += [f"    /// {line}".rstrip() for line in c.comment]
+        # in square brackets stands a link
+        out += [f"    /// {line}".rstrip().replace("[", "\\[").replace("]", "\\]") for line in c.comment]
         arguments = [f"{n}: {'*mut ' if written else '*const ' if lent else ''}{RUST[k]}" for n, k, lent, written, _ in c.arguments]
         line = f"    pub fn {c.name}({', '.join(arguments)}) -> {RUST[c.returns]};"
         out += [line] if len(line) <= 100 else [f"    pub fn {c.name}("] + [f"        {a}," for a in arguments] + [f"    ) -> {RUST[c.returns]};"]
     return "\n".join(out + ["}", ""])
 
 
+def version(header):
+    """Major, minor and patch; the number that the library returns has the first two."""
+    text = re.search(r'^#define DIHKELU_VERSION_TEXT "(\d+\.\d+\.\d+)"$', header, re.M).group(1)
+    major, minor, _ = map(int, text.split("."))
+    if dict(constants(header))["DIHKELU_VERSION"] != (major << 16) + minor:
+        raise ValueError("the header's DIHKELU_VERSION and DIHKELU_VERSION_TEXT are two versions")
+    return text
+
+
 def cargo(header):
-    number = dict(constants(header))["DIHKELU_VERSION"]
     return f"""# Made by tools/c_source: the version is the header's.
 [package]
 name = "dihkelu-sys"
-version = "{number >> 16}.{number & 0xFFFF}.0"
+version = "{version(header)}"
 edition = "2021"
 description = "Light through a train of coated windows: the C library and its calls"
 license = "MIT OR Apache-2.0"

@@ -55,7 +55,7 @@ pub surface-is : (src : List ℕ) (at : ℕ) (s : Surface) → s ≡ surface-val
     → ((w : Float) → layers-admitted w (j .snell) (layers-at src q n) ≡ true) → (w : Float) → surface-holds-at src at w ≡ true
 unfolding surface-holds-at metal-at
 surface-is src at s es j ej n en q eq pass w =
-    ap (λ (t : Bool). t || metal-at src at w)
+    ap (λ (t : Bool). t || metal-at src at (layer-run 16 src at) w)
     (sym ((λ i. layers-admitted w (ej i .snell) (layers-at src (eq i) (en i))) ∙ ap (λ (z : Surface). layers-admitted w (judgement z .snell) (layers-at src (next-place src at) (layer-run 16 src at))) es) ∙ pass w)
 
 -- ---- SURFACEs one after the other

@@ -1,4 +1,4 @@
--- A band whose answer is known, computed. Assumes nothing.
+-- Bands whose answers are known, computed. Assumes nothing.
 use mathlib.Core.Path.{refl}
 use lib.Ieee as Ieee
 use lib.Ieee.{ofBits}
@@ -7,5 +7,5 @@ use Rattle.band.specs.Band.{at-line, added-up, whole-sum}
 use Rattle.band.specs.Known.{KnownBand}
 
 pub known-band : KnownBand
-unfolding course product chosen-s chosen-p worked-out at-line added-up whole-sum Ieee.add Ieee.mul Ieee.div Ieee.round Ieee.ofInt ofBits
-known-band = record { onto-zero = refl }
+unfolding course product chosen-s chosen-p worked-out at-line added-up whole-sum Ieee.add Ieee.mul Ieee.div Ieee.round Ieee.ofInt Ieee.toBits ofBits
+known-band = record { onto-zero = refl; in-order = refl; paired = refl }

@@ -4,9 +4,7 @@ use mathlib.Core.Bool.{Bool, cond}
 use mathlib.Core.List.{List, [], _∷_}
 use Prim.Native.Nat.{ℕ, suc}
 use lib.Dec.{T}
-use lib.ListN.{getD}
-use lib.Ieee.{Float, binary64, ofBits}
-use Rattle.math_waves.specs.Waves.{written}
+use lib.Ieee.{Float}
 use Rattle.sheet.specs.Blocks.{All}
 use Rattle.sheet.specs.Sheet.{Sheet}
 use Rattle.gate.specs.Wavelength.{holds}
@@ -24,12 +22,3 @@ pub record Line (a b : State) : Type 0 where
 
 abbrev pub AllPass : Sheet → List Float → Type 0
 AllPass x wavelengths = All (λ (w : Float). T (holds w (x .surfaces))) wavelengths
-
--- ---- the wavelengths in places
--- 500
-abbrev pub five-hundred : Float
-five-hundred = ofBits binary64 0x407F_4000_0000_0000
-
--- the first n; 500 past the last
-abbrev pub all-nm : List Float → ℕ → List Float → List Float
-all-nm wavelengths n l = written (λ j. getD wavelengths j five-hundred) n l

@@ -5,16 +5,18 @@ ghost use Prim.Native.Nat.{_<_};
 ghost use mathlib.Core.Bool.{true};
 ghost use lib.Dec.{T};
 ghost use lib.Ieee.{Float};
-ghost use lib.ListN.{length, getD};
+ghost use lib.ListN.{length};
 ghost use Rattle.refusal.specs.Outcome.{answer};
 ghost use Rattle.sheet.specs.Sheet.{Sheet};
 ghost use Rattle.sheet.specs.Internal.{begin};
 ghost use Rattle.gate.specs.Gate.{gated};
+ghost use Rattle.gate.specs.Wavelength.{holds};
 ghost use Rattle.gate.specs.Internal.{layers-hold-at, holds-at};
-ghost use Rattle.band.specs.Band.{weight-passes, lines-fit, whole-sum, powers, outcome, band};
-ghost use Rattle.band.specs.Internal.{first-false, AllPass, five-hundred, all-nm};
+ghost use Rattle.band.specs.Band.{at-line, weight-passes, lines-fit, whole-sum, powers, outcome, band};
+ghost use Rattle.band.specs.Internal.{first-false, Line, AllPass};
 use gate::Gated;
 use refusal::Refusal;
+use train_steps::State;
 
 mod steady;
 
@@ -78,26 +80,11 @@ fn first_wavelength_outside(src: &[u8], count: u32, wavelengths: &[f64]) -> usiz
 
 // ---- the sums
 
-// The i-th wavelength; 500 nm past the last.
-fn nth_nm(wavelengths: &[f64], i: usize) -> f64
-    ensures { λ r. ⌜ r ≡ getD (now (wavelengths .entry)) i five-hundred ⌝ }
+// The train at a line, from its start to its last surface.
+fn at_line(src: &[u8], count: u32, wavelength_nm: f64) -> State
+    ensures { λ r. ⌜ ((x : Sheet) → gated (now (src .entry)) ≡ answer x → length (x .surfaces) ≡ count → T (holds «wavelength_nm» (x .surfaces)) → Line r (at-line x «wavelength_nm»)) ⌝ }
 {
-    if i < wavelengths.len() {
-        wavelengths[i]
-    } else {
-        500.0
-    }
-}
-
-// All wavelengths, in places.
-fn all_nm(wavelengths: &[f64], nm: &mut [f64; 64])
-    ensures { λ r. ⌜ now (nm .exit) ≡ all-nm (now (wavelengths .entry)) 64 (now (nm .entry)) ⌝ }
-{
-    let mut i = 0;
-    while i < 64 {
-        nm[i] = nth_nm(wavelengths, i);
-        i += 1;
-    }
+    train_steps::run_at(src, count, wavelength_nm)
 }
 
 // The means of s and of p over a band, and how many lines it has.
@@ -114,19 +101,15 @@ fn weighed(src: &[u8], count: u32, wavelengths: &[f64], weights: &[u32]) -> Band
     ensures { λ r. ⌜ ((x : Sheet) → gated (now (src .entry)) ≡ answer x → length (x .surfaces) ≡ count → AllPass x (now (wavelengths .entry)) → r ≡ powers x (now (wavelengths .entry)) (now (weights .entry))) ⌝ }
 {
     let n = wavelengths.len();
-    let mut nm = [1.0; 64];
-    let mut of_s = [1.0; 64];
-    let mut of_p = [1.0; 64];
-    all_nm(wavelengths, &mut nm);
-    train_lines::run_lines(src, count, n, &mut nm, &mut of_s, &mut of_p);
     let mut s = 0.0;
     let mut p = 0.0;
     let mut whole: u32 = 0;
     let mut i = 0;
     while i < n {
+        let line = at_line(src, count, wavelengths[i]);
         let weight = weights[i];
-        s = s + weight as f64 * of_s[i];
-        p = p + weight as f64 * of_p[i];
+        s = s + weight as f64 * line.s;
+        p = p + weight as f64 * line.p;
         whole += weight;
         i += 1;
     }

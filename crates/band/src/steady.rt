@@ -36,7 +36,7 @@ fn surface_steady(src: &[u8], at: usize) -> bool
 }
 
 // Those of all of count SURFACEs.
-pub fn steady(src: &[u8], count: u32) -> bool
+pub(crate) fn steady(src: &[u8], count: u32) -> bool
     ensures { λ r. ⌜ (T r → (w : Float) → layers-hold-at count (now (src .entry)) (begin (now (src .entry)) 0) w ≡ true) ⌝ }
 {
     let mut place = sheet::begin_of(src, 0);

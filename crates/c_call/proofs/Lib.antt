@@ -1,4 +1,5 @@
--- Facts on lists that numbers are written to, and on what is returned.
+-- Facts on lists that numbers are written to, and on what is returned; known answers.
 pub mod Front
 pub mod Answers
 pub mod Returned
+pub mod Known

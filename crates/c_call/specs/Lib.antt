@@ -1,3 +1,4 @@
--- What an exported call returns and leaves, and the layouts of its numbers.
+-- What an exported call returns and leaves, the layouts of its numbers, and known answers.
 pub mod Call
 pub mod Layout
+pub mod Known

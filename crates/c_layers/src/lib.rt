@@ -11,11 +11,13 @@ ghost use Rattle.thin_film_layers.specs.Evaluation.{ordered, no-layer, outcome}
 ghost use Rattle.surface_real.specs.Internal.{no-films, stacked};
 ghost use Rattle.thin_film.specs.Evaluate.{evaluate-surface};
 ghost use Rattle.c_layers.specs.Evaluate.{layers, call-coating, evaluate, refusal-number};
-ghost use Rattle.math_waves.specs.Waves.{written};
+ghost use Rattle.surface_real.specs.InternalFilms.{Wrote};
+ghost use Rattle.thin_film.specs.Internal.{own-layers};
 ghost use Rattle.c_layers.specs.Internal.{layer-on, number-custom};
 use gate_limits::Interface;
 use surface_real::Stack;
 use thin_film::SurfaceCoating;
+use thin_film::reading;
 use thin_film_coating::Coating;
 use thin_film_layers::Evaluation;
 use thin_film_layers::Prepared;
@@ -57,30 +59,34 @@ fn at_most_16(left: usize) -> usize
     if left < 16 { left } else { 16 }
 }
 
-// The numbers of a few layers of the list, after so many others, in its order.
-fn layers_from(
+// The media of a few layers of the list, after so many others, in its order.
+fn media_from(
     flat: &[f64],
     after: usize,
     few: usize,
-    n: &mut [f64; 16],
-    k: &mut [f64; 16],
-    d: &mut [f64; 16],
+    light: Incidence,
+    eta_s: &mut [f64; 16],
+    eta_p: &mut [f64; 16],
+    delta: &mut [f64; 16],
 )
     requires { ⌜ (few ≤ 16) × (after + few ≤ length (now flat) / 3) ⌝ }
-    ensures { λ r. ⌜ (now (n .exit) ≡ written (λ j. layer-on (now (flat .entry)) after j .n) few (now (n .entry))) × (now (k .exit) ≡ written (λ j. layer-on (now (flat .entry)) after j .k) few (now (k .entry))) × (now (d .exit) ≡ written (λ j. layer-on (now (flat .entry)) after j .«thickness_nm») few (now (d .entry))) ⌝ }
+    ensures { λ r. ⌜ Wrote (light .snell) (light .«wavelength_nm») (layer-on (now (flat .entry)) after) few (now («eta_s» .entry)) (now («eta_p» .entry)) (now (delta .entry)) (now («eta_s» .exit)) (now («eta_p» .exit)) (now (delta .exit)) ⌝ }
 {
+    let mut recent = surface_real::no_recent();
     let mut i = 0;
     while i < few {
-        let layer = layer_at(flat, after + i);
-        n[i] = layer.n;
-        k[i] = layer.k;
-        d[i] = layer.thickness_nm;
+        recent = surface_real::turn(light, layer_at(flat, after + i), recent);
+        let seen = recent.last;
+        let medium = seen.medium;
+        eta_s[i] = medium.eta_s;
+        eta_p[i] = medium.eta_p;
+        delta[i] = medium.delta;
         i += 1;
     }
 }
 
-// A few layers of the list, after so many others, joined to a product. The arrays have the list's own order, and are read
-// from their far end where light meets that first (document 02, slip 4).
+// A few layers of the list, after so many others, joined to a product: each layer is read once, in the list's order, and
+// its film is met from the far end where light comes from there (document 02, slip 4).
 fn join_some(
     flat: &[f64],
     after: usize,
@@ -92,11 +98,11 @@ fn join_some(
     requires { ⌜ (few ≤ 16) × (after + few ≤ length (now flat) / 3) ⌝ }
     ensures { λ r. ⌜ r ≡ stacked (light .snell) (light .«wavelength_nm») stack (ordered reversed (take few (drop after (layers (now (flat .entry)))))) ⌝ }
 {
-    let mut n = [1.0; 16];
-    let mut k = [1.0; 16];
-    let mut d = [1.0; 16];
-    layers_from(flat, after, few, &mut n, &mut k, &mut d);
-    surface_real::films::join_all(light, &n, &k, &d, few, reversed, stack)
+    let mut eta_s = [1.0; 16];
+    let mut eta_p = [1.0; 16];
+    let mut delta = [1.0; 16];
+    media_from(flat, after, few, light, &mut eta_s, &mut eta_p, &mut delta);
+    surface_real::films::join_all(&eta_s, &eta_p, &delta, few, reversed, stack)
 }
 
 // Where a few layers stand in a list of n that light meets after i others: from its front, or from its far end.
@@ -144,7 +150,7 @@ fn solve_each(flat: &[f64], reversed: bool, light: Incidence) -> CoatingResponse
 }
 
 // That response: over real numbers where no layer absorbs and the quick way knows it, or else layer by layer.
-fn solve(flat: &[f64], reversed: bool, light: Incidence) -> CoatingResponse
+fn solve_list(flat: &[f64], reversed: bool, light: Incidence) -> CoatingResponse
     ensures { λ r. ⌜ r ≡ solved light (ordered reversed (layers (now (flat .entry)))) ⌝ }
 {
     if promising(flat, light) {
@@ -155,6 +161,17 @@ fn solve(flat: &[f64], reversed: bool, light: Incidence) -> CoatingResponse
         }
     }
     solve_each(flat, reversed, light)
+}
+
+// The response with a coating's own layers, or else those of the list.
+fn solve(coating: SurfaceCoating, flat: &[f64], reversed: bool, light: Incidence) -> CoatingResponse
+    ensures { λ r. ⌜ r ≡ solved light (ordered reversed (own-layers coating (layers (now (flat .entry))))) ⌝ }
+{
+    if reading::own_count(coating) == 0 {
+        solve_list(flat, reversed, light)
+    } else {
+        response_real::solve_own(coating, reversed, light)
+    }
 }
 
 // A coating beside its layers.
@@ -168,7 +185,7 @@ fn evaluate_known(
 ) -> Evaluation
     ensures { λ r. ⌜ outcome r ≡ evaluate-surface coating (layers (now (flat .entry))) «n_incident» «n_substrate» «angle_incident_rad» «wavelength_nm» ⌝ }
 {
-    match thin_film::reading::prepare_surface(
+    match reading::prepare(
         coating,
         flat.len() / 3,
         n_incident,
@@ -177,7 +194,12 @@ fn evaluate_known(
         wavelength_nm,
     ) {
         Prepared::Answered(answer) => answer,
-        Prepared::Layers { reversed, light } => Evaluation::Response(solve(flat, reversed, light)),
+        Prepared::Layers { reversed, light } => Evaluation::Response(solve(
+            coating,
+            flat,
+            reversed,
+            light,
+        )),
     }
 }
 

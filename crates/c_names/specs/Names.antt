@@ -1,4 +1,4 @@
--- What dihkelu_coating_from_name returns, and dihkelu_coating_name returns and leaves. Definitions only.
+-- What dihkelu_coating_from_name returns, and what dihkelu_coating_name and dihkelu_trim return and leave. Definitions only.
 use mathlib.Core.Path.{_≡_}
 use Prim.Native.Nat.{ℕ}
 use mathlib.Core.Bool.{cond}
@@ -16,6 +16,7 @@ use Rattle.name_coating.specs.Name.{from-format-name, format-name}
 use Rattle.gate_limits.specs.declared.Interface.{Interface}
 use Rattle.gate_limits.specs.declared.Interface.the-variants.{Bare, Coated}
 use Rattle.c_layers.specs.Evaluate.{call-coating}
+use Rattle.name_bytes.specs.Trim.{span}
 use Rattle.c_call.specs.Call.{packed}
 
 -- those that dihkelu_evaluate takes
@@ -93,3 +94,18 @@ code-again S.HighReflectanceMirror = code-of S.HighReflectanceMirror
 pub record NamesClaim : Type 0 where
   pub named : (coating : SurfaceCoating) → coating-name (code-of coating) ≡ answer (format-name coating)
   pub again : (coating : SurfaceCoating) → map named-code (from-format-name (format-name coating)) ≡ answer (code-again coating)
+
+-- ---- dihkelu_trim
+-- the number that the call returns, and the two numbers that it leaves
+pub record Cut : Type 0 where
+  pub returned : ℕ
+  pub place : ℕ
+  pub len : ℕ
+
+abbrev pub cut : ℕ → ℕ → ℕ → Cut
+cut returned place len = record { returned = returned; place = place; len = len }
+
+-- 'the trimmed part of the caller's name is handed back by a call of its own, which takes all bytes and refuses none': its place in the
+-- name, and its length
+abbrev pub trim-left : List ℕ → Cut
+trim-left name = cut 0 (span name .place) (span name .len)

@@ -1,4 +1,5 @@
-// Names of coatings for callers in C: the code that a name stands for, and the name of a code's coating.
+// Names of coatings for callers in C: the code that a name stands for, the name of a code's coating, and the trimmed part
+// of a name.
 ghost use mathlib.Core.Path.{_≡_};
 ghost use mathlib.Core.List.{_++_};
 ghost use Prim.Native.Nat.{_≤_};
@@ -9,7 +10,7 @@ ghost use Rattle.thin_film.specs.declared.SurfaceCoating.the-variants as Surfac
 ghost use Rattle.thin_film.specs.Coating.{standard-wavelength};
 ghost use Rattle.c_layers.specs.Evaluate.{call-coating};
 ghost use Rattle.c_call.specs.Call.{returned};
-ghost use Rattle.c_names.specs.Names.{code-of, named-code, left, laid, name-left, coating-name};
+ghost use Rattle.c_names.specs.Names.{code-of, named-code, left, laid, name-left, coating-name, cut, trim-left};
 use gate_limits::Interface;
 use name_coating::Named;
 use thin_film::SurfaceCoating;
@@ -110,4 +111,16 @@ pub fn coating_name(code: u32, output: &mut [u8]) -> u64
         Interface::Coated(coating) => put_name(coating, output),
         Interface::Bare => 0x2_0000_0000,
     }
+}
+
+// ---- trim
+
+// The trimmed part of a name: writes its place in the name and its length in bytes; takes all bytes and returns 0.
+pub fn trim(name: &[u8], place: &mut u64, length: &mut u64) -> u64
+    ensures { λ r. ⌜ cut r (now (place .exit)) (now (length .exit)) ≡ trim-left (now (name .entry)) ⌝ }
+{
+    let span = name_bytes::trim_numbers(name);
+    *place = span.place as u64;
+    *length = span.len as u64;
+    0
 }

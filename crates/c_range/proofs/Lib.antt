@@ -1,2 +1,3 @@
--- The refusal of a range.
+-- The refusal of a range, and its layout.
 pub mod Sound
+pub mod Known

@@ -1,5 +1,6 @@
--- The cases, one after the other; which argument fails.
+-- The cases, one after the other; which argument fails; known answers.
 pub mod Cases
 pub mod Written
 pub mod Placed
 pub mod Argument
+pub mod Known

@@ -1,12 +1,13 @@
 -- The refusals of a surface's answers, and what a reply tells of them. Assumes nothing.
-use mathlib.Core.Path.{_≡_, refl, sym, ap, _∙_}
+use mathlib.Core.Path.{_≡_, refl, sym, ap, _∙_, subst}
 use mathlib.Core.List.{List}
 use Prim.Native.Nat.{ℕ}
 use native.Mathlib.Omega.{arith}
 use lib.Dec.{ltb}
-use lib.ListN.{length}
+use lib.ListN.{length, drop}
+use borrow.Author.Tests.{ne-eqb}
 use lib.Ieee.{Float}
-use Rattle.refusal.specs.Outcome.{Outcome, answer, refusal, refused, invalid-parameter}
+use Rattle.refusal.specs.Outcome.{Outcome, answer, refusal, bind, invalid-parameter}
 use Rattle.math_trig.specs.Trig.{sin, cos}
 use Rattle.thin_film_solver.specs.declared.ThinFilmLayer.{ThinFilmLayer}
 use Rattle.thin_film.specs.Evaluate.{evaluate-surface}
@@ -19,12 +20,17 @@ use Rattle.gate_limits.specs.Coating.{interface}
 use Rattle.surface.specs.Answers.{coated-answers, bare-answers, answers-of}
 use Rattle.sheet.specs.Sheet.{nth, Sheet}
 use Rattle.sheet.specs.Claim.{Bytes}
-use Rattle.sheet_values.specs.Values.{value, films, surface-value, met-at}
+use Rattle.sheet_values.specs.Values.{value, films, surface-value, met-with, met-at}
 use Rattle.gate.specs.Gate.{gated}
+use Rattle.gate.specs.Wavelength.{holds}
 use Rattle.sheet_surfaces.specs.declared.SurfaceReply.{SurfaceReply}
 use Rattle.sheet_surfaces.specs.Surfaces.{answers-to, surface-answers, given}
+use Rattle.sheet_retuned.specs.Retuned.{retuned-before, answers-at}
 use Rattle.c_layers.proofs.Plain.{Plain, either, mapped, of-surface}
-use Rattle.c_call.proofs.Returned.{Sound}
+use Rattle.c_call.specs.Call.{Done, Apart, answered}
+use Rattle.c_call.specs.Layout.{surface-answered}
+use Rattle.c_call.proofs.Returned.{Sound, sound-apart}
+use Rattle.dihkelu.specs.Internal.{taken}
 use Rattle.dihkelu.proofs.Places.{plain-sound, gate-sound}
 
 module _ (wavelength : Float) (s : Value.Surface) (layers : List ThinFilmLayer) where
@@ -53,13 +59,32 @@ answers-sound src bytes i = go (gated src) (gate-sound src bytes)
         plain-sound (answers-to i (answer x)) (either (ltb i (length (x .surfaces))) _ (refusal 7 0) (of-interface w (surface-value y) (films w (y .layers)) (interface (surface-value y .coating))) (omega arith, refl))
     go (refusal number place) h = h
 
--- ---- the reply's number is 0 exactly for an answer
-pub turned-back : (o : Outcome Answers) (r : SurfaceReply) → r ≡ given o → (r .refusal .number ≡ 0 → ⊥) → refused (r .refusal) ≡ o
-unfolding given
-turned-back (answer a) r e h = absurd (h (ap (λ (z : SurfaceReply). z .refusal .number) e))
-turned-back (refusal number place) r e h = ap (λ (z : SurfaceReply). refused (z .refusal)) e
+-- at a wavelength that the train is retuned to right before
+pub answers-at-sound : (src : List ℕ) → Bytes src → (i : ℕ) (w : Float) → Sound (answers-at src i w)
+unfolding answers-at
+answers-at-sound src bytes i w = go (gated src) (gate-sound src bytes)
+  where
+    go : (o : Outcome Sheet) → Sound o → Sound (bind o (retuned-before i w))
+    go (answer x) h =
+        let y = nth (x .surfaces) i in
+        let v = met-with w (y .tuning) in
+        plain-sound (retuned-before i w x)
+        (either (ltb i (length (x .surfaces))) _ (refusal 7 0)
+        (either (holds w (drop i (x .surfaces))) _ (refusal 11 0) (of-interface v (surface-value y) (films v (y .layers)) (interface (surface-value y .coating))) (omega arith, refl)) (omega arith, refl))
+    go (refusal number place) h = h
 
-pub answered : (o : Outcome Answers) (r : SurfaceReply) → Sound o → r ≡ given o → r .refusal .number ≡ 0 → answer (r .answers) ≡ o
+-- ---- the reply's number is 0 exactly for an answer
+pub taken-given : (o : Outcome Answers) → Sound o → taken (given o) ≡ o
 unfolding given
-answered (answer a) r s e h = ap (λ (z : SurfaceReply). answer (z .answers)) e
-answered (refusal number place) r s e h = absurd (omega (arith, s .0, sym (ap (λ (z : SurfaceReply). z .refusal .number) e) ∙ h))
+taken-given (answer a) s = refl
+taken-given (refusal number place) s = rw (ne-eqb number 0 (λ e. omega (arith, s .0, e)))
+
+module _ (o : Outcome Answers) (s : Sound o) (r : SurfaceReply) (e : r ≡ given o) where
+  pub taken-is : taken r ≡ o
+  taken-is = ap taken e ∙ taken-given o s
+
+  pub taken-apart : Apart (taken r)
+  taken-apart = subst Apart (sym taken-is) (sound-apart o s)
+
+  pub whole : (d : Done) (list : List Float) → d ≡ answered surface-answered (taken r) list → d ≡ answered surface-answered o list
+  whole d list is = is ∙ ap (λ (z : Outcome Answers). answered surface-answered z list) taken-is

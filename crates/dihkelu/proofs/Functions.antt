@@ -81,6 +81,7 @@ function-numbers = record {
   of-bragg-mirror = λ n-high n-low pairs design list. tells stacked (mirror n-high n-low pairs design) (mirror-sound n-high n-low design pairs) (few n-high n-low pairs design) list;
   of-name = λ name. tells-fine (map named-code (from-format-name name)) (fine (from-format-name name) (name-sound name));
   of-coating-name = λ code output. coating-name-tells (coating-name code) (coating-name-fine (call-coating code standard-wavelength)) output;
+  of-trim = λ name. tells-fine (answer 0) (lit< tt);
   of-parts = λ count call numbers list. tells parts (of count call numbers) (sound parts count call numbers list) (λ a e. lit< tt) list;
   of-parameters = λ count call numbers list. tells parameters (of count call numbers) (sound parameters count call numbers list) (λ a e. lit< tt) list;
   of-figures = λ count call numbers list. tells figures (of count call numbers) (sound figures count call numbers list) (λ a e. lit< tt) list;

@@ -19,6 +19,7 @@ use Rattle.surface.specs.declared.Answers.{Answers}
 use Rattle.train_steps.specs.declared.State.{State}
 use Rattle.train_steps.specs.Train.{fresh, after-one, stepped, step, with-wavelength, retuned, retune, Ran, ran, run}
 use Rattle.sheet_surfaces.specs.Surfaces.{surface-answers}
+use Rattle.sheet_retuned.specs.Retuned.{answers-at}
 use Rattle.c_layers.specs.Evaluate.{evaluate}
 use Rattle.c_layers.proofs.Plain.{of-code}
 use Rattle.c_call.specs.Call.{done, packed, returned, Reply, answered}
@@ -47,7 +48,7 @@ use Rattle.dihkelu.specs.Band.{banded}
 use Rattle.dihkelu.specs.Numbers.{Tells, said, Numbers}
 use Rattle.c_call.proofs.Returned.{Sound}
 use Rattle.dihkelu.proofs.Places.{plain-sound, gate-sound}
-use Rattle.dihkelu.proofs.Answered.{answers-sound}
+use Rattle.dihkelu.proofs.Answered.{answers-sound, answers-at-sound}
 use Rattle.dihkelu.proofs.Rewritten.{Fine, Small, fine}
 use Rattle.dihkelu.proofs.Band.{band-sound, band-small}
 
@@ -207,6 +208,7 @@ numbers = record {
   of-edition-1 = λ src bytes output. tells-fine (to-edition-1 src output .result) (fine src bytes output);
   of-band = λ src bytes ws ns list. tells banded (band src ws ns) (band-sound src bytes ws ns) (band-small src bytes ws ns) list;
   of-answers = λ src bytes i list. tells surface-answered (surface-answers src i) (answers-sound src bytes i) (λ a e. answers-small a) list;
+  of-answers-at = λ src bytes i w list. tells surface-answered (answers-at src i w) (answers-at-sound src bytes i w) (λ a e. answers-small a) list;
   of-evaluate = λ code design n-incident n-substrate angle wavelength flat list.
       let o = evaluate code design n-incident n-substrate angle wavelength flat in
       tells evaluated o (plain-sound o (of-code n-incident n-substrate angle wavelength code design flat)) (λ r e. lit< tt) list;

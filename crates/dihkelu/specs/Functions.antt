@@ -17,7 +17,7 @@ use Rattle.c_call.specs.Layout.{alone, entries}
 use Rattle.c_stack.specs.Stack.{stacked}
 use Rattle.c_fresnel.specs.Fresnel.{reflectances, totals, matrices}
 use Rattle.c_presets.specs.Presets.{mirror}
-use Rattle.c_names.specs.Names.{named-code, coating-name, name-left, name-said}
+use Rattle.c_names.specs.Names.{named-code, coating-name, name-left, name-said, trim-left}
 use Rattle.c_polarization.specs.Numbers.{of, of-two, parts, parameters, figures}
 use Rattle.dihkelu.specs.Numbers.{Tells, said}
 
@@ -40,6 +40,8 @@ pub record FunctionNumbers : Type 0 where
   pub of-name : (name : List ℕ) → Tells (map named-code (from-format-name name)) (returned (map named-code (from-format-name name)))
   pub of-coating-name : (code : ℕ) (output : List ℕ) → Tells (name-said (coating-name code) output)
       (name-left (coating-name code) output .returned)
+  -- dihkelu_trim refuses nothing
+  pub of-trim : (name : List ℕ) → Tells (answer 0) (trim-left name .returned)
   -- calls that take one list of so many numbers, or two: whatever they work out
   pub of-parts : (count : ℕ) (call : List Float → JonesVector) (numbers list : List Float)
       → Tells (said parts (of count call numbers) list) (answered parts (of count call numbers) list .returned)

@@ -5,3 +5,4 @@ pub mod Band
 pub mod Numbers
 pub mod Functions
 pub mod Version
+pub mod Internal

@@ -13,6 +13,7 @@ use Rattle.gate.specs.Gate.{gated, gate}
 use Rattle.train_steps.specs.declared.State.{State}
 use Rattle.train_steps.specs.Train.{step, retune, run}
 use Rattle.sheet_surfaces.specs.Surfaces.{surface-answers}
+use Rattle.sheet_retuned.specs.Retuned.{answers-at}
 use Rattle.c_layers.specs.Evaluate.{evaluate}
 use Rattle.c_scan.specs.Scan.{evaluate-list, scanned}
 use Rattle.c_scan.specs.Argument.{invalid-argument}
@@ -64,6 +65,8 @@ pub record Numbers : Type 0 where
       → Tells (said banded (band src wavelengths weights) list) (answered banded (band src wavelengths weights) list .returned)
   pub of-answers : (src : List ℕ) → Bytes src → (i : ℕ) (list : List Float) →
       Tells (said surface-answered (surface-answers src i) list) (answered surface-answered (surface-answers src i) list .returned)
+  pub of-answers-at : (src : List ℕ) → Bytes src → (i : ℕ) (wavelength : Float) (list : List Float) →
+      Tells (said surface-answered (answers-at src i wavelength) list) (answered surface-answered (answers-at src i wavelength) list .returned)
   pub of-evaluate : (code : ℕ) (design n-incident n-substrate angle wavelength : Float) (flat list : List Float)
       → Tells (said evaluated (evaluate code design n-incident n-substrate angle wavelength flat) list)
       (answered evaluated (evaluate code design n-incident n-substrate angle wavelength flat) list .returned)

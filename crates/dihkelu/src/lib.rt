@@ -27,7 +27,7 @@ ghost use Rattle.c_fresnel.specs.Fresnel.{reflectances, totals, matrices};
 ghost use Rattle.thin_film_coating.specs.Coating.{quarter-wave-layers};
 ghost use Rattle.c_presets.specs.Presets.{mirror};
 ghost use Rattle.name_coating.specs.Name.{from-format-name};
-ghost use Rattle.c_names.specs.Names.{named-code, left, name-left, coating-name};
+ghost use Rattle.c_names.specs.Names.{named-code, left, name-left, coating-name, cut, trim-left};
 ghost use Rattle.polarization_stokes.specs.Jones.{intensity, normalize, to-stokes};
 ghost use Rattle.polarization_mueller.specs.Jones.{linear-polarizer, retarder, quarter-wave-plate, half-wave-plate, diattenuator, apply, mul};
 ghost use Rattle.polarization_mueller.specs.Mueller.{apply-mueller};
@@ -36,6 +36,8 @@ ghost use Rattle.c_polarization.specs.Numbers.{of, of-two, vector, stokes, muel
 ghost use Rattle.train_steps.specs.Train.{step, retune, run};
 ghost use Rattle.band.specs.Band.{band};
 ghost use Rattle.sheet_surfaces.specs.Surfaces.{surface-answers};
+ghost use Rattle.sheet_retuned.specs.Retuned.{answers-at};
+ghost use Rattle.dihkelu.specs.Internal.{taken};
 ghost use Rattle.dihkelu.specs.Train.{called, state, started, moved, run-done};
 ghost use Rattle.sheet_edition_1.specs.Edition.{to-edition-1};
 ghost use Rattle.dihkelu.specs.Edition.{copied, rewritten};
@@ -44,6 +46,7 @@ ghost use Rattle.dihkelu.specs.Version.{version};
 use band::BandReply;
 use gate::Gated;
 use sheet_edition_1::Rewritten;
+use sheet_surfaces::SurfaceReply;
 use thin_film_layers::Evaluation;
 use train_steps::State;
 use train_steps::TrainReply;
@@ -55,7 +58,7 @@ use train_steps::TrainReply;
 pub extern "C" fn dihkelu_version() -> u32
     ensures { λ r. ⌜ r ≡ version ⌝ }
 {
-    0x0000_0003
+    0x0000_0004
 }
 
 // ---- a coated surface
@@ -306,6 +309,16 @@ pub extern "C" fn dihkelu_coating_name(code: u32, output: &mut [u8]) -> u64
     c_names::coating_name(code, output)
 }
 
+// The trimmed part of a name: bytes 0x09 to 0x0D and 0x20 go from both ends. Writes its place in the name and its length
+// in bytes, and returns 0; a name without any other byte has a part of length 0 at place 0. It takes all bytes and
+// refuses none.
+#[no_mangle]
+pub extern "C" fn dihkelu_trim(name: &[u8], place: &mut u64, length: &mut u64) -> u64
+    ensures { λ r. ⌜ cut r (now (place .exit)) (now (length .exit)) ≡ trim-left (now (name .entry)) ⌝ }
+{
+    c_names::trim(name, place, length)
+}
+
 // ---- Jones and Stokes vectors: 4 numbers each, else 1; then 8
 
 // JonesVector::to_stokes: writes S0 to S3 and returns 4.
@@ -554,17 +567,41 @@ pub extern "C" fn dihkelu_band(
 
 // ---- a surface's answers
 
-// Of a sheet's surface, counted from 0: writes its answers and returns the count of their numbers; or
-// a refusal: 4, 5, 6, 7 where there is no such surface, then 8.
-#[no_mangle]
-pub extern "C" fn dihkelu_answers(sheet: &[u8], surface: u32, list: &mut [f64]) -> u64
-    ensures { λ r. ⌜ done r (now (list .exit)) ≡ answered surface-answered (surface-answers (now (sheet .entry)) surface) (now (list .entry)) ⌝ }
+// Answers, or the refusal that stands beside them.
+fn put_surface(reply: SurfaceReply, list: &mut [f64]) -> u64
+    requires { ⌜ Apart (taken reply) ⌝ }
+    ensures { λ r. ⌜ done r (now (list .exit)) ≡ answered surface-answered (taken reply) (now (list .entry)) ⌝ }
 {
-    let reply = sheet_surfaces::surface_answers(sheet, surface);
     let refusal = reply.refusal;
     if refusal.number != 0 {
         return c_call::packed(refusal);
     }
     let answers = reply.answers;
     c_call::put_answers(answers, list)
+}
+
+// Of a sheet's surface, counted from 0: writes its answers and returns the count of their numbers; or
+// a refusal: 4, 5, 6, 7 where there is no such surface, then 8.
+#[no_mangle]
+pub extern "C" fn dihkelu_answers(sheet: &[u8], surface: u32, list: &mut [f64]) -> u64
+    ensures { λ r. ⌜ done r (now (list .exit)) ≡ answered surface-answered (surface-answers (now (sheet .entry)) surface) (now (list .entry)) ⌝ }
+{
+    put_surface(sheet_surfaces::surface_answers(sheet, surface), list)
+}
+
+// The same where the train is retuned to a wavelength right before that surface is stepped; a kind 7 before the surface
+// acts over it. Refuses with 4, 5, 6, 7, then 11 where that retune is refused, then 8.
+#[no_mangle]
+pub extern "C" fn dihkelu_answers_at(
+    sheet: &[u8],
+    surface: u32,
+    wavelength_nm: f64,
+    list: &mut [f64],
+) -> u64
+    ensures { λ r. ⌜ done r (now (list .exit)) ≡ answered surface-answered (answers-at (now (sheet .entry)) surface «wavelength_nm») (now (list .entry)) ⌝ }
+{
+    put_surface(
+        sheet_retuned::answers_at(sheet, surface, wavelength_nm),
+        list,
+    )
 }

@@ -2,8 +2,7 @@
 pub mod Wavelengths
 pub mod Verdicts
 pub mod Claim
-pub mod Kept
-pub mod Walk
-mod Fitting
+pub mod Surfaces
 pub mod Admitted
+pub mod Index
 pub mod HoldsHere

@@ -20,8 +20,9 @@ use Rattle.sheet.proofs.Stands.{Ends, surfaces-end}
 use Rattle.sheet_values.specs.Values.{value, surface-value, met-with}
 use Rattle.gate.specs.Gate.{layer-admitted, metal-admitted, snell-of, verdict, old, spared, either, tuned, leading, carried, walked, verdicts-by, verdicts, judged}
 use Rattle.gate.specs.Wavelength.{layers-admitted, surface-admitted}
+use Rattle.gate.specs.Internal.{tuning-passes}
 use Rattle.gate.specs.Claim.{untuned, WithinLimits, FirstOutside, AsBefore}
-use Rattle.gate.proofs.Wavelengths.{both, and, one-of, tuning-passes, AllMet, all-met, met-within}
+use Rattle.gate.proofs.Wavelengths.{both, and, one-of, AllMet, all-met, met-within}
 
 abbrev pub Passed : List Bool → Type 0
 Passed ts = All T ts
@@ -67,18 +68,18 @@ as-before x place f =
     }
 
 -- ---- the verdicts of a sheet's blocks, from its data
-abbrev layer-verdict : Float → SheetSurface → SheetLayer → Bool
+abbrev pub layer-verdict : Float → SheetSurface → SheetLayer → Bool
 layer-verdict w y l = metal-admitted w y || layer-admitted w (snell-of y) l
 
-unfoldable layers-verdicts : Float → SheetSurface → List SheetLayer → List Bool → List Bool
+unfoldable pub layers-verdicts : Float → SheetSurface → List SheetLayer → List Bool → List Bool
 layers-verdicts w y [] more = more
 layers-verdicts w y (l ∷ ls) more = layer-verdict w y l ∷ layers-verdicts w y ls more
 
-abbrev tuning-verdicts : Tuning → List Bool → List Bool
+abbrev pub tuning-verdicts : Tuning → List Bool → List Bool
 tuning-verdicts keeps more = more
 tuning-verdicts (tunes v) more = wavelength-passes (value v) ∷ more
 
-unfoldable surfaces-verdicts : Float → List SheetSurface → List Bool → List Bool
+unfoldable pub surfaces-verdicts : Float → List SheetSurface → List Bool → List Bool
 surfaces-verdicts w [] more = more
 surfaces-verdicts w (y ∷ ys) more =
     let v = met-with w (y .tuning) in
@@ -91,7 +92,7 @@ layers w y (layer n k t ∷ ls) more = rw (numbers-raw (n ∷ k ∷ t ∷ [])) (
 layers w y (cauchy a c d t ∷ ls) more = rw (numbers-raw (a ∷ c ∷ d ∷ t ∷ [])) (ap (λ (ts : List Bool). layer-verdict w y (cauchy a c d t) ∷ ts) (layers w y ls more))
 
 -- the layers that stand first
-leads : (n : ℕ) (ls : List SheetLayer) (more : List Block) → length ls ≤ n → Ends more → leading n (layers-blocks ls more) ≡ ls
+pub leads : (n : ℕ) (ls : List SheetLayer) (more : List Block) → length ls ≤ n → Ends more → leading n (layers-blocks ls more) ≡ ls
 unfolding leading layers-blocks
 leads zero [] more le e = refl
 leads zero (l ∷ ls) more le e = absurd (omega arith)
@@ -120,10 +121,10 @@ surfaces edition n w z (y ∷ ys) lt g =
     ∙ ap (λ (ts : List Bool). surface-passes (surface-value y) ∷ ts) (layers v (untuned y) (y .layers) rest
     ∙ ap (layers-verdicts v (untuned y) (y .layers)) (surfaces edition n v (untuned y) ys lt (g .1))))
 
-abbrev of-data : Sheet → List Bool
+abbrev pub of-data : Sheet → List Bool
 of-data x = true ∷ beam-passes (value (x .wavelength)) (value (x .s)) (value (x .p)) ∷ surfaces-verdicts (value (x .wavelength)) (x .surfaces) (true ∷ [])
 
-verdicts-are : (x : Sheet) → WellFormed x → verdicts x ≡ of-data x
+pub verdicts-are : (x : Sheet) → WellFormed x → verdicts x ≡ of-data x
 unfolding blocks walked verdict tuned carried
 verdicts-are x h =
     rw (kind-of 1 (x .edition) (small-edition (x .edition) (h .edition)), numbers-raw (x .wavelength ∷ x .s ∷ x .p ∷ []))

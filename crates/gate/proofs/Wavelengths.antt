@@ -15,6 +15,7 @@ use Rattle.sheet.specs.Sheet.{SheetLayer, Tuning, keeps, tunes, SheetSurface, n
 use Rattle.sheet_values.specs.Values.{value, film, films, surface-value, met-with, met-at}
 use Rattle.gate.specs.Gate.{coefficients-finite, layer-admitted, all-finite, metal-admitted, snell-of}
 use Rattle.gate.specs.Wavelength.{layers-admitted, surface-admitted, unless-tuned, layers-hold, holds}
+use Rattle.gate.specs.Internal.{tuning-passes}
 use Rattle.gate.specs.Claim.{untuned, HoldsFrom, AllHold, WithinLimits}
 
 pub both : (a b : Bool) → T (a && b) → T a × T b
@@ -28,10 +29,6 @@ and false b s t = absurd s
 pub one-of : (a b : Bool) → T (a || b) → T a ⊎ T b
 one-of true b t = inl tt
 one-of false b t = inr t
-
-abbrev pub tuning-passes : Tuning → Bool
-tuning-passes keeps = true
-tuning-passes (tunes wavelength) = wavelength-passes (value wavelength)
 
 -- the SURFACEs, the first of which is reached with a wavelength
 abbrev pub AllMet : Float → List SheetSurface → Type 0

@@ -2,4 +2,5 @@
 pub mod Gate
 pub mod Wavelength
 pub mod Claim
+pub mod Index
 pub mod Internal

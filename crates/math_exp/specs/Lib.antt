@@ -1,2 +1,3 @@
--- exp of 01 section 2. Definitions only.
+-- exp of 01 section 2, and some of its answers. Definitions only.
 pub mod Exp
+pub mod Known

@@ -6,6 +6,7 @@ pub mod TrigBounds
 pub mod Opposites
 pub mod Parity
 pub mod Examples
+pub mod Known
 pub mod Shifted
 pub mod AtZero
 pub mod Constants

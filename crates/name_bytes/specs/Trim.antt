@@ -63,3 +63,7 @@ part at s = ((at .0, span s .place + at .1), trimmed s)
 -- what is handed back: the trimmed part, with its place in the name
 abbrev pub handed : ℕ × ℕ → List ℕ → ((ℕ × ℕ) × List ℕ) × ℕ
 handed at s = (part at s, span s .place)
+
+-- a part's place and its length
+abbrev pub span-of : List ℕ → ℕ → Span
+span-of bytes place = record { place = place; len = length bytes }

@@ -1,6 +1,6 @@
 // Byte strings: the part without the blank bytes at both ends, comparing, searching, ASCII.
 ghost use mathlib.Core.Path.{_≡_};
-ghost use Rattle.name_bytes.specs.Trim.{blank, prefix, kept, span, part, handed};
+ghost use Rattle.name_bytes.specs.Trim.{blank, prefix, kept, span, part, handed, span-of};
 ghost use Rattle.name_bytes.specs.Search.{begins, is, contains};
 ghost use Rattle.name_bytes.specs.Ascii.{upper-byte, first-over};
 
@@ -98,6 +98,30 @@ pub fn trim<'a>(name: &'a [u8]) -> Part<'a>
         bytes: trimmed(name),
         place: place(name),
     }
+}
+
+// Where a part lies, and how long it is.
+fn span_of(bytes: &[u8], place: usize) -> Span
+    ensures { λ r. ⌜ r ≡ span-of (now (bytes .entry)) place ⌝ }
+{
+    Span {
+        place,
+        len: bytes.len(),
+    }
+}
+
+// The numbers of a part.
+fn numbers<'a>(part: Part<'a>) -> Span
+    ensures { λ r. ⌜ r ≡ span-of (now (part .entry .bytes)) (part .entry .place) ⌝ }
+{
+    span_of(part.bytes, part.place)
+}
+
+// Those of the trimmed part of a name, for callers who are handed no reference.
+pub fn trim_numbers(name: &[u8]) -> Span
+    ensures { λ r. ⌜ r ≡ span (now (name .entry)) ⌝ }
+{
+    numbers(trim(name))
 }
 
 // ---- compare and search

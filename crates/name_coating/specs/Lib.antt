@@ -1,2 +1,3 @@
--- The names of coatings, on bytes.
+-- The names of coatings, on bytes, and some answers.
 pub mod Name
+pub mod Known

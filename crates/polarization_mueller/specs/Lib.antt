@@ -1,3 +1,4 @@
--- polarization.rs: Jones and Mueller matrices. Definitions only.
+-- polarization.rs: Jones and Mueller matrices, and some answers. Definitions only.
 pub mod Jones
 pub mod Mueller
+pub mod Known

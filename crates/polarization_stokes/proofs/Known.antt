@@ -1,12 +1,14 @@
--- Known answers of document 01, computed by the checker. Assumes nothing.
+-- Known answers of document 01, and a degree whose sum has an order, computed by the checker. Assumes nothing.
 use mathlib.Core.Path.{_≡_, refl}
 use mathlib.Core.Bool.{true}
-use lib.Ieee.{Float, neg, add, sub, mul, lt, le, ofBits}
-use Rattle.ieee.specs.Functions.{zero-f, one, two}
+use lib.Ieee.{Float, neg, add, sub, mul, div, lt, le, ofBits}
+use Rattle.ieee.specs.Functions.{zero-f, one, two, clamp}
+use Rattle.math_root.specs.Root.{squareRoot}
 use Rattle.thin_film_complex.specs.Complex.{real}
 use Rattle.polarization_stokes.specs.declared.JonesVector.{JonesVector}
 use Rattle.polarization_stokes.specs.Stokes.{least-s0, guarded, degree-of-polarization, degree-of-linear-polarization, degree-of-circular-polarization}
 use Rattle.polarization_stokes.specs.Jones.{circular-right, to-stokes}
+use Rattle.polarization_stokes.specs.Known.{KnownDegrees}
 
 -- (1, i)
 abbrev pub one-i : JonesVector
@@ -34,3 +36,8 @@ dark-circular-degree s1 s2 s3 = refl
 pub right-is-negative : lt ((to-stokes circular-right) .s3) zero-f ≡ true
 unfolding to-stokes circular-right real add sub mul lt neg ofBits
 right-is-negative = refl
+
+-- the order of the sum in a degree
+pub known-degrees : KnownDegrees
+unfolding degree-of-polarization guarded squareRoot clamp lt le add mul div ofBits
+known-degrees = record { in-order = refl }

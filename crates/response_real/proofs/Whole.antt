@@ -20,7 +20,8 @@ use Rattle.thin_film_solver.specs.Internal as Internal
 use Rattle.thin_film_solver.specs.Internal.{onward, solved}
 use Rattle.thin_film_real.proofs.Keeps.{Fine, add-back}
 use Rattle.surface_real.specs.declared.Shares.{Shares}
-use Rattle.surface_real.specs.Internal.{power}
+use Rattle.surface_real.specs.declared.Stack.{Stack}
+use Rattle.surface_real.specs.Internal.{power, no-films, stacked}
 use Rattle.surface_real.proofs.Back.{real-part-back, real-part-is}
 use Rattle.surface_real.proofs.Products.{For}
 use Rattle.surface_real.proofs.Whole as R
@@ -110,3 +111,10 @@ module _ (i : Incidence) (layers : List ThinFilmLayer) where
 
 pub whole : RealResponse
 whole i layers e = known i layers e
+
+-- the same from the product of the films
+pub known-stack : (light : Incidence) (ls : List ThinFilmLayer) (k : Stack) (q : Known) → k ≡ stacked (light .snell) (light .«wavelength_nm») no-films ls → q ≡ finish light k
+    → q .known ≡ true → q .response ≡ solved light ls
+known-stack light ls k q k-is q-is e =
+    let is : q ≡ real-response light ls = q-is ∙ ap (finish light) k-is in
+    ap (λ (z : Known). z .response) is ∙ whole light ls (ap (λ (z : Known). z .known) (sym is) ∙ e)

@@ -2,10 +2,17 @@
 // surface_real. A zero's sign can be another than in thin_film_solver, and only a zero's: the response is known where
 // the powers are finite and no part of an amplitude is a zero, and is that of thin_film_solver then.
 ghost use mathlib.Core.Path.{_≡_};
+ghost use mathlib.Core.List.{[]};
+ghost use Rattle.thin_film_solver.specs.Internal.{solved};
+ghost use Rattle.thin_film_layers.specs.Evaluation.{ordered};
+ghost use Rattle.thin_film.specs.Coating.{layers-of};
 ghost use Rattle.response_real.specs.Internal.{shares-of, amplitudes, no-zero, plain, certain, polarized, finish};
 use surface_real::Product;
 use surface_real::Shares;
 use surface_real::Stack;
+use surface_real::presets;
+use thin_film::SurfaceCoating;
+use thin_film::reading;
 use thin_film_complex::Complex;
 use thin_film_solver::CoatingResponse;
 use thin_film_solver::Incidence;
@@ -141,5 +148,19 @@ pub fn finish(light: Incidence, stack: Stack) -> Known
             known: false,
             response,
         }
+    }
+}
+
+// The response with a coating's own layers, in their order or reversed: over real numbers where it is known so, or else
+// layer by layer.
+pub fn solve_own(coating: SurfaceCoating, reversed: bool, light: Incidence) -> CoatingResponse
+    ensures { λ r. ⌜ r ≡ solved light (ordered reversed (layers-of coating [])) ⌝ }
+{
+    let quick = finish(light, presets::stack_of(coating, reversed, light));
+    if quick.known {
+        let response = quick.response;
+        response
+    } else {
+        reading::solve_own(coating, reversed, light)
     }
 }

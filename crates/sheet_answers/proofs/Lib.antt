@@ -1,5 +1,4 @@
 -- The layers after the block at a place, as a list.
 pub mod After
 mod Walk
-mod Real
-mod Places
+mod Choice

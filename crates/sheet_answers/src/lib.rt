@@ -16,13 +16,13 @@ use refusal::Refusal;
 use surface::AnswersReply;
 use surface::Powers;
 use thin_film::SurfaceCoating;
+use thin_film::reading;
 use thin_film_layers::Evaluation;
 use thin_film_layers::Prepared;
 use thin_film_solver::CoatingResponse;
 use thin_film_solver::Incidence;
 use thin_film_solver::ThinFilmLayer;
 
-mod presets;
 mod quick;
 
 // A surface's powers alone, or a refusal.
@@ -65,8 +65,7 @@ fn solve(
     thin_film_solver::finish(light, ms, mp)
 }
 
-// A coated surface. Only Custom(Multilayer) has the layers after it, which are reversed where light
-// goes from the denser medium to the rarer one.
+// A coated surface. A preset coating has layers of its own, and Custom(Multilayer) those after the block.
 fn evaluate_at(
     src: &[u8],
     at: usize,
@@ -77,7 +76,7 @@ fn evaluate_at(
 ) -> Evaluation
     ensures { λ r. ⌜ outcome r ≡ evaluate-surface coating (films «wavelength_nm» (layers-at (now (src .entry)) (next-place (now (src .entry)) at) n)) (surface .«n_incident») (surface .«n_substrate») (surface .«angle_rad») «wavelength_nm» ⌝ }
 {
-    match thin_film::reading::prepare_surface(
+    match reading::prepare(
         coating,
         n,
         surface.n_incident,
@@ -86,10 +85,11 @@ fn evaluate_at(
         wavelength_nm,
     ) {
         Prepared::Answered(answer) => answer,
-        Prepared::Layers { reversed, light } => Evaluation::Response(solve(
+        Prepared::Layers { reversed, light } => Evaluation::Response(quick::response_with(
             src,
             at,
             n,
+            coating,
             reversed,
             wavelength_nm,
             light,

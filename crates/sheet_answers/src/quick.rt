@@ -1,6 +1,5 @@
-// A coated surface's powers alone: over real numbers, where no film absorbs, or else from its whole response.
+// A coated surface's films, over real numbers where none absorbs: its powers alone, and its response.
 ghost use mathlib.Core.Path.{_≡_};
-ghost use mathlib.Core.Bool.{true};
 ghost use Prim.Native.Nat.{_≤_};
 ghost use Rattle.refusal.specs.Outcome.{map};
 ghost use Rattle.sheet.specs.Internal.{next-place, layers-at};
@@ -11,22 +10,23 @@ ghost use Rattle.thin_film_layers.specs.Evaluation.{ordered, outcome};
 ghost use Rattle.thin_film_coating.specs.declared.Coating.the-variants.{Multilayer};
 ghost use Rattle.thin_film.specs.declared.SurfaceCoating.the-variants.{Custom};
 ghost use Rattle.thin_film.specs.Evaluate.{evaluate-surface};
+ghost use Rattle.thin_film.specs.Internal.{own-layers};
 ghost use Rattle.surface.specs.Answers.{coated-powers};
-ghost use Rattle.math_waves.specs.Waves.{written};
 ghost use Rattle.surface_real.specs.Internal.{no-films, stacked};
+ghost use Rattle.surface_real.specs.InternalFilms.{Wrote};
 ghost use Rattle.sheet_answers.specs.Internal.{nth-film, reached};
 ghost use Rattle.sheet_answers.specs.Outcome.{outcome-of};
 use crate::PowersReply;
-use crate::presets;
 use gate_limits::Surface;
 use math_trig::SinCos;
 use surface::Powers;
-use surface_real::Known;
 use surface_real::Stack;
 use thin_film::SurfaceCoating;
+use thin_film::reading;
 use thin_film_coating::Coating;
 use thin_film_layers::Evaluation;
 use thin_film_layers::Prepared;
+use thin_film_solver::CoatingResponse;
 use thin_film_solver::Incidence;
 use thin_film_solver::ThinFilmLayer;
 
@@ -59,34 +59,38 @@ fn reach(src: &[u8], at: usize, wavelength_nm: f64) -> Reached
     }
 }
 
-// The numbers of count layers after the block at a place, at a wavelength, in the sheet's order: read in one walk.
-fn read_layers(
+// The media of count layers after the block at a place, at a wavelength, in the sheet's order: read in one walk.
+fn media_at(
     src: &[u8],
     at: usize,
     count: usize,
     wavelength_nm: f64,
-    n: &mut [f64; 16],
-    k: &mut [f64; 16],
-    d: &mut [f64; 16],
+    light: Incidence,
+    eta_s: &mut [f64; 16],
+    eta_p: &mut [f64; 16],
+    delta: &mut [f64; 16],
 )
     requires { ⌜ count ≤ 16 ⌝ }
-    ensures { λ r. ⌜ (now (n .exit) ≡ written (λ j. nth-film «wavelength_nm» (now (src .entry)) at j .n) count (now (n .entry))) × (now (k .exit) ≡ written (λ j. nth-film «wavelength_nm» (now (src .entry)) at j .k) count (now (k .entry))) × (now (d .exit) ≡ written (λ j. nth-film «wavelength_nm» (now (src .entry)) at j .«thickness_nm») count (now (d .entry))) ⌝ }
+    ensures { λ r. ⌜ Wrote (light .snell) (light .«wavelength_nm») (nth-film «wavelength_nm» (now (src .entry)) at) count (now («eta_s» .entry)) (now («eta_p» .entry)) (now (delta .entry)) (now («eta_s» .exit)) (now («eta_p» .exit)) (now (delta .exit)) ⌝ }
 {
+    let mut recent = surface_real::no_recent();
     let mut place = sheet::next_place(src, at);
     let mut i = 0;
     while i < count {
         let reached = reach(src, place, wavelength_nm);
         let layer = reached.layer;
-        n[i] = layer.n;
-        k[i] = layer.k;
-        d[i] = layer.thickness_nm;
+        recent = surface_real::turn(light, layer, recent);
+        let seen = recent.last;
+        let medium = seen.medium;
+        eta_s[i] = medium.eta_s;
+        eta_p[i] = medium.eta_p;
+        delta[i] = medium.delta;
         place = reached.next;
         i += 1;
     }
 }
 
-// The products of the n films after the block at a place, in their order or reversed, one by one: for one or two films
-// arrays do not pay.
+// The product of the n films after the block at a place, in their order or reversed.
 fn stack_at(
     src: &[u8],
     at: usize,
@@ -95,63 +99,29 @@ fn stack_at(
     wavelength_nm: f64,
     light: Incidence,
 ) -> Stack
+    requires { ⌜ n ≤ 16 ⌝ }
     ensures { λ r. ⌜ r ≡ stacked (light .snell) (light .«wavelength_nm») no-films (ordered reversed (films «wavelength_nm» (layers-at (now (src .entry)) (next-place (now (src .entry)) at) n))) ⌝ }
 {
-    let mut stack = surface_real::no_films();
-    let mut i = 0;
-    while i < n {
-        let j = thin_film_layers::nth_index(reversed, n, i);
-        let layer = crate::layer_after(src, at, j, wavelength_nm);
-        stack = surface_real::join(stack, surface_real::film_of(light, layer));
-        i += 1;
-    }
-    stack
-}
-
-// The powers over real numbers, and whether they are known; no admitted sheet has more than 16 layers after a SURFACE.
-fn quick_powers(
-    src: &[u8],
-    at: usize,
-    n: usize,
-    reversed: bool,
-    wavelength_nm: f64,
-    light: Incidence,
-) -> Known
-    ensures { λ r. ⌜ (r .known ≡ true → r .powers ≡ coated-powers (solved light (ordered reversed (films «wavelength_nm» (layers-at (now (src .entry)) (next-place (now (src .entry)) at) n))))) ⌝ }
-{
-    if n > 16 {
-        return presets::unknown();
-    }
-    if n <= 2 {
-        return surface_real::finish(light, stack_at(src, at, n, reversed, wavelength_nm, light));
-    }
-    let mut indices = [1.0; 16];
-    let mut absorbing = [1.0; 16];
-    let mut thicknesses = [1.0; 16];
-    read_layers(
+    let mut eta_s = [1.0; 16];
+    let mut eta_p = [1.0; 16];
+    let mut delta = [1.0; 16];
+    media_at(
         src,
         at,
         n,
         wavelength_nm,
-        &mut indices,
-        &mut absorbing,
-        &mut thicknesses,
+        light,
+        &mut eta_s,
+        &mut eta_p,
+        &mut delta,
     );
     let none = surface_real::no_films();
-    let stack = surface_real::films::join_all(
-        light,
-        &indices,
-        &absorbing,
-        &thicknesses,
-        n,
-        reversed,
-        none,
-    );
-    surface_real::finish(light, stack)
+    surface_real::films::join_all(&eta_s, &eta_p, &delta, n, reversed, none)
 }
 
-// The powers with the n films after the block at a place.
-fn powers_with(
+// The powers with the n layers after the block at a place: over real numbers where they are known so, or else from the whole
+// response. No admitted sheet has more than 16 layers after a SURFACE.
+fn layers_powers(
     src: &[u8],
     at: usize,
     n: usize,
@@ -161,12 +131,74 @@ fn powers_with(
 ) -> Powers
     ensures { λ r. ⌜ r ≡ coated-powers (solved light (ordered reversed (films «wavelength_nm» (layers-at (now (src .entry)) (next-place (now (src .entry)) at) n)))) ⌝ }
 {
-    let quick = quick_powers(src, at, n, reversed, wavelength_nm, light);
-    if quick.known {
-        let powers = quick.powers;
-        powers
+    if n <= 16 {
+        let stack = stack_at(src, at, n, reversed, wavelength_nm, light);
+        let quick = surface_real::finish(light, stack);
+        if quick.known {
+            let powers = quick.powers;
+            return powers;
+        }
+    }
+    surface::coated_powers(crate::solve(src, at, n, reversed, wavelength_nm, light))
+}
+
+// The response with the n layers after the block at a place, by the same two ways.
+fn layers_response(
+    src: &[u8],
+    at: usize,
+    n: usize,
+    reversed: bool,
+    wavelength_nm: f64,
+    light: Incidence,
+) -> CoatingResponse
+    ensures { λ r. ⌜ r ≡ solved light (ordered reversed (films «wavelength_nm» (layers-at (now (src .entry)) (next-place (now (src .entry)) at) n))) ⌝ }
+{
+    if n <= 16 {
+        let stack = stack_at(src, at, n, reversed, wavelength_nm, light);
+        let quick = response_real::finish(light, stack);
+        if quick.known {
+            let response = quick.response;
+            return response;
+        }
+    }
+    crate::solve(src, at, n, reversed, wavelength_nm, light)
+}
+
+// The powers with a coating's own layers, or else with the n after the block at a place.
+fn powers_with(
+    src: &[u8],
+    at: usize,
+    n: usize,
+    coating: SurfaceCoating,
+    reversed: bool,
+    wavelength_nm: f64,
+    light: Incidence,
+) -> Powers
+    ensures { λ r. ⌜ r ≡ coated-powers (solved light (ordered reversed (own-layers coating (films «wavelength_nm» (layers-at (now (src .entry)) (next-place (now (src .entry)) at) n))))) ⌝ }
+{
+    if reading::own_count(coating) == 0 {
+        layers_powers(src, at, n, reversed, wavelength_nm, light)
     } else {
-        surface::coated_powers(crate::solve(src, at, n, reversed, wavelength_nm, light))
+        surface_real::presets::powers_of(coating, reversed, light)
+    }
+}
+
+// The response with these layers.
+pub fn response_with(
+    src: &[u8],
+    at: usize,
+    n: usize,
+    coating: SurfaceCoating,
+    reversed: bool,
+    wavelength_nm: f64,
+    light: Incidence,
+) -> CoatingResponse
+    ensures { λ r. ⌜ r ≡ solved light (ordered reversed (own-layers coating (films «wavelength_nm» (layers-at (now (src .entry)) (next-place (now (src .entry)) at) n)))) ⌝ }
+{
+    if reading::own_count(coating) == 0 {
+        layers_response(src, at, n, reversed, wavelength_nm, light)
+    } else {
+        response_real::solve_own(coating, reversed, light)
     }
 }
 
@@ -191,12 +223,7 @@ pub fn coated_powers(
 ) -> PowersReply
     ensures { λ r. ⌜ outcome-of r ≡ map coated-powers (evaluate-surface coating (films «wavelength_nm» (layers-at (now (src .entry)) (next-place (now (src .entry)) at) n)) (surface .«n_incident») (surface .«n_substrate») (surface .«angle_rad») «wavelength_nm») ⌝ }
 {
-    let preset = presets::preset_powers(coating, surface, wavelength_nm);
-    if preset.known {
-        let powers = preset.powers;
-        return PowersReply::Powers(powers);
-    }
-    match thin_film::reading::prepare_surface(
+    match reading::prepare(
         coating,
         n,
         surface.n_incident,
@@ -209,6 +236,7 @@ pub fn coated_powers(
             src,
             at,
             n,
+            coating,
             reversed,
             wavelength_nm,
             light,
@@ -249,7 +277,7 @@ pub fn custom_powers(
         ) {
             let reversed = surface.n_incident > surface.n_substrate;
             let light = light_with(surface, theta, wavelength_nm);
-            return PowersReply::Powers(powers_with(src, at, n, reversed, wavelength_nm, light));
+            return PowersReply::Powers(layers_powers(src, at, n, reversed, wavelength_nm, light));
         }
     }
     let coating = SurfaceCoating::Custom(Coating::Multilayer);

@@ -1,2 +1,3 @@
 -- The surfaces of a sheet by their numbers: their words, their LAYERs, their answers.
 pub mod Surfaces
+pub mod Internal

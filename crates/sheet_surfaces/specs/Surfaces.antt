@@ -56,9 +56,12 @@ abbrev pub layer-outcome : NthLayer → Outcome ThinFilmLayer
 layer-outcome (L.Layer l) = answer l
 layer-outcome (L.Refused r) = refused r
 
--- ---- its answers
+-- ---- its answers, at a wavelength
+abbrev pub its-answers : Float → SheetSurface → Outcome Answers
+its-answers w y = answers w (surface-value y) (films w (y .layers))
+
 abbrev pub answers-to : ℕ → Outcome Sheet → Outcome Answers
-answers-to = of-surface (λ w y. answers w (surface-value y) (films w (y .layers)))
+answers-to = of-surface its-answers
 
 unfoldable pub surface-answers : List ℕ → ℕ → Outcome Answers
 surface-answers src i = answers-to i (gated src)

@@ -3,6 +3,7 @@
 ghost use mathlib.Core.Path.{_≡_};
 ghost use Rattle.refusal.specs.Outcome.{refused as refused-with};
 ghost use Rattle.sheet_surfaces.specs.Surfaces.{surface-answers, given, nth-surface, surface-outcome, nth-layer, layer-outcome};
+ghost use Rattle.sheet_surfaces.specs.Internal.{answers-met};
 use gate::Gated;
 use gate_limits::Surface;
 use refusal::Refusal;
@@ -17,12 +18,30 @@ pub struct SurfaceReply {
     pub answers: Answers,
 }
 
-fn refused(refusal: Refusal) -> SurfaceReply
+// A refusal, beside which every number is zero.
+pub fn refused(refusal: Refusal) -> SurfaceReply
     ensures { λ r. ⌜ r ≡ given (refused-with refusal) ⌝ }
 {
     let reply = surface::refused(refusal.number);
     let answers = reply.answers;
     SurfaceReply { refusal, answers }
+}
+
+// Of the SURFACE at a place, with the layers after it, met with a wavelength.
+pub fn answers_met(src: &[u8], at: usize, wavelength_nm: f64) -> SurfaceReply
+    ensures { λ r. ⌜ r ≡ answers-met (now (src .entry)) at «wavelength_nm» ⌝ }
+{
+    let n = sheet::layer_run(src, at);
+    let surface = sheet_values::surface_at(src, at);
+    let reply = sheet_answers::answers_at(src, at, n, surface, wavelength_nm);
+    let answers = reply.answers;
+    SurfaceReply {
+        refusal: Refusal {
+            number: reply.refusal,
+            place: 0,
+        },
+        answers,
+    }
 }
 
 // Of the i-th surface, counted from 0, at the wavelength that a list of steps alone meets it with.
@@ -37,19 +56,8 @@ pub fn surface_answers(src: &[u8], i: u32) -> SurfaceReply
                     place: 0,
                 });
             }
-            let at = sheet::place_of(src, i);
-            let n = sheet::layer_run(src, at);
-            let surface = sheet_values::surface_at(src, at);
             let wavelength_nm = sheet_values::wavelength_of(src, i);
-            let reply = sheet_answers::answers_at(src, at, n, surface, wavelength_nm);
-            let answers = reply.answers;
-            SurfaceReply {
-                refusal: Refusal {
-                    number: reply.refusal,
-                    place: 0,
-                },
-                answers,
-            }
+            answers_met(src, sheet::place_of(src, i), wavelength_nm)
         }
         Gated::Refused(r) => refused(r),
     }

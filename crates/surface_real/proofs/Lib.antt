@@ -1,11 +1,11 @@
--- Laws of the real way: what finite numbers say, a film's matrices, products of them, powers; all of it; and a loop over layers.
+-- Laws of the real way: what finite numbers say, a film's matrices, products of them, powers; all of it; films of media in arrays.
 pub mod Back
 pub mod Lossless
 pub mod Products
 pub mod Powers
 pub mod Whole
 pub mod Turns
-mod Stacking
-mod Again
+pub mod Stacking
 mod Arrays
-pub mod Stands
+mod Loops
+pub mod Memo

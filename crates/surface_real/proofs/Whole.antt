@@ -22,6 +22,7 @@ use Rattle.surface.specs.Answers.{coated-powers}
 use Rattle.thin_film_real.proofs.Keeps.{Fine, mul-back, add-back, sub-back}
 use Rattle.surface_real.specs.declared.Stack.{Stack}
 use Rattle.surface_real.specs.declared.Shares.{Shares}
+use Rattle.surface_real.specs.declared.Known.{Known}
 use Rattle.surface_real.specs.Internal.{real-part, cos-theta-sub, no-films, stacked, power, known-of, finish}
 use Rattle.surface_real.specs.Internal.{real-powers, RealPowers}
 use Rattle.surface_real.proofs.Back.{chosen, real-part-back, real-part-is}
@@ -119,3 +120,10 @@ module _ (i : Incidence) (layers : List ThinFilmLayer) where
 
 pub whole : RealPowers
 whole i layers e = known i layers e
+
+-- the same from the product of the films
+pub known-stack : (light : Incidence) (layers : List ThinFilmLayer) (k : Stack) (q : Known) → k ≡ stacked (light .snell) (light .«wavelength_nm») no-films layers → q ≡ finish light k → q .known ≡ true
+    → q .powers ≡ coated-powers (solved light layers)
+known-stack light layers k q k-is q-is e =
+    let is : q ≡ real-powers light layers = q-is ∙ ap (finish light) k-is in
+    ap (λ (z : Known). z .powers) is ∙ whole light layers (ap (λ (z : Known). z .known) (sym is) ∙ e)

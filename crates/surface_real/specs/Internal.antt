@@ -1,7 +1,8 @@
 -- Internal: the powers of films that do not absorb, over real numbers, as the code has them. What this way does not cover is a NaN.
 -- A reader need not believe it: `RealPowers` ties it to the definitions of section 4.
 use mathlib.Core.Path.{_≡_}
-use mathlib.Core.Bool.{Bool, true, _&&_, cond}
+use mathlib.Core.Bool.{true, cond}
+use mathlib.Core.Logic.{_⊎_}
 use mathlib.Core.List.{List, [], _∷_}
 use lib.Ieee.{Float, binary64, neg, lt, le, eq, ofBits}
 use lib.Ieee.Scale.{finite}
@@ -24,6 +25,8 @@ use Rattle.surface_real.specs.declared.Product.{Product}
 use Rattle.surface_real.specs.declared.Stack.{Stack}
 use Rattle.surface_real.specs.declared.Shares.{Shares}
 use Rattle.surface_real.specs.declared.Known.{Known}
+use Rattle.surface_real.specs.declared.Seen.{Seen}
+use Rattle.surface_real.specs.declared.Recent.{Recent}
 
 -- a NaN
 abbrev pub no-number : Float
@@ -144,6 +147,22 @@ RealPowers =
     (i : Incidence) (layers : List ThinFilmLayer) → real-powers i layers .known ≡ true
     → real-powers i layers .powers ≡ coated-powers (solved i layers)
 
--- ---- films that come again
-unfoldable pub both-zero : Float → Float → Bool
-both-zero x y = eq x zero-f && eq y zero-f
+-- ---- layers that come again
+-- no layer, with its medium
+abbrev pub unseen : Seen
+unseen = record {
+  layer = record { n = no-number; k = no-number; «thickness_nm» = no-number };
+  medium = record { «eta_s» = no-number; «eta_p» = no-number; delta = no-number };
+}
+
+abbrev pub no-recent : Recent
+no-recent = record { earlier = unseen; last = unseen }
+
+-- a layer's medium, or that of the earlier layer, which it is again
+abbrev pub Again : Float → Float → ThinFilmLayer → Seen → Medium → Type 0
+Again snell wavelength layer earlier m = (m ≡ medium-of snell wavelength layer) ⊎ ((layer ≡ earlier .layer) × (m ≡ earlier .medium))
+
+-- the media are those of the layers
+pub record Right (snell wavelength : Float) (recent : Recent) : Type 0 where
+  pub earlier : recent .earlier .medium ≡ medium-of snell wavelength (recent .earlier .layer)
+  pub last : recent .last .medium ≡ medium-of snell wavelength (recent .last .layer)

@@ -5,36 +5,38 @@ use mathlib.Core.Bool.{Bool, cond}
 use mathlib.Core.List.{List}
 use lib.Dec.{ltb}
 use lib.ListN.{length, getD}
-use lib.Ieee.{Float, nan, eq}
-use Rattle.ieee.specs.Operators.{_⊖_, _⊗_}
-use Rattle.ieee.specs.Functions.{zero-f, one}
+use lib.Ieee.{Float, nan}
+use Rattle.ieee.specs.Operators.{_⊗_}
+use Rattle.math_trig.specs.Trig.{sin, cos}
+use Rattle.math_waves.specs.Waves.{written}
 use Rattle.thin_film_solver.specs.declared.ThinFilmLayer.{ThinFilmLayer}
 use Rattle.thin_film_layers.specs.Evaluation.{no-layer}
 use Rattle.thin_film_layers.specs.Internal.{nth-index}
 use Rattle.surface_real.specs.declared.Film.{Film}
+use Rattle.surface_real.specs.declared.Medium.{Medium}
 use Rattle.surface_real.specs.declared.Stack.{Stack}
-use Rattle.surface_real.specs.Internal.{no-number, over, root, join}
+use Rattle.surface_real.specs.Internal.{medium-of, film-in, join}
 
 -- what stands at a place
 abbrev pub at : List Float → ℕ → Float
 at l i = getD l i nan
 
--- the layer whose numbers stand at a place
-abbrev pub layer-in : List Float → List Float → List Float → ℕ → ThinFilmLayer
-layer-in n k d i = record { n = at n i; k = at k i; «thickness_nm» = at d i }
+-- the film of the medium at a place
+unfoldable pub film-at : List Float → List Float → List Float → ℕ → Film
+film-at eta-s eta-p delta j = film-in (at eta-s j) (at eta-p j) (sin (at delta j)) (cos (at delta j))
 
--- a list's layers stand in the first places
-abbrev pub Stand : List Float → List Float → List Float → List ThinFilmLayer → Type 0
-Stand n k d layers = (i : ℕ) → i < length layers → getD layers i no-layer ≡ layer-in n k d i
+-- the media of a list's layers stand in the first places
+abbrev pub Media : Float → Float → List Float → List Float → List Float → List ThinFilmLayer → Type 0
+Media snell wavelength eta-s eta-p delta layers =
+    (i : ℕ) → i < length layers
+    → _≡_ {A = Medium} (record { «eta_s» = at eta-s i; «eta_p» = at eta-p i; delta = at delta i }) (medium-of snell wavelength (getD layers i no-layer))
 
--- what a film's cosine is the root of, and the root where k is a zero
-unfoldable pub radicand : Float → Float → Float
-radicand snell n =
-    let sin = over snell n in
-    one ⊖ sin ⊗ sin
-
-unfoldable pub root-of : Float → Float → Float
-root-of h k = cond (eq k zero-f) (root h) no-number
+-- the media of the first n layers are written to three arrays
+abbrev pub Wrote : Float → Float → (ℕ → ThinFilmLayer) → ℕ → List Float → List Float → List Float → List Float → List Float → List Float → Type 0
+Wrote snell wavelength layer n eta-s₀ eta-p₀ delta₀ eta-s eta-p delta =
+    (eta-s ≡ written (λ i. medium-of snell wavelength (layer i) .«eta_s») n eta-s₀)
+    × (eta-p ≡ written (λ i. medium-of snell wavelength (layer i) .«eta_p») n eta-p₀)
+    × (delta ≡ written (λ i. medium-of snell wavelength (layer i) .delta) n delta₀)
 
 -- the film whose numbers stand at a place
 unfoldable pub film-here : List Float → List Float → List Float → List Float → List Float → List Float → ℕ → Film

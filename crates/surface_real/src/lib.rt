@@ -3,14 +3,14 @@
 // infinity stays to the end: the powers are known where the last numbers are finite, and are those of thin_film_solver.
 ghost use mathlib.Core.Path.{_≡_};
 ghost use lib.Dec.{T};
-ghost use lib.Ieee.{Float};
-ghost use Rattle.surface_real.specs.Internal.{over, real-part, root, cos-theta, medium-of, film-in, film-of, times, join, no-films, cos-theta-sub, power, finish, both-zero};
+ghost use Rattle.surface_real.specs.Internal.{over, real-part, root, cos-theta, medium-of, film-in, times, join, no-films, cos-theta-sub, power, finish, no-recent, Again};
 use surface::Powers;
 use thin_film_complex::Complex;
 use thin_film_solver::Incidence;
 use thin_film_solver::ThinFilmLayer;
 
 pub mod films;
+pub mod presets;
 
 // ---- films
 
@@ -41,27 +41,33 @@ pub fn real_part(z: Complex) -> f64
     if z.im == 0.0 { z.re } else { 0.0 / 0.0 }
 }
 
-// The root of a number from 2^-10 to 2^10, as Complex::sqrt takes it. It is quick for a number from 1/2 to 2 whose root
-// is n.
-fn root_guessed(x: f64, n: f64) -> f64
+// A guess at the root of h from 1/2 to 1, of which nothing is proved: a quartic for 1 over the root, and two better ones
+// from it.
+fn guess(h: f64) -> f64 {
+    let square = h * h;
+    let first = (2.9228837662011293 - 5.4349775452710505 * h)
+        + square * ((6.719651141032791 - 4.331924622358352 * h) + 1.1244305836496429 * square);
+    let left = 1.0 - h * first * first;
+    let r = first + first * left * (0.5 + 0.375 * left);
+    let s = h * r;
+    let high = (s + 201326592.0) - 201326592.0;
+    let over = (h - high * high) - (s + high) * (s - high);
+    s + over * (0.5 * r)
+}
+
+// The root of a number from 2^-10 to 2^10, as Complex::sqrt takes it.
+fn root(x: f64) -> f64
     ensures { λ r. ⌜ r ≡ root x ⌝ }
 {
     if x >= 0.0009765625 {
         if x <= 1024.0 {
-            math_sqrt::sqrt_guessed(ieee::max((x + x) / 2.0, 0.0), n)
+            math_sqrt::sqrt_guessed(ieee::max((x + x) / 2.0, 0.0), guess(x))
         } else {
             0.0 / 0.0
         }
     } else {
         0.0 / 0.0
     }
-}
-
-// The same without a guess.
-fn root(x: f64) -> f64
-    ensures { λ r. ⌜ r ≡ root x ⌝ }
-{
-    root_guessed(x, 0.0)
 }
 
 // cos(theta) in a film that does not absorb.
@@ -108,14 +114,6 @@ fn film_in(eta_s: f64, eta_p: f64, sin: f64, cos: f64) -> Film
         y_p: over(sin, eta_p),
         z_p: sin * eta_p,
     }
-}
-
-pub fn film_of(light: Incidence, layer: ThinFilmLayer) -> Film
-    ensures { λ r. ⌜ r ≡ film-of (light .snell) (light .«wavelength_nm») layer ⌝ }
-{
-    let medium = medium_of(light, layer);
-    let wave = math_trig::sin_cos(medium.delta);
-    film_in(medium.eta_s, medium.eta_p, wave.sin, wave.cos)
 }
 
 // ---- products
@@ -250,7 +248,7 @@ pub fn finish(light: Incidence, stack: Stack) -> Known
     Known { known, powers }
 }
 
-// ---- films that come again
+// ---- layers that come again
 
 // Whether two numbers have the same bits; a NaN is the same as no number.
 fn same_number(x: f64, y: f64) -> bool
@@ -263,24 +261,92 @@ fn same_number(x: f64, y: f64) -> bool
     }
 }
 
-// Whether both numbers are zeros.
-fn both_zero(x: f64, y: f64) -> bool
-    ensures { λ r. ⌜ r ≡ both-zero x y ⌝ }
+// Whether two media have the same bits.
+fn same_medium(a: Medium, b: Medium) -> bool
+    ensures { λ r. ⌜ (T r → a ≡ b) ⌝ }
 {
-    if x == 0.0 { y == 0.0 } else { false }
-}
-
-// Whether two layers that do not absorb have one index and one thickness: their films are one then.
-pub fn alike(a: ThinFilmLayer, b: ThinFilmLayer) -> bool
-    ensures { λ r. ⌜ (T r → (snell wavelength : Float) → film-of snell wavelength a ≡ film-of snell wavelength b) ⌝ }
-{
-    if same_number(a.n, b.n) {
-        if same_number(a.thickness_nm, b.thickness_nm) {
-            both_zero(a.k, b.k)
+    if same_number(a.delta, b.delta) {
+        if same_number(a.eta_s, b.eta_s) {
+            same_number(a.eta_p, b.eta_p)
         } else {
             false
         }
     } else {
         false
+    }
+}
+
+// Whether two layers have the same bits.
+fn same_layer(a: ThinFilmLayer, b: ThinFilmLayer) -> bool
+    ensures { λ r. ⌜ (T r → a ≡ b) ⌝ }
+{
+    if same_number(a.n, b.n) {
+        if same_number(a.thickness_nm, b.thickness_nm) {
+            same_number(a.k, b.k)
+        } else {
+            false
+        }
+    } else {
+        false
+    }
+}
+
+// A layer with its medium.
+pub struct Seen {
+    pub layer: ThinFilmLayer,
+    pub medium: Medium,
+}
+
+// The last two layers that were read: of layers that take turns, as in H L H L, two media are worked out.
+pub struct Recent {
+    pub earlier: Seen,
+    pub last: Seen,
+}
+
+// Before the first layer: a layer that is no number is like no other.
+pub fn no_recent() -> Recent
+    ensures { λ r. ⌜ r ≡ no-recent ⌝ }
+{
+    let none = 0.0 / 0.0;
+    let layer = ThinFilmLayer {
+        n: none,
+        k: none,
+        thickness_nm: none,
+    };
+    let medium = Medium {
+        eta_s: none,
+        eta_p: none,
+        delta: none,
+    };
+    let seen = Seen { layer, medium };
+    Recent {
+        earlier: seen,
+        last: seen,
+    }
+}
+
+// The medium of a layer, which can be that of the last layer but one.
+fn medium_again(light: Incidence, layer: ThinFilmLayer, earlier: Seen) -> Medium
+    ensures { λ r. ⌜ Again (light .snell) (light .«wavelength_nm») layer earlier r ⌝ }
+{
+    let known = earlier.layer;
+    if same_layer(layer, known) {
+        let medium = earlier.medium;
+        medium
+    } else {
+        medium_of(light, layer)
+    }
+}
+
+// One layer more.
+pub fn turn(light: Incidence, layer: ThinFilmLayer, recent: Recent) -> Recent
+    ensures { λ r. ⌜ (r .earlier ≡ recent .last) × (r .last .layer ≡ layer) × Again (light .snell) (light .«wavelength_nm») layer (recent .earlier) (r .last .medium) ⌝ }
+{
+    let earlier = recent.earlier;
+    let last = recent.last;
+    let medium = medium_again(light, layer, earlier);
+    Recent {
+        earlier: last,
+        last: Seen { layer, medium },
     }
 }

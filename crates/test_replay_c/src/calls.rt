@@ -106,6 +106,21 @@ fn answers_call(n: usize, surface: u32, src: &[u8], out: &mut [u64; 256]) -> usi
     returned(out, number, &list, n)
 }
 
+fn answers_at_call(
+    n: usize,
+    wavelength_nm: f64,
+    surface: u32,
+    src: &[u8],
+    out: &mut [u64; 256],
+) -> usize {
+    let mut list = [-7.25f64; 200];
+    if n > 200 {
+        return 0;
+    }
+    let number = dihkelu::dihkelu_answers_at(src, surface, wavelength_nm, &mut list[..n]);
+    returned(out, number, &list, n)
+}
+
 // So many numbers, the first of which is at a word of the record.
 fn floats_at(a: &[u8], from: u32) -> [f64; 200] {
     let mut floats = [0.0f64; 200];
@@ -350,6 +365,13 @@ pub fn call(f: usize, a: &[u8], out: &mut [u64; 256]) -> usize {
         205 => band_call(n, done, a, out),
         206 => evaluate_list_call(n, a, out),
         207 => invalid_argument_call(a, out),
+        229 => answers_at_call(
+            n,
+            test_records::float_at(a, 1),
+            test_records::small_at(a, 2),
+            test_records::bytes_at(a, 3),
+            out,
+        ),
         _ => 0,
     }
 }

@@ -1,4 +1,4 @@
-// The functions 208 to 227, the calls that are single functions. Each gives what a call returns and all of the list that it was
+// The functions 208 to 228, the calls that are single functions. Each gives what a call returns and all of the list that it was
 // lent, in so many words; none where it is not one of these or its list is too long to lend.
 
 // What a call returned, and the first n numbers of the list; the words behind them do not count.
@@ -162,6 +162,15 @@ fn coating_name_call(n: usize, code: u32, out: &mut [u64; 256]) -> usize {
     n + 1
 }
 
+fn trim_call(name: &[u8], out: &mut [u64; 256]) -> usize {
+    let mut place = 0x5a5au64;
+    let mut length = 0xa5a5u64;
+    out[0] = dihkelu::dihkelu_trim(name, &mut place, &mut length);
+    out[1] = place;
+    out[2] = length;
+    3
+}
+
 pub fn call(f: usize, a: &[u8], out: &mut [u64; 256]) -> usize {
     let n = test_records::small_at(a, 0) as usize;
     match f {
@@ -172,6 +181,7 @@ pub fn call(f: usize, a: &[u8], out: &mut [u64; 256]) -> usize {
         219..=221 => lists_call(f, n, a, out),
         223 | 225 | 226 => angle_call(f, n, a, out),
         227 => coating_name_call(n, test_records::small_at(a, 1), out),
+        228 => trim_call(test_records::bytes_at(a, 0), out),
         _ => 0,
     }
 }

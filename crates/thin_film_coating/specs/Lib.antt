@@ -1,4 +1,5 @@
--- A coating beside its layers; Internal need not be believed.
+-- A coating beside its layers, and a known answer; Internal need not be believed.
 pub mod Coating
 pub mod Evaluate
+pub mod Known
 pub mod Internal

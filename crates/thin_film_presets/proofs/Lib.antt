@@ -1,3 +1,4 @@
--- laws
+-- Laws, and known answers.
 pub mod Nth
 pub mod Decimals
+pub mod Known

@@ -1,2 +1,3 @@
--- The layers of the preset coatings.
+-- The layers of the preset coatings, and some answers.
 pub mod Layers
+pub mod Known

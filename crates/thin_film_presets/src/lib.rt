@@ -24,17 +24,21 @@ pub fn quarter_wave(n: f64, design_wavelength_nm: f64) -> ThinFilmLayer
     ThinFilmLayer::dielectric(n, design_wavelength_nm / (4.0 * n))
 }
 
-// The four layers of the broadband coating, from the incident medium to the substrate: SiO2, TiO2,
-// SiO2, TiO2.
-pub fn broadband() -> [ThinFilmLayer; 4]
-    ensures { λ r. ⌜ r ≡ broadband-layers ⌝ }
+// The i-th of the four layers of the broadband coating, from the incident medium to the substrate: SiO2, TiO2, SiO2, TiO2.
+pub fn broadband(i: usize) -> ThinFilmLayer
+    ensures { λ r. ⌜ r ≡ getD broadband-layers i no-layer ⌝ }
 {
-    [
-        ThinFilmLayer::dielectric(1.46, 88.0),
-        ThinFilmLayer::dielectric(2.30, 112.0),
-        ThinFilmLayer::dielectric(1.46, 32.0),
-        ThinFilmLayer::dielectric(2.30, 15.0),
-    ]
+    if i == 0 {
+        ThinFilmLayer::dielectric(1.46, 88.0)
+    } else if i == 1 {
+        ThinFilmLayer::dielectric(2.30, 112.0)
+    } else if i == 2 {
+        ThinFilmLayer::dielectric(1.46, 32.0)
+    } else if i == 3 {
+        ThinFilmLayer::dielectric(2.30, 15.0)
+    } else {
+        ThinFilmLayer::dielectric(0.0, 0.0)
+    }
 }
 
 // The i-th layer of (H L)^N H, the same for each N that has one: N = i has.

@@ -1,4 +1,5 @@
--- The stack shorthand meets its contracts and its claim.
+-- The stack shorthand meets its contracts and its claim; known answers.
 pub mod Made
 pub mod Given
 pub mod Claim
+pub mod Known

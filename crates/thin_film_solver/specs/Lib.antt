@@ -1,5 +1,6 @@
--- The transfer-matrix method of thin_film.rs; Internal need not be believed.
+-- The transfer-matrix method of thin_film.rs, and what stands where there is no response; Internal need not be believed.
 pub mod Layer
 pub mod Absorptance
 pub mod Solve
+pub mod Known
 pub mod Internal

@@ -23,7 +23,7 @@ use Rattle.surface.specs.Finite.{UnitPowers, Answered}
 use Rattle.sheet.specs.Sheet.{SheetLayer, SheetSurface, no-surface, nth, Sheet, GoodSurface, WellFormed}
 use Rattle.sheet.specs.Claim.{Bytes}
 use Rattle.sheet_values.specs.Values.{value, film, films, surface-value, met-with, met-at}
-use Rattle.sheet_surfaces.specs.Surfaces.{of-surface, surface-of, numbered, nth-surface, no-film, layer-of, nth-layer, answers-to, surface-answers}
+use Rattle.sheet_surfaces.specs.Surfaces.{its-answers, of-surface, surface-of, numbered, nth-surface, no-film, layer-of, nth-layer, answers-to, surface-answers}
 use Rattle.sheet_surfaces.proofs.Answers.{all-nth, answered}
 use Rattle.gate.specs.Gate.{gated}
 use Rattle.gate.specs.Wavelength.{holds}
@@ -33,6 +33,7 @@ use Rattle.train_steps.proofs.Takes.{takes}
 use Rattle.gate.proofs.Claim.{gate-claim}
 use Rattle.train_steps.specs.declared.State.{State}
 use Rattle.train_steps.specs.Train.{chosen, chosen-of, chosen-powers, fresh, start, after-one, stepped, step, with-wavelength, retuned, retune, state-after, after-each, Ran, ran, run}
+use Rattle.sheet_retuned.specs.Retuned.{retuned-before, answers-at}
 use Rattle.train_claim.specs.Claim.{Action, a-step, a-retune, answer-to, act, acts, told, count-steps, steps, Course, meets, is-told, course, course-of, product, chosen-s, chosen-p, worked-out, Falls, AllFall, AllAnswered, AdmittedSheet, EveryCall, TurnedBack, TrainClaim}
 use Rattle.train_claim.proofs.One.{one, two, metal}
 use Rattle.train_claim.proofs.Falls.{Unit-powers, stays, taken, unit, begun, power-finite, sum-finite}
@@ -93,6 +94,46 @@ module _ (src : List ℕ) (x : Sheet) (is-admitted : gated src ≡ answer x) (fo
 
   on-untuned : (st : State) (w : Float) → holds w (drop (st .done) xs) ≡ false → retune src st w ≡ refusal 11 0
   on-untuned st w h = on-retune st w ∙ rw h
+
+  -- ---- a surface's answers after a retune made right before it is stepped
+  on-answers-at : (i : ℕ) (w : Float) → answers-at src i w ≡ retuned-before i w x
+  unfolding answers-at
+  on-answers-at i w = ap (λ (o : Outcome Sheet). bind o (retuned-before i w)) is-admitted
+
+  module _ (st : State) (w : Float) (l : st .done < length xs) where
+    abbrev met-there : SheetSurface
+    met-there = nth xs (st .done)
+
+    here-at : answers-at src (st .done) w ≡ cond (holds w (drop (st .done) xs)) (its-answers (met-with w (met-there .tuning)) met-there) (refusal 11 0)
+    here-at = on-answers-at (st .done) w ∙ rw (lt-ltb (st .done) (length xs) l)
+
+    apart : {A : Type 0} (next : State) (number place : ℕ) → answer next ≡ refusal number place → A
+    apart next number place e = let z : _≡_ {A = ℕ} 0 1 = cc in absurd (omega arith)
+
+    untuned-at : (number place : ℕ) → retune src st w ≡ refusal number place → answers-at src (st .done) w ≡ refusal number place
+    untuned-at number place e = by (holds w (drop (st .done) xs)) refl
+      where
+        by : (b : Bool) → holds w (drop (st .done) xs) ≡ b → answers-at src (st .done) w ≡ refusal number place
+        by true h = apart (with-wavelength w st) number place (sym (on-tuned st w h) ∙ e)
+        by false h = here-at ∙ rw h (ap (λ (o : Outcome State). bind o (λ next. its-answers w met-there)) (sym (on-untuned st w h) ∙ e))
+
+    abbrev Stepped : State → Type 0
+    Stepped next = (after : State) × ((step src next ≡ answer after)
+        × ((answers-at src (st .done) w ≡ its-answers (after .«wavelength_nm») met-there) × Whole (after .«wavelength_nm») met-there))
+
+    then-stepped : holds w (drop (st .done) xs) ≡ true → Stepped (with-wavelength w st)
+    unfolding after-one
+    then-stepped h =
+        let m = takes x inside w (st .done) (of-true _ h) l .0 in
+        let v = met-with w (met-there .tuning) in
+        (after-one (with-wavelength w st) met-there, (on-taken (with-wavelength w st) l h, (here-at ∙ rw h, answered v (m .0) met-there (m .1) (all-nth _ xs (st .done) (formed .surfaces) l .few))))
+
+    tuned-at : (next : State) → retune src st w ≡ answer next → Stepped next
+    tuned-at next e = by (holds w (drop (st .done) xs)) refl
+      where
+        by : (b : Bool) → holds w (drop (st .done) xs) ≡ b → Stepped next
+        by true h = let q : answer (with-wavelength w st) ≡ answer next = sym (on-tuned st w h) ∙ e in let p : with-wavelength w st ≡ next = cc in subst Stepped p (then-stepped h)
+        by false h = apart next 11 0 (sym e ∙ on-untuned st w h)
 
   -- ---- what comes of a list of actions from a state, by a course
   record Follows (actions : List Action) (st : State) (c : Course) : Type 0 where
@@ -299,6 +340,9 @@ module _ (src : List ℕ) (x : Sheet) (is-admitted : gated src ≡ answer x) (fo
     answered = λ i l. ap (answers-to i) is-admitted ∙ rw (lt-ltb i (length xs) l);
     met = λ i l. held-is i ∙ held-after (value (x .wavelength)) xs i l;
     no-surface = λ i l. ap (answers-to i) is-admitted ∙ rw (le-ltb i (length xs) l);
+    no-surface-at = λ i w l. on-answers-at i w ∙ rw (le-ltb i (length xs) l);
+    untuned-at = untuned-at;
+    tuned-at = tuned-at;
     surface = λ i l. ap (λ (o : Outcome Sheet). map numbered (surface-of i o)) is-admitted ∙ rw (lt-ltb i (length xs) l);
     layer = λ i l before y behind e. ap (of-surface (layer-of (length before)) i) is-admitted ∙ rw (lt-ltb i (length xs) l) (layer-here (met-at (value (x .wavelength)) xs i) (nth xs i) before y behind e);
     no-layer = λ i j l past. ap (of-surface (layer-of j) i) is-admitted ∙ rw (lt-ltb i (length xs) l) (rw (le-ltb j (length (nth xs i .layers)) past));
@@ -309,13 +353,14 @@ module _ (src : List ℕ) (x : Sheet) (is-admitted : gated src ≡ answer x) (fo
 
 -- ---- bytes that the gate refuses
 turned-back : (src : List ℕ) (number place : ℕ) → gated src ≡ refusal number place → TurnedBack src number place
-unfolding start step retune run surface-answers nth-surface nth-layer
+unfolding start step retune run surface-answers answers-at nth-surface nth-layer
 turned-back src number place e = record {
   starts = ap (map fresh) e;
   steps = λ st. ap (λ (o : Outcome Sheet). bind o (stepped st)) e;
   retunes = λ st w. ap (λ (o : Outcome Sheet). bind o (retuned w st)) e;
   runs = λ list. ap (ran list) e;
   answered = λ i. ap (answers-to i) e;
+  answered-at = λ i w. ap (λ (o : Outcome Sheet). bind o (retuned-before i w)) e;
   surface = λ i. ap (λ (o : Outcome Sheet). map numbered (surface-of i o)) e;
   layer = λ i j. ap (of-surface (layer-of j) i) e;
 }

@@ -16,12 +16,13 @@ use Rattle.sheet.specs.Words.{kind}
 use Rattle.sheet.specs.Sheet.{SheetLayer, Tuning, keeps, tunes, SheetSurface, nth, Sheet, WellFormed, layer-block}
 use Rattle.sheet.specs.Claim.{Bytes}
 use Rattle.sheet_values.specs.Values.{value, film, films, surface-value, met-with, met-at}
-use Rattle.sheet_surfaces.specs.Surfaces.{nth-surface, nth-layer, surface-answers}
+use Rattle.sheet_surfaces.specs.Surfaces.{its-answers, nth-surface, nth-layer, surface-answers}
 use Rattle.gate.specs.Gate.{old, verdicts-by, gated}
 use Rattle.gate.specs.Wavelength.{holds}
 use Rattle.gate.specs.Claim.{WithinLimits, GateClaim}
 use Rattle.train_steps.specs.declared.State.{State}
 use Rattle.train_steps.specs.Train.{chosen-powers, fresh, start, after-one, step, with-wavelength, retune, state-after, run, sum}
+use Rattle.sheet_retuned.specs.Retuned.{answers-at}
 
 -- ---- a list of actions, all with one sheet
 pub data Action : Type 0 where
@@ -174,6 +175,16 @@ pub record EveryCall (src : List ℕ) (x : Sheet) : Type 0 where
   pub met : (i : ℕ) → i < length (x .surfaces) →
       worked-out x (steps (suc i)) .«wavelength_nm» ≡ met-at (value (x .wavelength)) (x .surfaces) i
   pub no-surface : (i : ℕ) → length (x .surfaces) ≤ i → surface-answers src i ≡ refusal 7 0
+  -- the answers of a surface after a retune made right before it is stepped, whatever the state: 7 where there is no such surface; else what
+  -- refuses the retune; else those at the wavelength that the step from there holds, all of them finite
+  pub no-surface-at : (i : ℕ) (w : Float) → length (x .surfaces) ≤ i → answers-at src i w ≡ refusal 7 0
+  pub untuned-at : (st : State) (w : Float) → st .done < length (x .surfaces) → (number place : ℕ) →
+      retune src st w ≡ refusal number place → answers-at src (st .done) w ≡ refusal number place
+  pub tuned-at : (st : State) (w : Float) → st .done < length (x .surfaces) → (next : State) → retune src st w ≡ answer next →
+      let y = nth (x .surfaces) (st .done) in
+      (after : State) × ((step src next ≡ answer after)
+      × ((answers-at src (st .done) w ≡ its-answers (after .«wavelength_nm») y)
+      × Answered (after .«wavelength_nm») (surface-value y) (films (after .«wavelength_nm») (y .layers))))
   -- a surface by its number, and its layers in sheet order, each at that wavelength; 7 where there is none
   pub surface : (i : ℕ) → i < length (x .surfaces) → let y = nth (x .surfaces) i in
       nth-surface src i ≡ answer (record { surface = surface-value y; layers = length (y .layers) })
@@ -189,6 +200,7 @@ pub record TurnedBack (src : List ℕ) (number place : ℕ) : Type 0 where
   pub retunes : (st : State) (w : Float) → retune src st w ≡ refusal number place
   pub runs : (list : List Float) → run src list ≡ record { result = refusal number place; list = list }
   pub answered : (i : ℕ) → surface-answers src i ≡ refusal number place
+  pub answered-at : (i : ℕ) (w : Float) → answers-at src i w ≡ refusal number place
   pub surface : (i : ℕ) → nth-surface src i ≡ refusal number place
   pub layer : (i j : ℕ) → nth-layer src i j ≡ refusal number place
 

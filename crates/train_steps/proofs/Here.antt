@@ -4,8 +4,8 @@ use mathlib.Core.List.{List, [], _∷_}
 use Prim.Native.Nat.{ℕ, suc, _+_, _≤_, _<_}
 use native.Mathlib.Omega.{arith}
 use lib.Dec.{T}
-use lib.ListN.{length, drop}
-use lib.Ieee.{Float}
+use lib.ListN.{length, drop, getD}
+use lib.Ieee.{Float, nan}
 use Rattle.ieee.specs.Operators.{_⊗_}
 use Rattle.refusal.specs.Outcome.{Outcome, answer, map}
 use Rattle.surface.specs.declared.Answers.{Answers}
@@ -21,6 +21,9 @@ use Rattle.sheet_values.specs.declared.Beam.{Beam}
 use Rattle.sheet_values.specs.Values.{value, beam-value, films, surface-value, met-with}
 use Rattle.sheet_values.specs.Internal.{beam-at}
 use Rattle.sheet_values.proofs.Here.{beam-here, value-here, films-here, tuning-here}
+use Rattle.math_trig.specs.Trig.{sin-cos}
+use Rattle.sheet_index.specs.Internal.{Indexed}
+use Rattle.gate.specs.Internal.{angle-at}
 use Rattle.gate.specs.Claim.{WithinLimits}
 use Rattle.gate.proofs.Wavelengths.{Met}
 use Rattle.sheet_surfaces.proofs.Answers.{all-nth, answered}
@@ -63,3 +66,11 @@ module _ (src : List ℕ) (x : Sheet) (stands : Standing src x) (within : Within
         let w = met-with (st .«wavelength_nm») (y .tuning) in
         ap (λ (v : Float). let c = chosen-at src (onto src at) (layer-run 16 src (onto src at)) v in record { done = st .done + 1; s = st .s ⊗ c .s; p = st .p ⊗ c .p; «wavelength_nm» = v }) (met-here at q (st .«wavelength_nm»))
         ∙ ap (λ (c : Declared.Chosen). record { done = st .done + 1; s = st .s ⊗ c .s; p = st .p ⊗ c .p; «wavelength_nm» = w }) (chosen-here w good (onto src at) (ap (onto src) q) (layer-run 16 src (onto src at)) refl)
+
+-- the sine and the cosine that the index has of the i-th surface
+pub angles-here : (src : List ℕ) (n : ℕ) (b c : List ℕ) (s t : List Float) → Indexed src n b c s t → (i : ℕ) → i < n → (o : ℕ) → o ≡ onto src (getD b i 0) → record { sin = getD s i nan; cos = getD t i nan } ≡ sin-cos (angle-at src o)
+angles-here src n b c s t h i lt o e = (λ k. record { sin = h .sine i lt k; cos = h .cosine i lt k }) ∙ ap (λ (z : ℕ). sin-cos (angle-at src (onto src z))) (sym (h .begun i lt)) ∙ ap (λ (z : ℕ). sin-cos (angle-at src z)) (sym e)
+
+-- and the count of its layers
+pub layers-here : (src : List ℕ) (n : ℕ) (b c : List ℕ) (s t : List Float) → Indexed src n b c s t → (i : ℕ) → i < n → (o : ℕ) → o ≡ onto src (getD b i 0) → getD c i 0 ≡ layer-run 16 src o
+layers-here src n b c s t h i lt o e = h .counted i lt ∙ ap (λ (z : ℕ). layer-run 16 src (onto src z)) (sym (h .begun i lt)) ∙ ap (layer-run 16 src) (sym e)

@@ -7,11 +7,15 @@ ghost use lib.ListN.{length, drop};
 ghost use Rattle.refusal.specs.Outcome.{answer};
 ghost use Rattle.sheet.specs.Sheet.{Sheet};
 ghost use Rattle.gate.specs.Gate as Gate;
-ghost use Rattle.gate.specs.Internal.{Kept};
+ghost use Rattle.gate.specs.Internal.{angle-at};
+ghost use Rattle.math_trig.specs.Trig.{sin-cos};
+ghost use Rattle.sheet.specs.Internal.{layer-run, onto};
+ghost use Rattle.sheet_index.specs.Internal.{Indexed};
 ghost use Rattle.sheet_answers.specs.Outcome.{outcome-of};
 ghost use Rattle.train_steps.specs.Train.{chosen, chosen-of, fresh, start, outcome, step, retune, after-each, run, sum};
 ghost use Rattle.train_steps.specs.Internal.{chosen-at, moved, moved-from, moved-at, run-at};
 use gate::Gated;
+use math_trig::SinCos;
 use refusal::Refusal;
 use sheet_answers::PowersReply;
 use surface::Powers;
@@ -55,7 +59,7 @@ fn chosen_of(reflected: bool, reply: PowersReply) -> Chosen
 }
 
 // Of the surface at a place with the n layers after it.
-pub fn chosen_at(src: &[u8], at: usize, n: usize, wavelength_nm: f64) -> Chosen
+fn chosen_at(src: &[u8], at: usize, n: usize, wavelength_nm: f64) -> Chosen
     ensures { λ r. ⌜ r ≡ chosen-at (now (src .entry)) at n «wavelength_nm» ⌝ }
 {
     let surface = sheet_values::surface_at(src, at);
@@ -63,22 +67,12 @@ pub fn chosen_at(src: &[u8], at: usize, n: usize, wavelength_nm: f64) -> Chosen
     chosen_of(surface.reflected, reply)
 }
 
-// The same with the sine and the cosine that the gate kept of the i-th surface.
-fn chosen_kept(
-    src: &[u8],
-    at: usize,
-    n: usize,
-    wavelength_nm: f64,
-    i: usize,
-    places: &[u16; 64],
-    sines: &[f64; 64],
-    cosines: &[f64; 64],
-) -> Chosen
-    requires { ⌜ Kept (now src) (now places) (now sines) (now cosines) ⌝ }
+// The same with the sine and the cosine of its angle.
+fn chosen_with(src: &[u8], at: usize, n: usize, wavelength_nm: f64, theta: SinCos) -> Chosen
+    requires { ⌜ theta ≡ sin-cos (angle-at (now src) at) ⌝ }
     ensures { λ r. ⌜ r ≡ chosen-at (now (src .entry)) at n «wavelength_nm» ⌝ }
 {
     let surface = sheet_values::surface_at(src, at);
-    let theta = gate::kept_at(at, surface.angle_rad, i, places, sines, cosines);
     let reply = sheet_answers::powers_with_angle(src, at, n, surface, theta, wavelength_nm);
     chosen_of(surface.reflected, reply)
 }
@@ -144,34 +138,29 @@ fn moved_from(src: &[u8], at: usize, n: usize, wavelength_nm: f64, state: State)
     moved(chosen_at(src, at, n, wavelength_nm), wavelength_nm, state)
 }
 
-// The state after the surface that begins at a place, which is met with its own kind 7's wavelength or the one held.
-fn moved_at(
-    src: &[u8],
-    begin: usize,
-    state: State,
-    places: &[u16; 64],
-    sines: &[f64; 64],
-    cosines: &[f64; 64],
-) -> State
-    requires { ⌜ (state .done < 0xFFFF_FFFF) × Kept (now src) (now places) (now sines) (now cosines) ⌝ }
+// The state after the surface that begins at a place with its n layers, which is met with its own kind 7's wavelength or the one held.
+fn moved_at(src: &[u8], begin: usize, n: usize, theta: SinCos, state: State) -> State
+    requires { ⌜ (state .done < 0xFFFF_FFFF) × ((n ≡ layer-run 16 (now src) (onto (now src) begin)) × (theta ≡ sin-cos (angle-at (now src) (onto (now src) begin)))) ⌝ }
     ensures { λ r. ⌜ r ≡ moved-at (now (src .entry)) begin state ⌝ }
 {
     let wavelength_nm = sheet_values::met_with(src, begin, state.wavelength_nm);
     let at = sheet::onto(src, begin);
-    let n = sheet::layer_run(src, at);
-    let i = state.done as usize;
-    let c = chosen_kept(src, at, n, wavelength_nm, i, places, sines, cosines);
-    moved(c, wavelength_nm, state)
+    moved(
+        chosen_with(src, at, n, wavelength_nm, theta),
+        wavelength_nm,
+        state,
+    )
 }
 
 // One surface on from any state; a refusal leaves the state as it was.
 pub fn step(src: &[u8], state: State) -> TrainReply
     ensures { λ r. ⌜ outcome r ≡ step (now (src .entry)) state ⌝ }
 {
-    let mut places = [1u16; 64];
+    let mut begins = [1usize; 64];
+    let mut counts = [1usize; 64];
     let mut sines = [1.0f64; 64];
     let mut cosines = [1.0f64; 64];
-    match gate::gate_keeping(src, &mut places, &mut sines, &mut cosines) {
+    match gate::gate_index(src, &mut begins, &mut counts, &mut sines, &mut cosines) {
         Gated::Admitted(count) => {
             if state.done >= count {
                 return TrainReply::Refused(Refusal {
@@ -179,14 +168,19 @@ pub fn step(src: &[u8], state: State) -> TrainReply
                     place: 0,
                 });
             }
-            let begin = sheet::begin_of(src, state.done);
+            let i = state.done as usize;
+            let begin = begins[i];
             if !gate::holds_from(src, begin, count - state.done, state.wavelength_nm) {
                 return TrainReply::Refused(Refusal {
                     number: 11,
                     place: 0,
                 });
             }
-            TrainReply::State(moved_at(src, begin, state, &places, &sines, &cosines))
+            let theta = SinCos {
+                sin: sines[i],
+                cos: cosines[i],
+            };
+            TrainReply::State(moved_at(src, begin, counts[i], theta, state))
         }
         Gated::Refused(r) => TrainReply::Refused(r),
     }
@@ -221,31 +215,33 @@ pub fn retune(src: &[u8], state: State, wavelength_nm: f64) -> TrainReply
 fn write_each(
     src: &[u8],
     count: usize,
-    places: &[u16; 64],
+    begins: &[usize; 64],
+    counts: &[usize; 64],
     sines: &[f64; 64],
     cosines: &[f64; 64],
     list: &mut [f64],
 )
-    requires { ⌜ ((count ≤ 0xFFFF_FFFF) × (2 * count ≤ length (now list))) × Kept (now src) (now places) (now sines) (now cosines) ⌝ }
+    requires { ⌜ (2 * count ≤ length (now list)) × Indexed (now src) count (now begins) (now counts) (now sines) (now cosines) ⌝ }
     ensures { λ r. ⌜ ((x : Sheet) → Gate.gated (now (src .entry)) ≡ answer x → length (x .surfaces) ≡ count → now (list .exit) ≡ after-each (fresh x) (x .surfaces) ++ drop (2 * count) (now (list .entry))) ⌝ }
 {
     let beam = sheet_values::beam_of(src);
     let mut s = beam.s;
     let mut p = beam.p;
     let mut wavelength_nm = beam.wavelength_nm;
-    let mut begin = sheet::begin_of(src, 0);
     let mut i = 0;
     while i < count {
+        let begin = begins[i];
         wavelength_nm = sheet_values::met_with(src, begin, wavelength_nm);
         let at = sheet::onto(src, begin);
-        let run = sheet::layers_on(src, at);
-        let n = run.count;
-        let c = chosen_kept(src, at, n, wavelength_nm, i, places, sines, cosines);
+        let theta = SinCos {
+            sin: sines[i],
+            cos: cosines[i],
+        };
+        let c = chosen_with(src, at, counts[i], wavelength_nm, theta);
         s = s * c.s;
         p = p * c.p;
         list[2 * i] = s;
         list[2 * i + 1] = p;
-        begin = run.next;
         i += 1;
     }
 }
@@ -278,10 +274,11 @@ pub fn run_at(src: &[u8], count: u32, wavelength_nm: f64) -> State
 pub fn run(src: &[u8], list: &mut [f64]) -> Gated
     ensures { λ r. ⌜ record { result = Gate.outcome r; list = now (list .exit) } ≡ run (now (src .entry)) (now (list .entry)) ⌝ }
 {
-    let mut places = [1u16; 64];
+    let mut begins = [1usize; 64];
+    let mut counts = [1usize; 64];
     let mut sines = [1.0f64; 64];
     let mut cosines = [1.0f64; 64];
-    match gate::gate_keeping(src, &mut places, &mut sines, &mut cosines) {
+    match gate::gate_index(src, &mut begins, &mut counts, &mut sines, &mut cosines) {
         Gated::Admitted(count) => {
             let n = count as usize;
             if list.len() < 2 * n {
@@ -290,7 +287,7 @@ pub fn run(src: &[u8], list: &mut [f64]) -> Gated
                     place: 0,
                 });
             }
-            write_each(src, n, &places, &sines, &cosines, list);
+            write_each(src, n, &begins, &counts, &sines, &cosines, list);
             Gated::Admitted(count)
         }
         Gated::Refused(r) => Gated::Refused(r),

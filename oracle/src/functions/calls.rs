@@ -4,7 +4,7 @@
 use crate::arguments::Arg::{self, *};
 use crate::arguments::Style;
 use crate::functions::exports::{floats, leave, packed, refused};
-use crate::functions::names::from_format_name;
+use crate::functions::names::{from_format_name, trim};
 use crate::functions::thin_film::surface_coating;
 use crate::functions::Function;
 use crate::record::{Arguments, Words};
@@ -278,6 +278,12 @@ pub fn table() -> Vec<Function> {
         call(227, "dihkelu_coating_name", &[CallRoom, AnyCode], |a, r| {
             let (room, code) = (a.int(), a.int());
             leave_name(r, room, name(code));
+        }),
+        call(228, "dihkelu_trim", &[Bytes], |a, r| {
+            let (place, length) = trim(&a.bytes());
+            r.int(0);
+            r.int(place as u64);
+            r.int(length as u64);
         }),
     ]
 }

@@ -14,7 +14,7 @@ use crate::reference::polarization::{JonesMatrix, MuellerMatrix};
 use crate::reference::thin_film::{CoatingResponse, ThinFilmLayer};
 use crate::section2;
 use crate::sheet::{gate, Refusal};
-use crate::train::{answers, retune, run, start, step, Light, State};
+use crate::train::{self, answers, met_after, retune, run, start, step, Light, State};
 use crate::values::{neighbour, Rng};
 
 /// The one number of a list before the call.
@@ -78,11 +78,15 @@ fn response(r: &CoatingResponse) -> Vec<f64> {
     list
 }
 
-/// A surface's answers, in the order of include/dihkelu.h.
+/// A surface's answers, by its number.
 fn surface(bytes: &[u8], number: u64) -> Result<(u64, Vec<f64>), Refusal> {
     let sheet = gate(bytes)?;
     let surface = sheet.surfaces.get(number as usize).ok_or(refused(7))?;
-    let answers = answers(surface, sheet.met(number as usize));
+    Ok(laid_out(&answers(surface, sheet.met(number as usize))))
+}
+
+/// Answers in the order of include/dihkelu.h, and how many numbers these are.
+fn laid_out(answers: &train::Answers) -> (u64, Vec<f64>) {
     let mut list = Vec::new();
     let last = match &answers.light {
         Light::Bare(powers) => {
@@ -104,7 +108,7 @@ fn surface(bytes: &[u8], number: u64) -> Result<(u64, Vec<f64>), Refusal> {
         list.extend(mueller.m.iter().flatten());
     }
     list.extend(last);
-    Ok((list.len() as u64, list))
+    (list.len() as u64, list)
 }
 
 /// `SurfaceCoating::evaluate`: 1 for a code that stands for no coating and for layers that are cut off; 1 before 3.
@@ -386,6 +390,12 @@ pub fn table() -> Vec<Function> {
                 r.int(invalid_argument(a.floats()));
             },
         ),
+        export(229, "dihkelu_answers_at", &[Room, AnswersAt], 2, |a, r| {
+            let (room, wavelength, number) = (a.int(), a.float(), a.int());
+            let met = met_after(&a.bytes(), number, wavelength);
+            let answer = met.map(|(surface, at)| laid_out(&answers(&surface, at)));
+            leave(r, room, answer);
+        }),
     ]
 }
 

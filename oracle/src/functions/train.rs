@@ -304,7 +304,7 @@ pub fn push_actions(rng: &mut Rng, words: &mut Vec<u64>) {
 }
 
 /// A surface that the sheet has, and few that it has not; sheets that are refused are few.
-pub fn push_answers(rng: &mut Rng, words: &mut Vec<u64>) {
+fn numbered(rng: &mut Rng) -> (u64, Vec<u8>) {
     let bytes = loop {
         let bytes = if rng.one_in(10) {
             sheet(rng)
@@ -321,7 +321,20 @@ pub fn push_answers(rng: &mut Rng, words: &mut Vec<u64>) {
         1 => rng.pick(&[count as u64 + 1, 64, u64::from(u32::MAX)]),
         _ => rng.below(count) as u64,
     };
+    (number, bytes)
+}
+
+pub fn push_answers(rng: &mut Rng, words: &mut Vec<u64>) {
+    let (number, bytes) = numbered(rng);
     words.push(number);
+    push(&bytes, words);
+}
+
+/// Behind the wavelength of a retune.
+pub fn push_answers_at(rng: &mut Rng, words: &mut Vec<u64>) {
+    let (number, bytes) = numbered(rng);
+    let near = gate(&bytes).map_or(550.0, |sheet| sheet.wavelength);
+    words.extend([tune(rng, near).to_bits(), number]);
     push(&bytes, words);
 }
 
@@ -401,6 +414,17 @@ pub fn answers_cases() -> Vec<Vec<u64>> {
         let mut words = vec![number];
         push(bytes, &mut words);
         list.push(words);
+    }
+    list
+}
+
+/// Each of the fixed surfaces after retunes that pass, that fail by themselves and that fail on a layer.
+pub fn answers_at_cases() -> Vec<Vec<u64>> {
+    let mut list = Vec::new();
+    for words in answers_cases() {
+        for wavelength in [550.0, 100.0, 99.0, 10_000.0, f64::NAN] {
+            list.push([&[f64::to_bits(wavelength)], words.as_slice()].concat());
+        }
     }
     list
 }

@@ -1,23 +1,32 @@
 //! A window of two coated surfaces, and a mirror in shorthand: the powers after each surface, and a refusal.
 use dihkelu_sys::{
-    environment_ok, evaluate, run, stack, version, Refusal, RESPONSE, STACK, VERSION,
+    evaluate, run, stack, version, Coating, Incidence, Letters, Refusal, Sheet, Surface, RESPONSE,
+    STACK, VERSION,
 };
 
-fn block(sheet: &mut Vec<u8>, word: u32, numbers: &[f64]) {
-    sheet.extend(word.to_be_bytes());
-    numbers.iter().for_each(|x| sheet.extend(x.to_be_bytes()));
-}
-
 fn main() -> Result<(), Refusal> {
-    assert!(version() == VERSION && environment_ok());
-    let mut sheet = Vec::new();
-    block(&mut sheet, 0x1000_0001, &[]);
-    block(&mut sheet, 0x2000_0000, &[550.0, 0.5, 0.5]);
-    block(&mut sheet, 0x3000_0004, &[1.0, 1.52, 0.5]); // MgF2, transmitted
-    block(&mut sheet, 0x3000_0000, &[1.52, 1.0, 0.25]); // bare, transmitted
-    block(&mut sheet, 0x5000_0002, &[]);
+    assert!(version() == VERSION);
+    let front = Surface {
+        coating: Coating::Mgf2,
+        n_incident: 1.0,
+        n_substrate: 1.52,
+        angle_rad: 0.5,
+        ..Surface::default()
+    };
+    let back = Surface {
+        n_incident: 1.52,
+        n_substrate: 1.0,
+        angle_rad: 0.25,
+        ..Surface::default()
+    };
+    let sheet = Sheet {
+        wavelength_nm: 550.0,
+        s: 0.5,
+        p: 0.5,
+        surfaces: vec![front, back],
+    };
     let mut list = [0.0; 128];
-    let surfaces = run(&sheet, &mut list)? as usize;
+    let surfaces = run(&sheet.to_bytes()?, &mut list)? as usize;
     for (i, after) in list[..2 * surfaces].chunks(2).enumerate() {
         println!(
             "{} {:016X} {:016X}",
@@ -27,16 +36,22 @@ fn main() -> Result<(), Refusal> {
         );
     }
     let (mut layers, mut response) = ([0.0; STACK], [0.0; RESPONSE]);
-    let numbers = stack(b"(HL)^7 H", [2.3, 1.46, 1.8], 1064.0, &mut layers)? as usize;
-    evaluate(
-        5,
-        0.0,
-        [1.0, 1.52, 0.0, 1064.0],
-        &layers[..numbers],
-        &mut response,
-    )?;
+    let letters = Letters {
+        h: 2.3,
+        l: 1.46,
+        m: 1.8,
+    };
+    let numbers = stack(b"(HL)^7 H", letters, 1064.0, &mut layers)? as usize;
+    let light = Incidence {
+        n_incident: 1.0,
+        n_substrate: 1.52,
+        angle_rad: 0.0,
+        wavelength_nm: 1064.0,
+    };
+    evaluate(5, 0.0, light, &layers[..numbers], &mut response)?;
     println!("(HL)^7 H: {} layers, R_s {:.6}", numbers / 3, response[8]);
-    let refused = stack(b"H^32H", [2.3, 1.46, 1.8], 1064.0, &mut layers);
-    println!("H^32H: {refused:?}");
+    if let Err(refused) = stack(b"H^32H", letters, 1064.0, &mut layers) {
+        println!("H^32H: {refused}");
+    }
     Ok(())
 }

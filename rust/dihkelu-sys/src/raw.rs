@@ -3,9 +3,10 @@
 
 extern "C" {
     pub fn dihkelu_version() -> u32;
-    /// The gate. A sheet is of edition 1, or of edition 2, in which a layer may be of kind 6, a glass whose index changes with
-    /// colour, and a kind 7 may stand before a surface: the wavelength from there on. In either edition the 1 to 4 layers of a
-    /// custom surface at angle zero may be metal films. Returns the count of surfaces; refuses with 4, 5, 6.
+    /// The gate. The words of a sheet stand in dihkelu-sheet(5); dihkelu_sheet.h writes one from numbers. It is of edition
+    /// 1, or of edition 2, in which a layer may be of kind 6, a glass whose index changes with colour, and a kind 7 may
+    /// stand before a surface: the wavelength from there on. In either edition the 1 to 4 layers of a custom surface at
+    /// angle zero may be metal films. Returns the count of surfaces; refuses with 4, 5, 6.
     pub fn dihkelu_gate(sheet: *const u8, sheet_count: usize) -> u64;
     /// A train's state is four numbers: surfaces done, s, p and the wavelength held in nm. The calls take any state, also one
     /// that no train has been in. Up to version 0.2 a state had no wavelength, and start and step wrote s and p to a list.
@@ -87,6 +88,17 @@ extern "C" {
         list: *mut f64,
         list_count: usize,
     ) -> u64;
+    /// The same where the train is retuned to wavelength_nm right before that surface is stepped: at this wavelength, or
+    /// at that of a kind 7 before the surface, which acts over the retune. Refuses with 4, 5, 6, 7, then 11 as
+    /// dihkelu_retune does with so many surfaces done, then 8.
+    pub fn dihkelu_answers_at(
+        sheet: *const u8,
+        sheet_count: usize,
+        surface: u32,
+        wavelength_nm: f64,
+        list: *mut f64,
+        list_count: usize,
+    ) -> u64;
     /// SurfaceCoating::evaluate. Codes: 1 IdealAr, 2 MgF2 (at the design wavelength), 3 BroadbandAr,
     /// 4 HighReflectanceMirror, 5 Custom layers, 6 Custom beamsplitter, 7 Custom mirror, 8 Custom IdealAr. The layers are
     /// n, k, thickness in nm of one after the other, from the side of the lower index (from the incident side where both are
@@ -107,7 +119,7 @@ extern "C" {
         list: *mut f64,
         list_count: usize,
     ) -> u64;
-    /// The same at many angles and wavelengths: case i has angles_rad[i] and wavelengths_nm[i]. Writes 16 doubles a case, one
+    /// The same at many angles and wavelengths: case i has angles_rad\[i\] and wavelengths_nm\[i\]. Writes 16 doubles a case, one
     /// case after the other, and returns how many these are. Refuses with 1 at DIHKELU_CASES where there are not as many
     /// wavelengths as angles, or so many cases or more; then as dihkelu_evaluate refuses the first case that it refuses, with 1
     /// or 3 at that case; then with 8. Nothing is written where one case is refused.
@@ -250,6 +262,15 @@ extern "C" {
     /// dihkelu_coating_from_name gives the code of the name back, but 1 for CUSTOM. Refuses with 2 for any other code, then
     /// with 8.
     pub fn dihkelu_coating_name(code: u32, output: *mut u8, output_count: usize) -> u64;
+    /// The trimmed part of a name, as dihkelu_coating_from_name reads it: bytes 0x09 to 0x0D and 0x20 go from both ends. Writes
+    /// its place in the name and its length in bytes, and returns 0. A name without any other byte has a part of length 0 at
+    /// place 0. Takes all bytes and refuses none.
+    pub fn dihkelu_trim(
+        name: *const u8,
+        name_count: usize,
+        place: *mut u64,
+        length: *mut u64,
+    ) -> u64;
     /// JonesVector::to_stokes. Writes S0 to S3 and returns 4; refuses with 1, 8.
     pub fn dihkelu_to_stokes(
         field: *const f64,

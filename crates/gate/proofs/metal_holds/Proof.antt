@@ -12,7 +12,7 @@ use Rattle.ieee.specs.Functions.{zero-f}
 use Rattle.gate_limits.specs.declared.Surface.{Surface}
 use Rattle.gate_limits.specs.Limits.{sixteen, metal-within, metals-within, absorption, absorptions, may-be-metal, metal-passes}
 use Rattle.sheet.specs.Sheet.{SheetLayer}
-use Rattle.sheet.specs.Internal.{next-place, layer-run, surface-at, layers-at}
+use Rattle.sheet.specs.Internal.{next-place, surface-at, layers-at}
 use Rattle.sheet_values.specs.Values.{film, films, surface-value}
 use Rattle.gate.specs.Gate.{coefficients-finite, all-finite}
 use Rattle.gate.specs.Internal.{metal-at, metal-layer, metal-layers}
@@ -44,33 +44,31 @@ swap true b t = refl
 swap false true t = refl
 swap false false t = refl
 
-is : (src : List ℕ) (at : ℕ) (w : Float)
-    → metal-at src at w ≡ (may-be-metal (surface-value (surface-at src at [])) (layer-run 16 src at) && metal-layers w zero-f (layers-at src (next-place src at) (layer-run 16 src at)))
+is : (src : List ℕ) (at n : ℕ) (w : Float) → metal-at src at n w ≡ (may-be-metal (surface-value (surface-at src at [])) n && metal-layers w zero-f (layers-at src (next-place src at) n))
 unfolding metal-at metal-passes
-is src at w =
-    let n = layer-run 16 src at in
+is src at n w =
     let ls = layers-at src (next-place src at) n in
     let L = metals-within (films w ls) && le (absorptions w zero-f (films w ls)) sixteen in
     swap (all-finite ls) (may-be-metal (surface-value (surface-at src at [])) (length (films w ls))) L
     ∙ (λ i. may-be-metal (surface-value (surface-at src at [])) ((films-length w ls ∙ many src (next-place src at) n) i) && sym (gathers w zero-f ls) i)
 
-module _ (src : List ℕ) (at : ℕ) (w : Float) (n : ℕ) (n-is : n ≡ layer-run 16 src at) (s : Surface) (s-is : s ≡ surface-value (surface-at src at [])) (t : Bool) (t-is : t ≡ may-be-metal s n) where
-  first : metal-at src at w ≡ (t && metal-layers w zero-f (layers-at src (next-place src at) (layer-run 16 src at)))
-  first = is src at w ∙ sym (ap (λ (b : Bool). b && metal-layers w zero-f (layers-at src (next-place src at) (layer-run 16 src at))) (t-is ∙ (λ i. may-be-metal (s-is i) (n-is i))))
+module _ (src : List ℕ) (at : ℕ) (w : Float) (n : ℕ) (s : Surface) (s-is : s ≡ surface-value (surface-at src at [])) (t : Bool) (t-is : t ≡ may-be-metal s n) where
+  first : metal-at src at n w ≡ (t && metal-layers w zero-f (layers-at src (next-place src at) n))
+  first = is src at n w ∙ sym (ap (λ (b : Bool). b && metal-layers w zero-f (layers-at src (next-place src at) n)) (t-is ∙ ap (λ (z : Surface). may-be-metal z n) s-is))
 
-  stops : not t ≡ true → false ≡ metal-at src at w
-  stops e = sym (first ∙ ap (λ (b : Bool). b && metal-layers w zero-f (layers-at src (next-place src at) (layer-run 16 src at))) (not-true t e))
+  stops : not t ≡ true → false ≡ metal-at src at n w
+  stops e = sym (first ∙ ap (λ (b : Bool). b && metal-layers w zero-f (layers-at src (next-place src at) n)) (not-true t e))
 
-  goes : not t ≡ false → (q : ℕ) → q ≡ next-place src at → (r : Bool) → r ≡ metal-layers w zero-f (layers-at src q n) → r ≡ metal-at src at w
+  goes : not t ≡ false → (q : ℕ) → q ≡ next-place src at → (r : Bool) → r ≡ metal-layers w zero-f (layers-at src q n) → r ≡ metal-at src at n w
   goes e q q-is r r-is =
-      r-is ∙ (λ i. metal-layers w zero-f (layers-at src (q-is i) (n-is i)))
-      ∙ sym (first ∙ ap (λ (b : Bool). b && metal-layers w zero-f (layers-at src (next-place src at) (layer-run 16 src at))) (not-false t e))
+      r-is ∙ ap (λ (k : ℕ). metal-layers w zero-f (layers-at src k n)) q-is
+      ∙ sym (first ∙ ap (λ (b : Bool). b && metal-layers w zero-f (layers-at src (next-place src at) n)) (not-false t e))
 
 returns : tie.Need-returns
-returns c = stops _ _ _ _ (c .before .before .before .layer-run .ensures) _ (c .before .before .surface-at .ensures) _ (c .before .may-be-metal .ensures) (c .if1 .taken)
+returns c = stops _ _ _ _ _ (c .before .before .surface-at .ensures) _ (c .before .may-be-metal .ensures) (c .if1 .taken)
 
 returns-2 : tie.Need-returns-2
-returns-2 c = goes _ _ _ _ (c .before .before .before .before .before .layer-run .ensures) _ (c .before .before .before .before .surface-at .ensures) _ (c .before .before .before .may-be-metal .ensures) (c .before .before .if1 .left) _ (c .before .next-place .ensures) _ (c .metal-layers .ensures)
+returns-2 c = goes _ _ _ _ _ (c .before .before .before .before .surface-at .ensures) _ (c .before .before .before .may-be-metal .ensures) (c .before .before .if1 .left) _ (c .before .next-place .ensures) _ (c .metal-layers .ensures)
 
 pub metal-holds-spec : {M : Type 1} → statement M
-metal-holds-spec = tie.close (tie.spec (λ c κs. search needs) (λ c κs. search needs) (λ c κs. search needs) returns (λ c κs. search needs) (λ c κs. search needs) returns-2)
+metal-holds-spec = tie.close (tie.spec (λ c κs. search needs) (λ c κs. search needs) returns (λ c κs. search needs) (λ c κs. search needs) returns-2)

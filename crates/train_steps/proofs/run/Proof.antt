@@ -1,5 +1,5 @@
 -- `train_steps::run` meets its contract. Assumes nothing.
-use mathlib.Core.Path.{_≡_, sym, ap, _∙_}
+use mathlib.Core.Path.{_≡_, refl, sym, ap, _∙_}
 use Prim.Native.Nat.{ℕ, _+_, _-_, _*_, _≤_, _<_}
 use native.Mathlib.Omega.{arith}
 use borrow.Author.Needs.{needs}
@@ -14,7 +14,7 @@ use Rattle.sheet.proofs.Stands.{Known}
 use Rattle.gate.specs.Gate as Gate
 use Rattle.gate.specs.Gate.{gated, gate}
 use Rattle.gate.proofs.Admitted.{admitted, turned-back}
-use Rattle.gate.proofs.Kept.{nothing}
+use Rattle.gate.proofs.Index.{result-is, read-back}
 use Rattle.train_steps.specs.Train.{fresh, after-each, ran, run}
 use Rattle.train_steps.proofs.run.Statement.{statement}
 use Rattle.train_steps.proofs.run.Tie as tie
@@ -43,16 +43,27 @@ module _ (src : List ℕ) (list : List Float) where
   not-run r e = sym (ap (ran list) (turned-back src (r .number) (r .place) e))
 
 returns : tie.Need-returns
-returns c = too-short _ _ _ (c .before .before .before .before .before .before .before .before .before .shared-slice-known .given) (sym (ap Gate.outcome (c .before .before .count .given .1)) ∙ (c .before .before .before .before .gate-keeping .ensures) (nothing _ _ _) .0) (c .if1 .taken)
+returns c =
+    let cnt = c .before .before in
+    let g = cnt .before .before in
+    too-short _ _ _ (g .before .before .before .before .before .before .shared-slice-known .given) (sym (ap Gate.outcome (cnt .count .given .1)) ∙ result-is _ _ _ _ _ _ (g .gate-index .ensures)) (c .if1 .taken)
 
 write-each-requires : tie.Need-write-each-requires
-write-each-requires c κs = ((search needs, c .before .before .before .before .if1 .left), (c .before .before .before .before .before .before .before .before .gate-keeping .ensures) (nothing _ _ _) .1)
+write-each-requires c κs =
+    let out = c .before .before .before .before .before in
+    let cnt = out .before .before in
+    let g = cnt .before .before in
+    (out .if1 .left, read-back _ _ _ _ _ _ (g .gate-index .ensures) (g .before .before .before .before .before .before .shared-slice-known .given) _ (ap Gate.outcome (cnt .count .given .1)))
 
 returns-2 : tie.Need-returns-2
-returns-2 c = whole _ _ _ (c .before .before .before .before .before .before .before .before .before .before .before .before .before .before .before .before .shared-slice-known .given) (sym (ap Gate.outcome (c .before .before .before .before .before .before .before .before .before .count .given .1)) ∙ (c .before .before .before .before .before .before .before .before .before .before .before .gate-keeping .ensures) (nothing _ _ _) .0) (c .before .before .before .before .before .before .before .if1 .left) _ (c .before .before .write-each .ensures)
+returns-2 c =
+    let out = c .before .before .before .before .before .before .before .before in
+    let cnt = out .before .before in
+    let g = cnt .before .before in
+    whole _ _ _ (g .before .before .before .before .before .before .shared-slice-known .given) (sym (ap Gate.outcome (cnt .count .given .1)) ∙ result-is _ _ _ _ _ _ (g .gate-index .ensures)) (out .if1 .left) _ (c .before .before .write-each .ensures)
 
 returns-3 : tie.Need-returns-3
-returns-3 c = not-run _ _ _ (sym (ap Gate.outcome (c .before .r .given .1)) ∙ (c .before .before .before .gate-keeping .ensures) (nothing _ _ _) .0)
+returns-3 c = not-run _ _ _ (sym (ap Gate.outcome (c .before .r .given .1)) ∙ result-is _ _ _ _ _ _ (c .before .before .before .gate-index .ensures))
 
 pub run-spec : {M : Type 1} → statement M
 run-spec = tie.close (tie.spec (λ c κs. search needs) (λ c. search needs) (λ c. search needs) (λ c. search needs) returns write-each-requires (λ c. search needs) (λ c. search needs) returns-2 returns-3)

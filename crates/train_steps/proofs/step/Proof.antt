@@ -17,7 +17,7 @@ use Rattle.ieee.proofs.Signs.{of-true}
 use Rattle.gate_limits.specs.Limits.{wavelength-passes}
 use Rattle.gate.specs.Wavelength.{holds}
 use Rattle.gate.specs.Internal.{layers-hold-at, holds-from, holds-at}
-use Rattle.gate.proofs.Kept.{nothing}
+use Rattle.gate.proofs.Index.{few, result-is, read-back}
 use Rattle.gate.specs.Gate as Gate
 use Rattle.gate.specs.Gate.{gate}
 use Rattle.gate.proofs.Admitted.{admitted, turned-back}
@@ -25,7 +25,7 @@ use Rattle.train_steps.specs.declared.State.{State}
 use Rattle.train_steps.specs.Train.{stepped, step}
 use Rattle.train_steps.specs.Internal.{moved-at}
 use Rattle.train_steps.proofs.Takes.{takes, tested}
-use Rattle.train_steps.proofs.Here.{moved-here}
+use Rattle.train_steps.proofs.Here.{moved-here, angles-here, layers-here}
 use Rattle.train_steps.proofs.step.Statement.{statement}
 use Rattle.train_steps.proofs.step.Tie as tie
 
@@ -63,19 +63,87 @@ module _ (src : List ℕ) (st : State) where
   not-taken r e = sym (ap (λ (o : Outcome Sheet). bind o (stepped st)) (turned-back src (r .number) (r .place) e))
 
 returns : tie.Need-returns
-returns c = no-more _ _ _ (c .before .before .before .before .before .before .before .before .before .shared-slice-known .given) (sym (ap Gate.outcome (c .before .before .before .count .given .1)) ∙ (c .before .before .before .before .before .gate-keeping .ensures) (nothing _ _ _) .0) (c .if1 .taken)
+returns c =
+    let cnt = c .before .before .before in
+    let g = cnt .before .before in
+    no-more _ _ _ (g .before .before .before .before .before .shared-slice-known .given) (sym (ap Gate.outcome (cnt .count .given .1)) ∙ result-is _ _ _ _ _ _ (g .gate-index .ensures)) (c .if1 .taken)
+
+array-read-begin : tie.Need-array-read-begin
+array-read-begin c =
+    let el = c .before in
+    let cnt = el .before .before .before in
+    let g = cnt .before .before in
+    let known = g .before .before .before .before .before .shared-slice-known .given in
+    let e = ap Gate.outcome (cnt .count .given .1) in
+    let admits = sym e ∙ result-is _ _ _ _ _ _ (g .gate-index .ensures) in
+    omega (arith, el .if1 .left, few _ _ known admits)
+
+array-read-t29 : tie.Need-array-read-t29
+array-read-t29 c =
+    let el = c .before .before .before .before in
+    let cnt = el .before .before .before in
+    let g = cnt .before .before in
+    let known = g .before .before .before .before .before .shared-slice-known .given in
+    let e = ap Gate.outcome (cnt .count .given .1) in
+    let admits = sym e ∙ result-is _ _ _ _ _ _ (g .gate-index .ensures) in
+    omega (arith, el .if1 .left, few _ _ known admits)
+
+array-read-t32 : tie.Need-array-read-t32
+array-read-t32 c =
+    let el = c .before .before .before .before in
+    let cnt = el .before .before .before in
+    let g = cnt .before .before in
+    let known = g .before .before .before .before .before .shared-slice-known .given in
+    let e = ap Gate.outcome (cnt .count .given .1) in
+    let admits = sym e ∙ result-is _ _ _ _ _ _ (g .gate-index .ensures) in
+    omega (arith, el .if1 .left, few _ _ known admits)
+
+array-read-moved-at : tie.Need-array-read-moved-at
+array-read-moved-at c =
+    let el = c .before .before .before .before in
+    let cnt = el .before .before .before in
+    let g = cnt .before .before in
+    let known = g .before .before .before .before .before .shared-slice-known .given in
+    let e = ap Gate.outcome (cnt .count .given .1) in
+    let admits = sym e ∙ result-is _ _ _ _ _ _ (g .gate-index .ensures) in
+    omega (arith, el .if1 .left, few _ _ known admits)
 
 returns-2 : tie.Need-returns-2
-returns-2 c = bad-wavelength _ _ _ (c .before .before .before .before .before .before .before .before .before .before .before .before .before .shared-slice-known .given) (sym (ap Gate.outcome (c .before .before .before .before .before .before .before .count .given .1)) ∙ (c .before .before .before .before .before .before .before .before .before .gate-keeping .ensures) (nothing _ _ _) .0) (c .before .before .before .before .if1 .left) _ (from-there _ _ _ _ _ _ (c .before .before .before .begin-of .ensures) (c .before .holds-from .ensures)) (c .if2 .taken)
+returns-2 c =
+    let el = c .before .before .before .before in
+    let cnt = el .before .before .before in
+    let g = cnt .before .before in
+    let known = g .before .before .before .before .before .shared-slice-known .given in
+    let e = ap Gate.outcome (cnt .count .given .1) in
+    let admits = sym e ∙ result-is _ _ _ _ _ _ (g .gate-index .ensures) in
+    let index = read-back _ _ _ _ _ _ (g .gate-index .ensures) known _ e in
+    bad-wavelength _ _ _ known admits (el .if1 .left) _ (from-there _ _ _ _ _ _ (index .begun _ (el .if1 .left)) (c .before .holds-from .ensures)) (c .if2 .taken)
 
 moved-at-requires : tie.Need-moved-at-requires
-moved-at-requires c κs = (omega (arith, c .before .before .before .before .before .before .before .if1 .left), (c .before .before .before .before .before .before .before .before .before .before .before .before .gate-keeping .ensures) (nothing _ _ _) .1)
+moved-at-requires c κs =
+    let el = c .before .before .before .before in
+    let cnt = el .before .before .before in
+    let g = cnt .before .before in
+    let known = g .before .before .before .before .before .shared-slice-known .given in
+    let e = ap Gate.outcome (cnt .count .given .1) in
+    let admits = sym e ∙ result-is _ _ _ _ _ _ (g .gate-index .ensures) in
+    let index = read-back _ _ _ _ _ _ (g .gate-index .ensures) known _ e in
+    (omega (arith, el .if1 .left, few _ _ known admits), (layers-here _ _ _ _ _ _ index _ (el .if1 .left) _ refl, angles-here _ _ _ _ _ _ index _ (el .if1 .left) _ refl))
 
 returns-3 : tie.Need-returns-3
-returns-3 c = one-more _ _ _ (c .before .before .before .before .before .before .before .before .before .before .before .before .before .before .before .before .before .shared-slice-known .given) (sym (ap Gate.outcome (c .before .before .before .before .before .before .before .before .before .before .before .count .given .1)) ∙ (c .before .before .before .before .before .before .before .before .before .before .before .before .before .gate-keeping .ensures) (nothing _ _ _) .0) (c .before .before .before .before .before .before .before .before .if1 .left) _ (from-there _ _ _ _ _ _ (c .before .before .before .before .before .before .before .begin-of .ensures) (c .before .before .before .before .before .holds-from .ensures)) (c .before .before .before .before .if2 .left) _ (c .before .before .before .before .before .before .before .begin-of .ensures) _ (c .moved-at .ensures)
+returns-3 c =
+    let el = c .before .before .before .before .before in
+    let cnt = el .before .before .before in
+    let g = cnt .before .before in
+    let known = g .before .before .before .before .before .shared-slice-known .given in
+    let e = ap Gate.outcome (cnt .count .given .1) in
+    let admits = sym e ∙ result-is _ _ _ _ _ _ (g .gate-index .ensures) in
+    let index = read-back _ _ _ _ _ _ (g .gate-index .ensures) known _ e in
+    let begun = index .begun _ (el .if1 .left) in
+    one-more _ _ _ known admits (el .if1 .left) _ (from-there _ _ _ _ _ _ begun (c .before .before .holds-from .ensures)) (c .before .if2 .left) _ begun _ (c .moved-at .ensures)
 
 returns-4 : tie.Need-returns-4
-returns-4 c = not-taken _ _ _ (sym (ap Gate.outcome (c .before .r .given .1)) ∙ (c .before .before .before .gate-keeping .ensures) (nothing _ _ _) .0)
+returns-4 c = not-taken _ _ _ (sym (ap Gate.outcome (c .before .r .given .1)) ∙ result-is _ _ _ _ _ _ (c .before .before .before .gate-index .ensures))
 
 pub step-spec : {M : Type 1} → statement M
-step-spec = tie.close (tie.spec (λ c κs. search needs) (λ c. search needs) returns (λ c κs. search needs) (λ c. omega arith) (λ c κs. search needs) returns-2 moved-at-requires (λ c. search needs) returns-3 returns-4)
+step-spec = tie.close (tie.spec (λ c κs. search needs) (λ c. search needs) returns (λ c. search needs) (λ c. search needs) array-read-begin (λ c. omega arith) (λ c κs. search needs) returns-2 (λ c. search needs) array-read-t29 (λ c. search needs) array-read-t32 (λ c. search needs) array-read-moved-at moved-at-requires (λ c. search needs) returns-3 returns-4)

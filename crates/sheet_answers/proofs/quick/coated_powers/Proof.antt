@@ -14,6 +14,7 @@ use Rattle.thin_film_layers.specs.Internal.{read-from}
 use Rattle.thin_film_layers.proofs.Order.{answered}
 use Rattle.surface.specs.declared.Powers.{Powers}
 use Rattle.surface.specs.Answers.{coated-powers}
+use Rattle.thin_film.proofs.Own.{evaluates}
 use Rattle.sheet_answers.proofs.After.{many}
 use Rattle.sheet_answers.proofs.quick.coated_powers.Statement.{statement}
 use Rattle.sheet_answers.proofs.quick.coated_powers.Tie as tie
@@ -24,13 +25,10 @@ unfolding read-from
 layered p reversed light layers r e f = ap answer f ∙ ap (λ (z : Prepared). map coated-powers (read-from z layers)) (sym e)
 
 returns : tie.Need-returns
-returns c = c .before .before .preset-powers .ensures (c .before .if1 .taken) _
+returns c = c .answered .ensures ∙ ap (map coated-powers) (answered _ _ _ (c .before .before .answer .given .1) ∙ evaluates _ _ _ _ _ _ _ (many _ _ _ _) _ (c .before .before .before .before .prepare .ensures))
 
 returns-2 : tie.Need-returns-2
-returns-2 c = c .answered .ensures ∙ ap (map coated-powers) (answered _ _ _ (c .before .before .answer .given .1) ∙ (c .before .before .before .before .prepare-surface .ensures) _ (many _ _ _ _))
-
-returns-3 : tie.Need-returns-3
-returns-3 c = layered _ _ _ _ _ (c .before .before .reversed .given .1) (c .powers-with .ensures) ∙ ap (map coated-powers) ((c .before .before .before .before .prepare-surface .ensures) _ (many _ _ _ _))
+returns-2 c = layered _ _ _ _ _ (c .before .before .reversed .given .1) (c .powers-with .ensures) ∙ ap (map coated-powers) (evaluates _ _ _ _ _ _ _ (many _ _ _ _) _ (c .before .before .before .before .prepare .ensures))
 
 pub coated-powers-spec : {M : Type 1} → statement M
-coated-powers-spec = tie.close (tie.spec (λ c κs. search needs) returns (λ c κs. search needs) (λ c. search needs) (λ c κs. search needs) (λ c. search needs) (λ c κs. search needs) returns-2 returns-3)
+coated-powers-spec = tie.close (tie.spec (λ c κs. search needs) (λ c. search needs) (λ c κs. search needs) (λ c. search needs) (λ c κs. search needs) returns returns-2)

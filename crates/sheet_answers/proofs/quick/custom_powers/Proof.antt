@@ -42,7 +42,7 @@ module _ (ni ns a w : Float) (layers : List ThinFilmLayer) (n : ℕ) (l : length
   known light e r f = ap answer (f ∙ ap (λ (z : Incidence). coated-powers (solved z (ordered (lt ns ni) layers))) e) ∙ ap (map coated-powers) evaluates
 
 returns : tie.Need-returns
-returns c = λ e. known _ _ _ _ _ _ (many _ _ _ _) (c .before .before .before .before .before .if1 .taken) _ (c .before .before .before .before .valid .ensures) (c .before .before .before .if2 .taken) _ (c .before .light-with .ensures e) _ (c .powers-with .ensures)
+returns c = λ e. known _ _ _ _ _ _ (many _ _ _ _) (c .before .before .before .before .before .if1 .taken) _ (c .before .before .before .before .valid .ensures) (c .before .before .before .if2 .taken) _ (c .before .light-with .ensures e) _ (c .layers-powers .ensures)
 
 returns-2 : tie.Need-returns-2
 returns-2 c = λ e. c .coated-powers .ensures

@@ -1,8 +1,7 @@
 -- `surface_real::films::join_films` meets its contract. Assumes nothing.
-use mathlib.Core.Path.{_≡_, refl, sym, ap, ap₂, _∙_}
+use mathlib.Core.Path.{_≡_, ap, _∙_}
 use mathlib.Core.Bool.{Bool, true, false, cond}
 use Prim.Native.Nat.{ℕ, _+_, _-_, _%_, _≤_, _<_}
-use native.Mathlib.Numerals.{add-one}
 use native.Mathlib.Omega.{arith}
 use mathlib.Core.List.{List}
 use lib.Dec.{ltb}
@@ -12,9 +11,8 @@ use Rattle.ieee.specs.Operators.{_⊗_}
 use Rattle.thin_film_layers.specs.Internal.{nth-index}
 use Rattle.thin_film_layers.proofs.Order.{within}
 use Rattle.surface_real.specs.declared.Film.{Film}
-use Rattle.surface_real.specs.declared.Stack.{Stack}
-use Rattle.surface_real.specs.Internal.{join}
 use Rattle.surface_real.specs.InternalFilms.{at, film-here, film-place, joined}
+use Rattle.surface_real.proofs.Loops.{none, next, all}
 use Rattle.surface_real.proofs.films.join_films.Statement.{statement}
 use Rattle.surface_real.proofs.films.join_films.Tie as tie
 
@@ -24,18 +22,6 @@ Inv-loop count films reversed sin cos eta-s eta-p y-s y-p product₀ i₀ produc
 
 abbrev μ-loop : tie.MeasureT-loop
 μ-loop count films reversed sin cos eta-s eta-p y-s y-p product₀ i₀ product i = count - i
-
-module _ (f : ℕ → Film) (reversed : Bool) (n : ℕ) where
-  none : (k : Stack) → k ≡ joined f reversed n 0 k
-  unfolding joined
-  none k = refl
-
-  next : (i : ℕ) (k m m′ : Stack) (g : Film) → m ≡ joined f reversed n i k → g ≡ f (nth-index reversed n i) → m′ ≡ join m g → m′ ≡ joined f reversed n (i + 1) k
-  unfolding joined
-  next i k m m′ g m-is g-is m′-is = m′-is ∙ ap₂ join m-is g-is ∙ ap (λ (z : ℕ). joined f reversed n z k) (sym (add-one i))
-
-  all : (i : ℕ) (k m : Stack) → i ≡ n → m ≡ joined f reversed n i k → m ≡ joined f reversed n n k
-  all i k m e is = is ∙ ap (λ (z : ℕ). joined f reversed n z k) e
 
 -- a film stands within 16 places
 low : (j films : ℕ) → j < 16 → film-place j films < 16

@@ -1,77 +1,51 @@
 -- `thin_film::reading::with_own_layers` meets its contract. Assumes nothing.
-use mathlib.Core.Path.{_≡_, refl, sym, _∙_, ap}
-use mathlib.Core.Bool.{Bool, true, false}
-use mathlib.Core.List.{List, [], _∷_}
-use lib.Ieee.{Float}
-use Rattle.refusal.specs.Outcome.{answer}
+use mathlib.Core.Path.{_≡_, sym, ap, _∙_}
+use mathlib.Core.Bool.{Bool, cond}
+use mathlib.Core.List.{[]}
+use Prim.Native.Nat.{ℕ}
+use lib.Dec.{eqb}
+use lib.ListN.{length}
 use Rattle.thin_film_solver.specs.declared.CoatingResponse.{CoatingResponse}
 use Rattle.thin_film_solver.specs.declared.Incidence.{Incidence}
-use Rattle.thin_film_solver.specs.declared.ThinFilmLayer.{ThinFilmLayer}
-use Rattle.thin_film_solver.specs.Solve.{dielectric}
 use Rattle.thin_film_solver.specs.Internal.{solved}
-use Rattle.thin_film_layers.specs.declared.Evaluation.{Evaluation}
-use Rattle.thin_film_layers.specs.declared.Evaluation.the-variants as E
 use Rattle.thin_film_layers.specs.declared.Prepared.{Prepared}
 use Rattle.thin_film_layers.specs.declared.Prepared.the-variants as P
+use Rattle.thin_film_layers.specs.declared.Evaluation.{Evaluation}
+use Rattle.thin_film_layers.specs.declared.Evaluation.the-variants as E
 use Rattle.thin_film_layers.specs.Evaluation.{ordered}
-use Rattle.thin_film_layers.specs.Internal.{read-from}
-use Rattle.thin_film_presets.specs.Layers.{quarter-wave, broadband-layers}
 use Rattle.thin_film.specs.declared.SurfaceCoating.{SurfaceCoating}
-use Rattle.thin_film.specs.declared.SurfaceCoating.the-variants as S
-use Rattle.thin_film.specs.Coating.{n-mgf2, mgf2-layers, mirror-layers}
-use Rattle.thin_film.specs.Internal.{own-layers}
-use Rattle.thin_film.proofs.Mirror.{either-way}
+use Rattle.thin_film.specs.Coating.{layers-of}
+use Rattle.thin_film.specs.Internal.{answered-with, answered-own}
 use borrow.Author.Needs.{needs}
+use borrow.Author.Tests.{eq-eqb, ne-eqb}
 use Rattle.thin_film.proofs.reading.with_own_layers.Statement.{statement}
 use Rattle.thin_film.proofs.reading.with_own_layers.Tie as tie
 
--- it is answered, and no layer is read
-known : (s : SurfaceCoating) (p : Prepared) (a : Evaluation) (layers : List ThinFilmLayer) → p ≡ P.Answered a → read-from p layers ≡ read-from p (own-layers s layers)
-unfolding read-from
-known s p a layers e = ap (λ (z : Prepared). read-from z layers) e ∙ ap (λ (z : Prepared). read-from z (own-layers s layers)) (sym e)
+module _ (s : SurfaceCoating) (own : ℕ) (own-is : own ≡ length (layers-of s [])) where
+  none : (p : Prepared) → own ≡ 0 → p ≡ answered-own s p
+  none p e = ap (λ (b : Bool). cond b p (answered-with s p)) (sym (eq-eqb own 0 e) ∙ ap (λ (n : ℕ). eqb n 0) own-is)
 
-one : (reversed : Bool) (y : ThinFilmLayer) → y ∷ [] ≡ ordered reversed (y ∷ [])
-unfolding ordered
-one false y = refl
-one true y = refl
+  some : (p r : Prepared) → (own ≡ 0 → ⊥) → r ≡ answered-with s p → r ≡ answered-own s p
+  some p r e r-is = r-is ∙ ap (λ (b : Bool). cond b p (answered-with s p)) (sym (ne-eqb own 0 e) ∙ ap (λ (n : ℕ). eqb n 0) own-is)
 
-module _ (s : SurfaceCoating) (p r : Prepared) (reversed : Bool) (light : Incidence) (x : CoatingResponse) (layers : List ThinFilmLayer) (p-is : p ≡ P.Layers reversed light) (r-is : r ≡ P.Answered (E.Response x)) where
-  -- the layers are the coating's own
-  own : (t : SurfaceCoating) → s ≡ t → x ≡ solved light (ordered reversed (own-layers t layers)) → read-from r layers ≡ read-from p (own-layers s layers)
-  unfolding read-from
-  own t s-is e =
-      ap (λ (z : Prepared). read-from z layers) r-is ∙ ap answer e ∙ ap (λ (z : Prepared). read-from z (own-layers t layers)) (sym p-is) ∙ ap (λ (z : SurfaceCoating). read-from p (own-layers z layers)) (sym s-is)
+  known : (p : Prepared) (a : Evaluation) → (own ≡ 0 → ⊥) → p ≡ P.Answered a → P.Answered a ≡ answered-own s p
+  unfolding answered-with
+  known p a e p-is = some p (P.Answered a) e (ap (answered-with s) (sym p-is))
 
-  mgf2 : (design : Float) (y : ThinFilmLayer) → s ≡ S.MgF2 design → y ≡ dielectric n-mgf2 (quarter-wave design n-mgf2) → x ≡ solved light (y ∷ []) → read-from r layers ≡ read-from p (own-layers s layers)
-  unfolding mgf2-layers own-layers
-  mgf2 design y s-is y-is e = own (S.MgF2 design) s-is (e ∙ ap (solved light) (one reversed y) ∙ ap (λ (z : ThinFilmLayer). solved light (ordered reversed (z ∷ []))) y-is)
-
--- the layers are those beside the coating
-beside : (s t : SurfaceCoating) (p r : Prepared) (layers : List ThinFilmLayer) → p ≡ r → s ≡ t → own-layers t layers ≡ layers → read-from r layers ≡ read-from p (own-layers s layers)
-beside s t p r layers g e f = ap (λ (z : Prepared). read-from z layers) (sym g) ∙ ap (read-from p) (sym f) ∙ ap (λ (z : SurfaceCoating). read-from p (own-layers z layers)) (sym e)
+  solves : (p r : Prepared) (reversed : Bool) (light : Incidence) (x : CoatingResponse) → (own ≡ 0 → ⊥) → p ≡ P.Layers reversed light → x ≡ solved light (ordered reversed (layers-of s [])) → r ≡ P.Answered (E.Response x)
+      → r ≡ answered-own s p
+  unfolding answered-with
+  solves p r reversed light x e p-is x-is r-is = some p r e (r-is ∙ ap (λ (y : CoatingResponse). P.Answered (E.Response y)) x-is ∙ ap (answered-with s) (sym p-is))
 
 returns : tie.Need-returns
-returns c = λ layers. known _ _ _ layers (c .enum-told .given .1)
+returns c = none _ _ (c .before .own-count .ensures) _ (c .if1 .taken)
 
 returns-2 : tie.Need-returns-2
-returns-2 c = λ layers. mgf2 _ _ _ _ _ _ layers (c .before .before .before .before .before .before .before .prepared .given .1) (c .answered .ensures) _ _ (c .before .before .before .before .coating .given .1) (c .before .before .quarter-wave .ensures) (c .before .solve-one .ensures)
+returns-2 c = known _ _ (c .before .before .before .before .own-count .ensures) _ _ (c .before .before .before .if1 .left) (c .before .prepared .given .1)
 
 returns-3 : tie.Need-returns-3
-unfolding own-layers
-returns-3 c = λ layers. own _ _ _ _ _ _ layers (c .before .before .before .before .before .prepared .given .1) (c .answered2 .ensures) S.BroadbandAr (c .before .before .enum-told2 .given .1) (c .before .solve-broadband .ensures)
-
-returns-4 : tie.Need-returns-4
-unfolding own-layers
-returns-4 c = λ layers.
-    own _ _ _ _ _ _ layers (c .before .before .before .before .before .prepared .given .1) (c .answered3 .ensures) S.HighReflectanceMirror (c .before .before .enum-told3 .given .1) ((c .before .solve-mirror .ensures) ∙ ap (solved _) (either-way _))
-
-returns-5 : tie.Need-returns-5
-unfolding own-layers
-returns-5 c = λ layers. beside _ S.IdealAr _ _ layers (c .before .before .before .prepared .given .1) (c .enum-told4 .given .1) refl
-
-returns-6 : tie.Need-returns-6
-unfolding own-layers
-returns-6 c = λ layers. beside _ _ _ _ layers (c .before .before .before .prepared .given .1) (c .enum-told5 .given .1) refl
+returns-3 c =
+    solves _ _ (c .before .before .before .before .before .before .own-count .ensures) _ _ _ _ _ (c .before .before .before .before .before .if1 .left) (c .before .before .before .prepared2 .given .1) (c .before .solve-own .ensures) (c .answered .ensures)
 
 pub with-own-layers-spec : {M : Type 1} → statement M
-with-own-layers-spec = tie.close (tie.spec (λ c. search needs) (λ c. search needs) (λ c. search needs) (λ c κs. search needs) (λ c κs. search needs) (λ c κs. search needs) (λ c. search needs) (λ c κs. search needs) (λ c κs. search needs) (λ c. search needs) (λ c κs. search needs) (λ c κs. search needs) (λ c. search needs) (λ c. search needs) returns returns-2 returns-3 returns-4 returns-5 returns-6)
+with-own-layers-spec = tie.close (tie.spec (λ c κs. search needs) returns (λ c. search needs) (λ c. search needs) (λ c κs. search needs) (λ c κs. search needs) returns-2 returns-3)

@@ -1,0 +1,2 @@
+-- Known answers, computed.
+pub mod Known

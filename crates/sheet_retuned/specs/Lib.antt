@@ -1,0 +1,2 @@
+-- A surface's answers after a retune.
+pub mod Retuned

@@ -1,2 +1,0 @@
--- What is at a place.
-pub mod Places

@@ -1,2 +1,0 @@
--- The products of a surface's films at 16 wavelengths: Internal need not be believed.
-pub mod Internal
