@@ -1,15 +1,15 @@
 // The page: what is typed, pressed, opened, drawn and saved.
 import { edition1, startCore, version } from "./core.js";
-import { keep, kept, readFile, saveAs } from "./files.js";
+import { MOST_BYTES, keep, kept, readFile, saveAs } from "./files.js";
 import { useGlasses } from "./glasses.js";
 import { at, copyOf, emptyModel, newLayer, newMaterial, newMirror, newSurface, newWindow, put } from "./model.js";
-import { faceNames, hasGlasses, summary } from "./plan.js";
+import { faceNames, hasFixedMetals, hasGlasses, summary } from "./plan.js";
 import { svgOf } from "./plot.js";
 import { percent, reportOf } from "./report.js";
 import { bandCsv, bandOf, pointLoss, resultsOf, steps, sweepAngle, sweepCsv, sweepWavelength } from "./results.js";
 import { editionOf, hexWords, met } from "./sheet.js";
 import { readBand, readText, writeText } from "./text.js";
-import { beamFields, h, indexChoices, materialLines, trainTable } from "./view.js";
+import { beamFields, h, indexChoices, kindOf, materialLines, trainTable } from "./view.js";
 import { DEGREE, Wrong, counted, number, short } from "./words.js";
 
 const by = (id) => document.getElementById(id);
@@ -173,6 +173,7 @@ function showWords() {
 
 let picture = null;
 let csv = null;
+const FIXED_METALS = "Films with a k in numbers keep their n and k at every wavelength, which metals do not: give them as a material with a table.";
 const RANGES = { angle: ["0", "75", "0.5"], wavelength: ["450", "1200", "2"] };
 
 function pictureLists() {
@@ -182,8 +183,7 @@ function pictureLists() {
     element.replaceChildren(...options.map(([key, text]) => h("option", { value: key }, text)));
     if (options.some(([key]) => key === value)) element.value = value;
   };
-  const rows = model.rows.map((row, i) => [`rows.${i}`, `${i + 1}: ${row.kind === "window" ? "window" : row.follows === "reflected" ? "mirror" : "surface"}`]);
-  fill("swept", rows);
+  fill("swept", model.rows.map((row, i) => [`rows.${i}`, `${i + 1}: ${kindOf(row)}`]));
   const faces = faceNames(result.plan).map((name, i) => [String(i), name]);
   fill("show", [["train", "the whole train"], ["each", "each surface"], ...faces]);
 }
@@ -208,6 +208,14 @@ function sweepLines(points, plan) {
   return kinds.map(([kind, name]) => ({ name, ys: ys(face, kind) })).filter((line) => line.ys.some((y) => y !== null));
 }
 
+// What does not follow a sweep over the wavelength.
+function keptSentences(plan) {
+  const said = hasFixedMetals(plan) ? [FIXED_METALS] : [];
+  const retuned = plan.faces.findIndex((face) => face.retune !== null);
+  if (retuned >= 0) said.push(`From surface ${retuned + 1} on the wavelength is ${short(plan.faces[retuned].retune)} nm, by its own cell.`);
+  return said;
+}
+
 function sweepPicture(over) {
   const { plan } = result;
   const list = steps(...["from", "to", "step"].map((id) => number(by(id).value.trim())));
@@ -227,7 +235,12 @@ function sweepPicture(over) {
   };
   csv = sweepCsv(points, over === "angle" ? "angle_deg" : "wavelength_nm", plan);
   const refused = points.filter((point) => point.refused);
-  if (refused.length) by("picture-said").textContent = `Refused at ${counted(refused.length, "point")} of ${points.length}, the first at ${short(refused[0].at, 8)}: ${refused[0].refused}`;
+  const said = over === "wavelength" ? keptSentences(plan) : [];
+  if (refused.length) {
+    const count = `${counted(refused.length, "point")} of ${points.length}`;
+    said.push(`Refused at ${count}, the first at ${short(refused[0].at, 8)}: ${refused[0].refused}`);
+  }
+  by("picture-said").textContent = said.join(" ");
 }
 
 function bandPicture() {
@@ -253,7 +266,9 @@ function bandPicture() {
     barName: "weight",
   };
   csv = bandCsv(lines, found);
-  if (hasGlasses(result.plan)) by("picture-said").textContent = `Glasses by name have their index at ${short(result.sheet.wavelength)} nm in every line; materials follow the colour.`;
+  const glasses = `Glasses by name have their index at ${short(result.sheet.wavelength)} nm in every line; materials of A, B, C follow the colour.`;
+  const said = [hasGlasses(result.plan) ? glasses : "", hasFixedMetals(result.plan) ? FIXED_METALS : ""];
+  by("picture-said").textContent = said.join(" ").trim();
   const row = (cells, tag = "td") => h("tr", {}, ...cells.map((cell) => h(tag, {}, cell)));
   const shown = (s, p) => [s, p, s + p].map((x) => x.toFixed(6));
   const rows = lines.map((one, i) => row([short(one.nm, 8), String(one.weight), ...shown(...found.each[i])]));
@@ -307,9 +322,8 @@ function take(name, bytes) {
 async function openFiles(files) {
   if (!files.length) return;
   const [file] = files;
-  if (file.size > 20000000) return say(`${file.name} is not opened: it has ${file.size} bytes, too many for a sheet or its text. What stands here is as it was.`, true);
   try {
-    take(file.name, new Uint8Array(await file.arrayBuffer()));
+    take(file.name, new Uint8Array(await file.slice(0, MOST_BYTES + 1).arrayBuffer()));
   } catch (error) {
     if (!(error instanceof DOMException)) throw error;
     say(`${file.name} cannot be read: choose another file. What stands here is as it was.`, true);
@@ -403,7 +417,8 @@ const ACTIONS = {
   "save-sheet": () => saveSheet(".sheet", "application/octet-stream", () => result.bytes),
   "save-hex": () => saveSheet(".hex", "text/plain", () => hexWords(result.bytes).join(" ") + "\n"),
   "save-edition1": () => {
-    if (result.total && result.sheet.surfaces.some((one) => one.retune !== null)) return say("Edition 1 has no new wavelength: clear it, or save the sheet as it is.", true);
+    const retuned = result.total && result.sheet.surfaces.some((one) => one.retune !== null);
+    if (retuned) return say("Edition 1 has no new wavelength: clear it, or save the sheet as it is.", true);
     saveSheet(".edition1.sheet", "application/octet-stream", () => edition1(result.bytes));
   },
   "save-svg": () => savePicture(".svg", "image/svg+xml", () => svgOf(picture) + "\n"),
@@ -437,7 +452,7 @@ function typed(element) {
 function changed(element) {
   const { path } = element.dataset;
   if (element.tagName !== "SELECT" && element.type !== "checkbox") return commit();
-  if (path.endsWith(".kind")) put(model, path.slice(0, -5), newLayer(element.value));
+  if (path.includes(".layers.") && path.endsWith(".kind")) put(model, path.slice(0, -5), newLayer(element.value));
   if (path.endsWith(".alike") && !element.checked) put(model, path.replace(/alike$/, "back"), copyOf(at(model, path.replace(/alike$/, "front"))));
   commit();
   show();

@@ -184,14 +184,38 @@ export function bandSentence(refused, bytes, lines) {
 
 // ---- hints: the gate takes all of this, but it is hardly meant
 
+// Whether light goes into a denser medium by the one surface and out of it by the other.
+function isPlate(one, two) {
+  return one.after > one.before && one.before > 0 && two.before === one.after && two.after < one.after && !one.reflected;
+}
+
 function neighbourHint(one, two, name) {
   const comes = one.reflected ? one.before : one.after;
   if (two.before !== comes) return [`${name} begins in index ${short(two.before)}; the light comes in index ${short(comes)}`];
-  const plate = one.after > one.before && one.before > 0 && Number.isFinite(one.angle) && !one.reflected && two.after < comes;
-  const expected = plate ? Math.abs(arcsine((one.before * sine(one.angle)) / one.after)) / DEGREE : 0;
+  if (!isPlate(one, two)) return [];
+  const expected = Math.abs(arcsine((one.before * sine(one.angle)) / one.after)) / DEGREE;
   const found = two.angle / DEGREE;
-  if (!plate || Math.abs(expected - Math.abs(found)) <= 0.5) return [];
+  if (Math.abs(expected - Math.abs(found)) <= 0.5) return [];
   return [`${name} is at ${found.toFixed(2)} deg; in a plate with parallel faces it is at ${expected.toFixed(2)} deg`];
+}
+
+// What all passes between a plate's faces add to one, as a share, by the powers before it, in it and behind it.
+function passes(before, between, behind) {
+  if (!(before > 0 && between > 0)) return 0;
+  const both = (1 - between / before) * (1 - behind / between);
+  return both < 1 ? both / (1 - both) : 0;
+}
+
+// Light to and fro between a plate's faces, which one pass leaves out, from 1 % on.
+function passHint(sheet, after, i) {
+  const [one, two] = [sheet.surfaces[i - 1], sheet.surfaces[i]];
+  const absorbs = [...one.layers, ...two.layers].some((layer) => layer.k);
+  if (two.reflected || absorbs || !isPlate(one, two)) return [];
+  const start = i > 1 ? after[i - 2] : [sheet.s, sheet.p];
+  const [s, p] = [0, 1].map((kind) => passes(start[kind], after[i - 1][kind], after[i][kind]));
+  if (s <= 0.01 && p <= 0.01) return [];
+  const why = "the light to and fro between it and the surface before, which one pass leaves out, would add";
+  return [`surface ${i + 1} is the second face of a plate: ${why} ${short(100 * s, 2)} % to s and ${short(100 * p, 2)} % to p, without interference`];
 }
 
 function presetHint(surface, nm, name, called) {
@@ -199,14 +223,31 @@ function presetHint(surface, nm, name, called) {
   return [`${name} has the preset ${called}, designed for ${PRESET_NM} nm; the light has ${written(nm)} nm: give the layers yourself`];
 }
 
-export function hints(plan, sheet, names) {
+// A number behind a bracket belongs to the letter after it.
+function stackHints(model) {
+  const coats = model.rows.flatMap((row) => (row.kind === "window" ? [row.front, ...(row.alike ? [] : [row.back])] : [row.coat]));
+  const layers = coats.filter((coat) => coat.name === "custom").flatMap((coat) => coat.layers);
+  return layers.filter((layer) => layer.kind === "stack").flatMap(({ text }) => {
+    const [, bracket, digits, letter] = /(\([^()]*\))\s*([0-9]+)\s*([HLM])/.exec(text) || [];
+    const thick = `in '${text}' the ${digits} makes the ${letter} behind it ${digits} quarter waves thick`;
+    return bracket ? [`${thick}; to repeat the bracket write ${bracket}^${digits}`] : [];
+  });
+}
+
+function angleHint(surface, name) {
+  if (Math.abs(surface.angle) <= Math.PI / 2) return [];
+  const degrees = `${(surface.angle / DEGREE).toFixed(2)} deg, more than a right angle`;
+  return [`${name} is at ${written(surface.angle)} rad, ${degrees}; where degrees are meant write deg`];
+}
+
+export function hints(model, sheet, names, after) {
   const waves = met(sheet);
-  const power = sheet.s + sheet.p > 1 ? [`s and p add up to ${short(sheet.s + sheet.p)}: a beam of power 1 that is not polarized has 0.5 and 0.5`] : [];
+  const power = sheet.s + sheet.p > 1 + 1e-9 ? [`s and p add up to ${short(sheet.s + sheet.p)}: a beam of power 1 that is not polarized has 0.5 and 0.5`] : [];
   const said = sheet.surfaces.flatMap((surface, i) => {
     const name = `surface ${i + 1}`;
-    const neighbour = i ? neighbourHint(sheet.surfaces[i - 1], surface, name) : [];
-    return [...neighbour, ...presetHint(surface, waves[i], name, names[surface.coating])];
+    const neighbour = i ? [...neighbourHint(sheet.surfaces[i - 1], surface, name), ...passHint(sheet, after, i)] : [];
+    return [...neighbour, ...angleHint(surface, name), ...presetHint(surface, waves[i], name, names[surface.coating])];
   });
-  return [...power, ...said];
+  return [...power, ...stackHints(model), ...said];
 }
 

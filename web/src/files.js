@@ -4,9 +4,9 @@ import { sentence } from "./explain.js";
 import { isModel } from "./model.js";
 import { fromBytes, fromHex, isHex } from "./sheet.js";
 import { isText, readText, sheetModel } from "./text.js";
-import { Wrong, counted } from "./words.js";
+import { Wrong } from "./words.js";
 
-const MOST_BYTES = 1000000; // of a file; a sheet has 39,460 at most
+export const MOST_BYTES = 1000000; // of a file; a sheet has 39,460 at most
 const KEPT = "dihkelu";
 
 // The table of a sheet's bytes. Numbers outside the limits are taken, and marked in the table.
@@ -23,7 +23,7 @@ function sheetFile(bytes) {
 // The table of a file's bytes: a text, a sheet, or a sheet in hexadecimal.
 export function readFile(bytes) {
   if (!bytes.length) throw new Wrong("the file is empty: choose another");
-  if (bytes.length > MOST_BYTES) throw new Wrong(`the file has ${counted(bytes.length, "byte")}, too many for a sheet or its text: choose another`);
+  if (bytes.length > MOST_BYTES) throw new Wrong(`the file has more than ${MOST_BYTES} bytes, too many for a sheet or its text: choose another`);
   if (!isText(bytes)) return sheetFile(bytes);
   const start = new TextDecoder().decode(bytes.subarray(0, 200));
   return isHex(start) ? sheetFile(fromHex(new TextDecoder().decode(bytes))) : readText(bytes);

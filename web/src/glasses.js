@@ -16,14 +16,22 @@ export function glassNames() {
   return [...table.keys(), ...Object.keys(otherNames)];
 }
 
-export function glassTable() {
-  return [...table.values()];
+// A name without what people write in different ways: small letters, no hyphens, spaces or points.
+function squeezed(name) {
+  return name.toLowerCase().replace(/[-_. ]/g, "");
 }
 
-// The glass of a name: letters of either size, with or without '-', '_' and spaces, as BK-7 for bk7.
+function knownName(name) {
+  return glassNames().find((one) => squeezed(one) === squeezed(name));
+}
+
+export function isGlass(name) {
+  return knownName(name) !== undefined;
+}
+
+// The glass of a name: letters of either size, with hyphens or without, as BK-7 for bk7.
 export function glass(name) {
-  const squeezed = (x) => x.toLowerCase().replace(/[-_ ]/g, "");
-  const known = glassNames().find((one) => squeezed(one) === squeezed(name));
+  const known = knownName(name);
   if (leftOut.includes(squeezed(name))) {
     throw new Wrong(
       `'${name}' has no index by its name, since a film's index depends on how it was made: give the maker's coefficients as a material, or a number`
@@ -50,4 +58,15 @@ export function glassIndex(one, nm) {
 export function cauchy(a, b, c, nm) {
   const u2 = (nm / 1000) * (nm / 1000);
   return u2 ? a + (b + c / u2) / u2 : NaN;
+}
+
+// n or k of a material that has lines of nm, n and k: between two of them both go in a straight line over the wavelength.
+export function between(material, nm, column) {
+  const points = [...material.points].sort((one, two) => one.nm - two.nm);
+  const i = points.findIndex((one, at) => one.nm <= nm && nm <= (points[at + 1] || (at ? { nm: NaN } : one)).nm);
+  const ends = points.length ? [points[0], points.at(-1)].map((one) => written(one.nm)) : [];
+  if (i < 0) throw new Wrong(`${material.name} is known from ${ends.join(" to ")} nm by its lines; the wavelength is ${written(nm)} nm: add a line for it`);
+  const [one, two] = [points[i], points[i + 1] || points[i]];
+  if (nm === one.nm || nm === two.nm) return (nm === one.nm ? one : two)[column];
+  return one[column] + ((nm - one.nm) / (two.nm - one.nm)) * (two[column] - one[column]);
 }

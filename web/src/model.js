@@ -31,7 +31,7 @@ export function newLayer(kind) {
 }
 
 export function newMaterial() {
-  return { name: "", a: "", b: "0", c: "0" };
+  return { kind: "coefficients", name: "", a: "", b: "0", c: "0", k: "", lines: "" };
 }
 
 export function copyOf(part) {
@@ -51,12 +51,17 @@ export function put(model, path, value) {
 // ---- what was kept in the browser is taken only where it has the model's own shape
 
 function sameShape(sample, found) {
+  if (Array.isArray(sample)) return Array.isArray(found);
   if (typeof sample !== "object") return typeof found === typeof sample;
-  return found !== null && typeof found === "object" && Object.keys(sample).every((key) => key in found && (Array.isArray(sample[key]) ? Array.isArray(found[key]) : sameShape(sample[key], found[key])));
+  return found !== null && typeof found === "object" && Object.keys(sample).every((key) => key in found && sameShape(sample[key], found[key]));
+}
+
+function isLayer(layer) {
+  return Boolean(layer) && ["layer", "quarter", "glass", "stack"].includes(layer.kind) && sameShape(newLayer(layer.kind), layer);
 }
 
 function isCoat(coat) {
-  return sameShape(newCoat(), coat) && coat.layers.every((layer) => layer && ["layer", "quarter", "glass", "stack"].includes(layer.kind) && sameShape(newLayer(layer.kind), layer));
+  return sameShape(newCoat(), coat) && coat.layers.every(isLayer);
 }
 
 function isRow(row) {

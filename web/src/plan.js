@@ -1,10 +1,10 @@
 // From the table to a sheet: cells are read to a plan, and the plan makes its sheet at the beam's wavelength or at another, as
 // python/dihkelu/plans.py does. What a cell has wrong is collected with the cell's path.
 import { Refused, arcsine, sine, stack } from "./core.js";
-import { cauchy, glass, glassIndex, glassNames } from "./glasses.js";
+import { between, cauchy, glass, glassIndex, isGlass } from "./glasses.js";
 import { at } from "./model.js";
 import { COATINGS, CUSTOM, MOST_LAYERS, MOST_SURFACES } from "./sheet.js";
-import { DEGREE, Wrong, counted, number, quantity, short, written } from "./words.js";
+import { BEGINS_NUMBER, DEGREE, Wrong, apart, counted, number, quantity, short, unit, written } from "./words.js";
 
 const LENGTH = ["nm", "um"];
 const ANGLE = ["deg", "rad"];
@@ -14,17 +14,76 @@ const ANGLE = ["deg", "rad"];
 export function indexOf(cell, materials) {
   const word = cell.trim();
   if (!word) throw new Wrong("an index is missing: give a number or a glass");
-  if (/^[+-]?[.,]?[0-9]/.test(word)) return { number: number(word) };
+  if (BEGINS_NUMBER.test(word)) return { number: number(word) };
   if (materials.has(word.toLowerCase())) return { material: materials.get(word.toLowerCase()) };
   return { glass: glass(word) };
 }
 
 export function indexAt(index, nm) {
   if (index.glass) return glassIndex(index.glass, nm);
-  return index.material ? cauchy(index.material.a, index.material.b, index.material.c, nm) : index.number;
+  if (!index.material) return index.number;
+  const { points, a, b, c } = index.material;
+  return points ? between(index.material, nm, "n") : cauchy(a, b, c, nm);
+}
+
+function kAt(index, nm) {
+  if (!index.material) return 0;
+  return index.material.points ? between(index.material, nm, "k") : index.material.k;
+}
+
+// The index of what a surface lies between, which has no k.
+function clearAt(index, nm) {
+  const k = kAt(index, nm);
+  const has = () => `${index.material.name} has k ${written(k)} at ${written(nm)} nm`;
+  if (k !== 0) throw new Wrong(`${has()}, and a surface lies between indices without k: make it a layer`);
+  return indexAt(index, nm);
+}
+
+// ---- materials that have a table
+
+// The words of each line of a table that has some.
+export function tableWords(cell) {
+  const lines = cell.split("\n").map((line) => line.trim().split(/\s+/).filter(Boolean).flatMap(apart));
+  return lines.filter((words) => words.length);
+}
+
+const LINE_FORM = "write it as 1064 nm 0.26 6.97, the wavelength, n and k";
+
+function tablePoint(words) {
+  const [nm, name, n, k] = words.length === 3 ? [words[0], "nm", words[1], words[2]] : words;
+  if (words.length < 3 || words.length > 4 || !LENGTH.includes(unit(name))) throw new Wrong(`'${words.join(" ")}' is no line: ${LINE_FORM}`);
+  return { nm: quantity(`${nm} ${name}`, LENGTH).value, n: number(n), k: number(k) };
+}
+
+// The lines of a material's table, each a wavelength, n and k.
+function pointsOf(cell) {
+  const points = tableWords(cell).map(tablePoint);
+  if (!points.length) throw new Wrong(`a table has a line for each wavelength: ${LINE_FORM}`);
+  points.forEach((one, i) => {
+    const twice = points.findIndex((other) => other.nm === one.nm) !== i;
+    if (twice || ![one.nm, one.n, one.k].every(Number.isFinite)) {
+      throw new Wrong(`there is a line for ${written(one.nm)} nm already, or a number of it is not finite: mend it`);
+    }
+  });
+  return points;
 }
 
 // ---- stacks in shorthand
+
+const SUPERSCRIPTS = "⁰¹²³⁴⁵⁶⁷⁸⁹";
+
+// A stack with powers that are written small and high as the library has them, behind ^.
+export function plainStack(text) {
+  return text.replace(/[⁰¹²³⁴⁵⁶⁷⁸⁹]+/g, (found) => "^" + [...found].map((digit) => SUPERSCRIPTS.indexOf(digit)).join(""));
+}
+
+// What stands at a byte where no stack can have it.
+function stackWrong(text, place) {
+  const digits = [...text.matchAll(/[0-9]+/g)].find((found) => found.index <= place && place < found.index + found[0].length);
+  if (!digits) return `'${text[place]}' cannot stand at place ${place + 1} of '${text}': write it as (HL)^7 H`;
+  const power = text.slice(0, digits.index).trimEnd().endsWith("^");
+  return `${digits[0].slice(0, 20)} in '${text}' is none: ${power ? "a power is from 1 to 31" : "a number before a letter is from 1 to 99"}`;
+}
 
 function stackRefused(text, refused) {
   const bytes = new TextEncoder().encode(text);
@@ -32,8 +91,7 @@ function stackRefused(text, refused) {
   if (refused.number === 1) return "an index or the design wavelength is not positive and finite: mend it";
   if (bytes.length > 255) return `the stack has ${bytes.length} bytes: a stack has 255 at most`;
   if (refused.place === bytes.length) return `'${text}' stops early: write it as (HL)^7 H`;
-  const stands = [...new TextDecoder().decode(bytes.slice(refused.place))][0];
-  return `'${stands}' cannot stand at place ${refused.place + 1} of '${text}': write it as (HL)^7 H`;
+  return stackWrong(text, new TextDecoder().decode(bytes.slice(0, refused.place)).length);
 }
 
 // The layers of a text in shorthand, each with its letter's index at the design wavelength and its thickness.
@@ -89,24 +147,27 @@ class Reader {
   }
 
   material(path) {
-    const name = at(this.model, path).name.trim();
+    const one = at(this.model, path);
+    const name = one.name.trim();
     const small = name.toLowerCase();
     if (!/^[a-z][a-z0-9_.-]*$/i.test(name)) {
       this.wrong(`${path}.name`, `'${name}' is no name: a name is a letter, then letters, digits, '-', '_' and '.'`);
-    } else if (glassNames().includes(small)) {
+    } else if (isGlass(name)) {
       this.wrong(`${path}.name`, `'${name}' is a glass that has its name already: take another name`);
     } else if (this.materials.has(small)) {
       this.wrong(`${path}.name`, `there is a material '${name}' already: take another name`);
     }
-    this.materials.set(small, { name: small, a: this.number(`${path}.a`), b: this.number(`${path}.b`), c: this.number(`${path}.c`) });
+    if (one.kind === "table") return void this.materials.set(small, { name: small, points: this.cell(`${path}.lines`, pointsOf, []) });
+    const [a, b, c] = ["a", "b", "c"].map((part) => this.number(`${path}.${part}`));
+    this.materials.set(small, { name: small, a, b, c, k: one.k.trim() ? this.number(`${path}.k`) : 0 });
   }
 
-  // A layer whose index is that of a material changes with colour in the sheet itself, as kind 6.
+  // A layer; a k of null is the material's. One of a material with coefficients and no k changes with colour in the sheet itself, as kind 6.
   film(cells, index, k, d) {
-    if (!index.material) return { cells, index, k, d };
-    if (k !== 0) this.wrong(cells.k, `a layer of a material with coefficients has no k: clear ${written(k)}`);
-    const { a, b, c } = index.material;
-    return { cells, index, k: 0, d, given: { a, b, c, d } };
+    if (!index.material) return { cells, index, k: k === null ? 0 : k, d };
+    if (k !== null) this.wrong(cells.k, `a layer of a material has the k of its material: clear ${written(k)}`);
+    const { points, a, b, c, k: own } = index.material;
+    return points || own !== 0 ? { cells, index, k: null, d } : { cells, index, k: null, d, given: { a, b, c, d } };
   }
 
   stack(path) {
@@ -121,7 +182,7 @@ class Reader {
       `${path}.text`,
       (text) => {
         if (text.includes("M") && !line.M.trim()) throw new Wrong(`M stands in '${text}' and has no index: give M one`);
-        return stackFilms(text.trim(), [H, L, M], design).map((one) => this.film(cells, one.index, 0, one.d));
+        return stackFilms(plainStack(text.trim()), [H, L, M], design).map((one) => this.film(cells, one.index, null, one.d));
       },
       []
     );
@@ -132,7 +193,7 @@ class Reader {
     const [index, count, design] = [this.index(`${path}.index`), this.number(`${path}.count`), this.length(`${path}.design`)];
     const thickness = () => count * stackFilms("H", [index, index, index], design)[0].d;
     const d = this.problems.length > before ? NaN : this.cell(`${path}.design`, thickness);
-    return this.film({ n: `${path}.index`, k: `${path}.index`, d: `${path}.count` }, index, 0, d);
+    return this.film({ n: `${path}.index`, k: `${path}.index`, d: `${path}.count` }, index, null, d);
   }
 
   layers(path) {
@@ -142,9 +203,9 @@ class Reader {
     if (layer.kind === "glass") {
       const [a, b, c] = ["a", "b", "c"].map((name) => this.number(`${path}.${name}`));
       const cells = { n: `${path}.a`, k: `${path}.a`, d: `${path}.thickness` };
-      return [this.film(cells, { material: { name: "", a, b, c } }, 0, this.length(cells.d))];
+      return [this.film(cells, { material: { name: "", a, b, c, k: 0 } }, null, this.length(cells.d))];
     }
-    const k = layer.k.trim() ? this.number(`${path}.k`) : 0;
+    const k = layer.k.trim() ? this.number(`${path}.k`) : null;
     const cells = { n: `${path}.index`, k: `${path}.k`, d: `${path}.thickness` };
     return [this.film(cells, this.index(cells.n), k, this.length(cells.d))];
   }
@@ -226,11 +287,15 @@ function inCell(path, read) {
   }
 }
 
+function layerAt(film, nm) {
+  return { n: indexAt(film.index, nm), k: film.k === null ? kAt(film.index, nm) : film.k, d: film.d };
+}
+
 // A face at its wavelength; the second of a window at the angle that the first leads to.
 function surfaceOf(face, nm, angle, previous) {
-  const before = inCell(face.cells.before, () => indexAt(face.before, nm));
-  const after = inCell(face.cells.after, () => indexAt(face.after, nm));
-  const layers = face.films.map((film) => film.given || inCell(film.cells.n, () => ({ n: indexAt(film.index, nm), k: film.k, d: film.d })));
+  const before = inCell(face.cells.before, () => clearAt(face.before, nm));
+  const after = inCell(face.cells.after, () => clearAt(face.after, nm));
+  const layers = face.films.map((film) => film.given || inCell(film.cells.n, () => layerAt(film, nm)));
   const inner = face.second ? inside(previous.angle, after, before, face.cells.angle) : angle;
   return { coating: face.coating, reflected: face.reflected, before, after, angle: inner, layers, retune: face.retune };
 }
@@ -261,6 +326,11 @@ function indicesOf(face) {
 // Whether a glass by name stands in a plan whose index changes with the wavelength.
 export function hasGlasses(plan) {
   return plan.faces.some((face) => indicesOf(face).some((index) => index.glass && index.glass.terms.length));
+}
+
+// Whether a film has a k in numbers, which is that of one wavelength.
+export function hasFixedMetals(plan) {
+  return plan.faces.some((face) => face.films.some((film) => film.k));
 }
 
 // What was worked out for the sheet: indices of named glasses, and angles inside windows.

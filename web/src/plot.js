@@ -3,13 +3,19 @@ import { short } from "./words.js";
 
 const WIDTH = 860;
 const HEIGHT = 400;
-const LIGHT = { ink: "#1a1a1a", faint: "#d9d9d9", paper: "#ffffff", lines: ["#0b62a4", "#c4420b", "#2b2b2b", "#2e7d32", "#7b3fa0", "#a6761d", "#007c80", "#b0176b"] };
-const DARK = { ink: "#e8e8e8", faint: "#444444", paper: "#1b1d20", lines: ["#6db6ff", "#ff9b6a", "#f0f0f0", "#7fd08a", "#cfa3ec", "#e2bf6b", "#5fd0d3", "#ff8cc6"] };
+const LIGHT = {
+  ink: "#1a1a1a",
+  faint: "#d9d9d9",
+  paper: "#ffffff",
+  lines: ["#0b62a4", "#c4420b", "#2b2b2b", "#2e7d32", "#7b3fa0", "#a6761d", "#007c80", "#b0176b"],
+};
+const DARK = {
+  ink: "#e8e8e8",
+  faint: "#444444",
+  paper: "#1b1d20",
+  lines: ["#6db6ff", "#ff9b6a", "#f0f0f0", "#7fd08a", "#cfa3ec", "#e2bf6b", "#5fd0d3", "#ff8cc6"],
+};
 const DASHES = ["", "7 4", "2 3", "10 3 2 3"];
-
-export function colours(dark) {
-  return dark ? DARK : LIGHT;
-}
 
 function escaped(text) {
   return String(text).replace(/&/g, "&amp;").replace(/</g, "&lt;").replace(/>/g, "&gt;").replace(/"/g, "&quot;");
@@ -74,7 +80,8 @@ function refusedParts(picture, x, box) {
     const from = Math.max(box.left, x(left) - (left === right ? 2 : 0));
     const width = Math.max(4, x(right) - from);
     const label = width > 50 ? `<text x="${(from + width / 2).toFixed(1)}" y="${box.top + 16}" text-anchor="middle">refused</text>` : "";
-    return [`<rect x="${from.toFixed(1)}" y="${box.top}" width="${width.toFixed(1)}" height="${box.bottom - box.top}" fill="url(#refused)"><title>refused</title></rect>`, label];
+    const place = `x="${from.toFixed(1)}" y="${box.top}" width="${width.toFixed(1)}" height="${box.bottom - box.top}"`;
+    return [`<rect ${place} fill="url(#refused)"><title>refused</title></rect>`, label];
   });
 }
 
@@ -85,45 +92,82 @@ function legend(entries, box) {
   });
 }
 
-// `picture` has title, xLabel, yLabel, xs, known (whether each x was admitted), lines with name and y values (null where unknown),
-// each with a colour and a dash of its own if need be, and may have a mark, the x of the table, and bars, each an x and a height from 0 to 1, with a name for all.
-export function svgOf(picture, dark = false) {
-  const paint = colours(dark);
-  const box = { left: 64, right: WIDTH - 200, top: 34, bottom: HEIGHT - 48 };
+function strokeOf(line, i, paint) {
+  const { colour = i % 8, dash = Math.floor(i / 8) % 4 } = line;
+  const ink = `fill="none" stroke="${paint.lines[colour]}" stroke-width="1.8" stroke-linecap="round"`;
+  return `${ink} stroke-dasharray="${DASHES[dash]}"`;
+}
+
+function linePaths(picture, x, y, paint) {
+  return picture.lines.map((line, i) => {
+    const points = picture.xs.map((at, j) => (line.ys[j] === null ? null : [at, line.ys[j]]));
+    return `<path d="${pathOf(points, x, y)}" ${strokeOf(line, i, paint)}><title>${escaped(line.name)}</title></path>`;
+  });
+}
+
+function barPaths(picture, x, box, paint) {
+  const heavy = `stroke="${paint.ink}" stroke-opacity="0.35" stroke-width="7"`;
+  return (picture.bars || []).map((bar) => `<path d="M${x(bar.x).toFixed(1)} ${box.bottom}v${(-bar.height * 70).toFixed(1)}" ${heavy}/>`);
+}
+
+function markPath(picture, x, box, paint) {
+  if (!isMarked(picture)) return "";
+  const path = `M${x(picture.mark).toFixed(1)} ${box.top}V${box.bottom}`;
+  return `<path d="${path}" stroke="${paint.ink}" stroke-dasharray="2 4"><title>as it stands in the table</title></path>`;
+}
+
+function isMarked(picture) {
+  return picture.mark >= picture.xRange[0] && picture.mark <= picture.xRange[1];
+}
+
+const MOST_ENTRIES = 18; // that the legend has room for
+
+function legendEntries(picture, paint) {
+  const entries = picture.lines.map((line, i) => ({ name: line.name, stroke: strokeOf(line, i, paint) }));
+  if (picture.bars) entries.push({ name: picture.barName, stroke: `stroke="${paint.ink}" stroke-opacity="0.35" stroke-width="7"` });
+  if (isMarked(picture)) entries.push({ name: "as in the table", stroke: `stroke="${paint.ink}" stroke-dasharray="2 4"` });
+  if (picture.known.includes(false)) entries.push({ name: "refused by the gate", stroke: 'stroke="url(#refused)" stroke-width="10"' });
+  const more = entries.splice(MOST_ENTRIES);
+  return more.length ? [...entries, { name: `and ${more.length} more`, stroke: 'stroke="none"' }] : entries;
+}
+
+// The picture with the ranges of its axes: x as it is, y from 0 on.
+function ranged(picture) {
   const values = picture.lines.flatMap((line) => line.ys.filter((y) => y !== null));
   const [low, high] = [Math.min(0, ...values), Math.max(...values, 0)];
-  const top = high > low ? high + (high - low) * 0.06 : low + 1;
-  const ranged = { ...picture, xRange: [Math.min(...picture.xs), Math.max(...picture.xs)], yRange: [low, top] };
-  if (ranged.xRange[0] === ranged.xRange[1]) ranged.xRange = [ranged.xRange[0] - 1, ranged.xRange[1] + 1];
-  const x = scale(...ranged.xRange, box.left, box.right);
-  const y = scale(low, top, box.bottom, box.top);
-  const stroke = (line, i) => {
-    const { colour = i % 8, dash = Math.floor(i / 8) % 4 } = line;
-    return `fill="none" stroke="${paint.lines[colour]}" stroke-width="1.8" stroke-linecap="round" stroke-dasharray="${DASHES[dash]}"`;
-  };
-  const lines = picture.lines.map((line, i) => `<path d="${pathOf(picture.xs.map((at, j) => (line.ys[j] === null ? null : [at, line.ys[j]])), x, y)}" ${stroke(line, i)}><title>${escaped(line.name)}</title></path>`);
-  const bars = (picture.bars || []).map((bar) => `<path d="M${x(bar.x).toFixed(1)} ${box.bottom}v${(-bar.height * 70).toFixed(1)}" stroke="${paint.ink}" stroke-opacity="0.35" stroke-width="7"/>`);
-  const marked = picture.mark >= ranged.xRange[0] && picture.mark <= ranged.xRange[1];
-  const mark = marked ? [`<path d="M${x(picture.mark).toFixed(1)} ${box.top}V${box.bottom}" stroke="${paint.ink}" stroke-dasharray="2 4"><title>as it stands in the table</title></path>`] : [];
-  const refused = picture.known.includes(false);
-  const entries = picture.lines.map((line, i) => ({ name: line.name, stroke: stroke(line, i) }));
-  if (picture.bars) entries.push({ name: picture.barName, stroke: `stroke="${paint.ink}" stroke-opacity="0.35" stroke-width="7"` });
-  if (marked) entries.push({ name: "as in the table", stroke: `stroke="${paint.ink}" stroke-dasharray="2 4"` });
-  if (refused) entries.push({ name: "refused by the gate", stroke: `stroke="url(#refused)" stroke-width="10"` });
-  const most = entries.slice(0, 18);
-  if (entries.length > 18) most.push({ name: `and ${entries.length - 18} more`, stroke: 'stroke="none"' });
+  const [left, right] = [Math.min(...picture.xs), Math.max(...picture.xs)];
+  const xRange = left === right ? [left - 1, right + 1] : [left, right];
+  return { ...picture, xRange, yRange: [low, high > low ? high + (high - low) * 0.06 : low + 1] };
+}
+
+function hatching(paint) {
+  const pattern = '<pattern id="refused" width="7" height="7" patternUnits="userSpaceOnUse" patternTransform="rotate(45)">';
+  const ground = `<rect width="7" height="7" fill="${paint.faint}" fill-opacity="0.6"/>`;
+  return `<defs>${pattern}${ground}<path d="M0 0V7" stroke="${paint.ink}" stroke-opacity="0.55"/></pattern></defs>`;
+}
+
+// `given` has title, xLabel, yLabel, xs, known (whether each x was admitted), lines with name and y values (null where unknown), each with a
+// colour and a dash of its own if need be; and it may have a mark, the x of the table, and bars, each an x and a height from 0 to 1, with a
+// name for all.
+export function svgOf(given, dark = false) {
+  const paint = dark ? DARK : LIGHT;
+  const picture = ranged(given);
+  const box = { left: 64, right: WIDTH - 200, top: 34, bottom: HEIGHT - 48 };
+  const x = scale(...picture.xRange, box.left, box.right);
+  const y = scale(...picture.yRange, box.bottom, box.top);
+  const fonts = `font-family="system-ui, sans-serif" font-size="12" fill="${paint.ink}"`;
   return [
-    `<svg xmlns="http://www.w3.org/2000/svg" viewBox="0 0 ${WIDTH} ${HEIGHT}" font-family="system-ui, sans-serif" font-size="12" fill="${paint.ink}" role="img">`,
+    `<svg xmlns="http://www.w3.org/2000/svg" viewBox="0 0 ${WIDTH} ${HEIGHT}" ${fonts} role="img">`,
     `<title>${escaped(picture.title)}</title>`,
-    `<defs><pattern id="refused" width="7" height="7" patternUnits="userSpaceOnUse" patternTransform="rotate(45)"><rect width="7" height="7" fill="${paint.faint}" fill-opacity="0.6"/><path d="M0 0V7" stroke="${paint.ink}" stroke-opacity="0.55"/></pattern></defs>`,
+    hatching(paint),
     `<rect width="${WIDTH}" height="${HEIGHT}" fill="${paint.paper}"/>`,
     `<text x="${box.left}" y="20" font-size="14" font-weight="600">${escaped(picture.title)}</text>`,
-    ...refusedParts(ranged, x, box),
-    ...axes(ranged, x, y, box, paint),
-    ...bars,
-    ...mark,
-    ...lines,
-    ...legend(most, box),
+    ...refusedParts(picture, x, box),
+    ...axes(picture, x, y, box, paint),
+    ...barPaths(picture, x, box, paint),
+    markPath(picture, x, box, paint),
+    ...linePaths(picture, x, y, paint),
+    ...legend(legendEntries(picture, paint), box),
     "</svg>",
   ].join("\n");
 }

@@ -44,7 +44,7 @@ export function resultsOf(model) {
     sheet = sheetOf(plan);
     bytes = toBytes(sheet);
     const after = run(bytes);
-    const more = { notes: notes(plan, sheet), hints: hints(plan, sheet, COATINGS), edition: editionOf(sheet) };
+    const more = { notes: notes(plan, sheet), hints: hints(model, sheet, COATINGS, after), edition: editionOf(sheet) };
     return { plan, problems, sheet, bytes, losses: lossesOf(sheet, bytes, after), total: totalOf(sheet, after), ...more };
   } catch (error) {
     if (error instanceof Wrong) return { plan, problems: [{ path: error.path, sentence: error.message }] };
@@ -83,7 +83,8 @@ const MOST_POINTS = 20000;
 
 // first, first + step and so on up to last: whole numbers of the last decimal place, so that no sum drifts.
 export function steps(first, last, step) {
-  if (![first, last, step].every(Number.isFinite) || !step || (last - first) / step < 0) throw new Wrong(`no step of ${step} leads from ${first} to ${last}: give another`);
+  const leads = [first, last, step].every(Number.isFinite) && step && (last - first) / step >= 0;
+  if (!leads) throw new Wrong(`no step of ${step} leads from ${first} to ${last}: give another`);
   if ((last - first) / step >= MOST_POINTS) throw new Wrong(`a sweep has at most ${MOST_POINTS} points: take a larger step than ${step}`);
   const places = Math.max(...[first, last, step].map((x) => (String(x).split(".")[1] || "").length));
   const unit = 10 ** Math.min(places, 12);

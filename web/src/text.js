@@ -1,12 +1,13 @@
 // The text of a sheet that people write and read (docs/SHEETS.md), to the table and back.
 import { newCoat, newMaterial } from "./model.js";
-import { indexOf } from "./plan.js";
+import { indexOf, plainStack, tableWords } from "./plan.js";
 import { COATINGS } from "./sheet.js";
-import { Wrong, apart, number, plain, quantity, written } from "./words.js";
+import { BEGINS_NUMBER, Wrong, apart, number, plain, quantity, unit, written } from "./words.js";
 
 const FORMS = {
   edition: "edition 1|2",
-  material: "material NAME a NUMBER b NUMBER c NUMBER",
+  material: "material NAME a NUMBER b NUMBER c NUMBER [k NUMBER]",
+  point: "material NAME at NUMBER nm|um n NUMBER k NUMBER",
   beam: "beam NUMBER nm|um s NUMBER p NUMBER",
   surface: "surface COATING transmitted|reflected from INDEX to INDEX at NUMBER deg|rad",
   window: "window INDEX at NUMBER deg|rad [in INDEX]",
@@ -22,8 +23,9 @@ const HEADS = ["edition", "material", "beam", "retune", "surface", "window", "fr
 const WHAT = { transmitted: "direction", 1: "edition", front: "face" }; // what alternatives are; else units
 
 function choice(token, names, what) {
-  if (!names.includes(token.toLowerCase())) throw new Wrong(`there is no ${what} '${token}'; there are ${names.join(", ")}`);
-  return token.toLowerCase();
+  const word = what === "unit" ? unit(token) : token.toLowerCase();
+  if (!names.includes(word)) throw new Wrong(`there is no ${what} '${token}'; there are ${names.join(", ")}`);
+  return word;
 }
 
 function name(token) {
@@ -40,7 +42,7 @@ function match(tokens, form, materials, shown = form) {
   const found = [];
   const place = (want, token) => {
     if (want === "NUMBER") return void (number(token), found.push(plain(token)));
-    if (want === "INDEX") return void (indexOf(token, materials), found.push(/^[+-]?[.,]?[0-9]/.test(token) ? plain(token) : token));
+    if (want === "INDEX") return void (indexOf(token, materials), found.push(BEGINS_NUMBER.test(token) ? plain(token) : token));
     if (want === "NAME") return void found.push(name(token));
     if (want === "COATING") return void found.push(choice(token, COATINGS, "coating"));
     if (!want.includes("|")) {
@@ -89,10 +91,24 @@ class TextReader {
   }
 
   material(tokens) {
-    const [called, a, b, c] = match(tokens, FORMS.material, this.materials);
+    if (tokens.length > 2 && tokens[2].toLowerCase() === "at") return this.point(...match(tokens, FORMS.point, this.materials));
+    const [called, a, b, c, k = ""] = match(tokens, FORMS.material, this.materials);
     if (this.materials.has(called.toLowerCase())) throw new Wrong(`there is a material '${called}' already`);
-    this.materials.set(called.toLowerCase(), {});
-    this.model.materials.push({ ...newMaterial(), name: called, a, b, c });
+    this.addMaterial({ ...newMaterial(), name: called, a, b, c, k });
+  }
+
+  // A line of a material's table.
+  point(called, nm, n, k) {
+    const before = this.materials.get(called.toLowerCase());
+    if (before && before.kind !== "table") throw new Wrong(`there is a material '${called}' with coefficients already`);
+    const table = before || this.addMaterial({ ...newMaterial(), kind: "table", name: called });
+    table.lines += `${nm} ${n} ${k}\n`;
+  }
+
+  addMaterial(one) {
+    this.materials.set(one.name.toLowerCase(), one);
+    this.model.materials.push(one);
+    return one;
   }
 
   beam(tokens) {
@@ -165,7 +181,7 @@ class TextReader {
     if (parts[1].includes("M") && !withM) throw new Wrong(`M stands in '${parts[1]}' and has no index: ${FORMS.stack}`);
     const form = withM ? "h INDEX l INDEX m INDEX at NUMBER nm|um" : "h INDEX l INDEX at NUMBER nm|um";
     const given = match(tokens, form, this.materials, FORMS.stack);
-    this.add({ kind: "stack", text: parts[1], H: given[0], L: given[1], M: withM ? given[2] : "", design: given.at(-1) });
+    this.add({ kind: "stack", text: plainStack(parts[1]), H: given[0], L: given[1], M: withM ? given[2] : "", design: given.at(-1) });
   }
 
   // Comments are kept with the beam, window or surface that follows; those that `show` writes by itself are not.
@@ -206,10 +222,11 @@ function decoded(bytes) {
 
 // A text is UTF-8 with hardly a control byte; a sheet begins with OPEN's byte 0x10 and is full of them.
 export function isText(bytes) {
+  if (bytes[0] === 0x10) return false;
   if (isUtf16(bytes)) return true;
   const controls = bytes.reduce((sum, byte) => sum + (byte < 32 && byte !== 9 && byte !== 10 && byte !== 13 ? 1 : 0), 0);
   if (decoded(withoutMark(bytes)) === null) return controls === 0;
-  return bytes[0] !== 0x10 && 8 * controls <= bytes.length;
+  return 8 * controls <= bytes.length;
 }
 
 // The lines of a text, ended by a line feed, a carriage return or both.
@@ -220,7 +237,8 @@ function linesOf(bytes) {
   const lines = whole.split(/\r\n|\n|\r/);
   lines.forEach((content, i) => {
     const control = /[\0-\x08\x0b-\x1f\x7f]/.exec(content);
-    if (control) throw new Wrong(`line ${i + 1}: the control byte 0x${control[0].charCodeAt(0).toString(16).toUpperCase().padStart(2, "0")} stands in the text: take it out`);
+    const digits = control && control[0].charCodeAt(0).toString(16).toUpperCase().padStart(2, "0");
+    if (control) throw new Wrong(`line ${i + 1}: the control byte 0x${digits} stands in the text: take it out`);
   });
   return lines;
 }
@@ -270,12 +288,12 @@ function withUnit(cell, units) {
 const lengthText = (cell) => withUnit(cell, ["nm", "um"]);
 const angleText = (cell) => withUnit(cell, ["deg", "rad"]);
 const wordText = (cell) => plain(cell.trim());
-const indexText = (cell) => (/^[+-]?[.,]?[0-9]/.test(cell.trim()) ? wordText(cell) : cell.trim().replace(/\s+/g, "-"));
+const indexText = (cell) => (BEGINS_NUMBER.test(cell.trim()) ? wordText(cell) : cell.trim().replace(/\s+/g, "-"));
 
 function layerText(one) {
   if (one.kind === "stack") {
     const letters = ["H", "L", "M"].filter((letter) => one[letter].trim()).map((letter) => `${letter} ${indexText(one[letter])}`);
-    return `stack ${one.text.trim()} with ${letters.join(" ")} at ${lengthText(one.design)}`;
+    return `stack ${plainStack(one.text.trim())} with ${letters.join(" ")} at ${lengthText(one.design)}`;
   }
   if (one.kind === "quarter") return `layer ${indexText(one.index)} quarter-waves ${wordText(one.count)} at ${lengthText(one.design)}`;
   if (one.kind === "glass") {
@@ -304,11 +322,18 @@ function rowLines(row) {
   return [...lines, ...faceLines("front", row.front), ...faceLines("back", row.back)];
 }
 
+function materialLinesOf(one) {
+  const begin = `material ${one.name.trim()}`;
+  const k = one.k.trim() ? ` k ${wordText(one.k)}` : "";
+  if (one.kind !== "table") return [`${begin} a ${wordText(one.a)} b ${wordText(one.b)} c ${wordText(one.c)}${k}`];
+  return tableWords(one.lines).map((words) => `${begin} at ${lengthText(words.slice(0, -2).join(" "))} n ${wordText(words.at(-2))} k ${wordText(words.at(-1))}`);
+}
+
 // The text of a table whose cells can all be read.
 export function writeText(model) {
   const { beam } = model;
   const lines = model.edition ? [`edition ${model.edition}`] : [];
-  lines.push(...model.materials.map((one) => `material ${one.name.trim()} a ${wordText(one.a)} b ${wordText(one.b)} c ${wordText(one.c)}`));
+  lines.push(...model.materials.flatMap(materialLinesOf));
   if (beam.note.trim()) lines.push(`# ${beam.note.trim()}`);
   lines.push(`beam ${lengthText(beam.wavelength)} s ${wordText(beam.s)} p ${wordText(beam.p)}`);
   lines.push(...model.rows.flatMap((row) => ["", ...rowLines(row)]));

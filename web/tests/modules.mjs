@@ -16,6 +16,7 @@ import { ROOT, file, start } from "./start.mjs";
 await start();
 const encoded = (text) => new TextEncoder().encode(text);
 const read = (text) => readText(encoded(text));
+const same = (found, expected, name) => assert.ok(found === expected, `${name}: another sheet`); // a whole sheet is too long to be shown
 const sheetHex = (model) => hexWords(resultsOf(model).bytes).join(" ");
 const BEAM = "beam 1064 nm s 0.5 p 0.5\n";
 
@@ -58,7 +59,27 @@ test("input as people write it", () => {
     assert.equal(sheetHex(read(writeText(model))), sheetHex(read(plainText)), cell);
   }
   assert.equal(quantity("0x3FF8000000000000 rad", ["deg", "rad"]).value, 1.5);
+  assert.throws(() => number("1,064"), /may be 1\.064 or 1064/);
+  assert.equal(number("\u22120,5"), -0.5);
   for (const bad of ["", "1.2.3", "nan", "1e", "0x12", "eight", "8 9"]) assert.throws(() => quantity(bad, ["deg", "rad"]), Wrong, bad);
+});
+
+test("materials with a k, by coefficients and by a table", () => {
+  const head = "material gold at 632.8 nm n 0.2 k 3.2\nmaterial gold at 1064 nm n 0.26 k 6.97\nmaterial dark a 1.5 b 0 c 0 k 0.5\n";
+  const film = (name, nm) => resultsOf(read(`${head}beam ${nm} nm s 0.5 p 0.5\nsurface custom reflected from 1 to 1.5 at 0 deg\nlayer ${name} thickness 20 nm\n`));
+  assert.deepEqual(film("gold", 1064).sheet.surfaces[0].layers, [{ n: 0.26, k: 6.97, d: 20 }]);
+  const { n, k } = film("gold", 848.4).sheet.surfaces[0].layers[0];
+  assert.ok(Math.abs(n - 0.23) < 1e-12 && Math.abs(k - 5.085) < 1e-12);
+  assert.match(film("gold", 500).problems[0].sentence, /gold is known from 632\.8 to 1064 nm by its lines; the wavelength is 500 nm: add a line/);
+  assert.deepEqual(film("dark", 600).sheet.surfaces[0].layers, [{ n: 1.5, k: 0.5, d: 20 }]);
+  const said = (text) => resultsOf(read(head + BEAM + text)).problems.map((one) => `${one.path} ${one.sentence}`).join();
+  assert.match(said("window gold at 0 deg\n"), /^rows\.0\.glass gold has k 6\.97 at 1064 nm, and a surface lies between indices without k/);
+  assert.match(said("surface custom reflected from 1 to 1.5 at 0 deg\nlayer gold thickness 20 nm k 1\n"), /layers\.0\.k a layer of a material has the k of its material/);
+  for (const lines of ["", "1064 nm 0.26", "1064 0.26 6.97\n1064 nm 1 1", "x 1 1"]) {
+    const model = read(head + BEAM);
+    put(model, "materials.0.lines", lines);
+    assert.equal(resultsOf(model).problems[0].path, "materials.0.lines", lines);
+  }
 });
 
 test("numbers are written as Python writes them", () => {
@@ -129,10 +150,10 @@ test("every sheet of examples/ goes to the table and back, bit for bit, or is re
     }
     const words = hexWords(bytes).join(" ");
     const model = readFile(bytes);
-    assert.deepEqual(toBytes(fromBytes(bytes)), bytes, name);
-    assert.equal(sheetHex(model), words, name);
-    assert.equal(sheetHex(read(writeText(model))), words, name);
-    assert.equal(sheetHex(readFile(encoded(words))), words, name);
+    same(hexWords(toBytes(fromBytes(bytes))).join(" "), words, name);
+    same(sheetHex(model), words, name);
+    same(sheetHex(read(writeText(model))), words, name);
+    same(sheetHex(readFile(encoded(words))), words, name);
     const found = resultsOf(model);
     if (refused) assert.ok(found.problems[0].sentence.startsWith(`refused ${refused}: `), name);
     else assert.ok(found.total, name);
@@ -210,6 +231,9 @@ test("hints", () => {
   const said = (text) => resultsOf(read(text)).hints.join("\n");
   assert.match(said(BEAM + "surface mirror reflected from 1 to 1.52 at 45 deg\n"), /preset mirror, designed for 550 nm; the light has 1064 nm/);
   assert.match(said("beam 550 nm s 1 p 1\n"), /add up to 2/);
+  assert.match(said(BEAM + "window 2 at 0 deg\n"), /surface 2 is the second face of a plate: .* would add 1\.3 % to s and 1\.3 % to p/); // R 1/9: 1/81 over 80/81
+  assert.match(said(BEAM + "surface custom reflected from 1 to 1.5 at 0 deg\nstack (HL)7 H with H 2.3 L 1.46 at 1064 nm\n"), /to repeat the bracket write \(HL\)\^7/);
+  assert.match(said(BEAM + "surface bare transmitted from 1 to 1.5 at 45 rad\n"), /more than a right angle; where degrees are meant write deg/);
   assert.match(said(BEAM + "surface bare transmitted from 1 to 1.5 at 30 deg\nsurface bare transmitted from 1.5 to 1 at 30 deg\n"), /in a plate with parallel faces it is at 19\.47 deg/);
   assert.equal(said(new TextDecoder().decode(file("docs/guide/back.txt"))), "");
   assert.equal(absorptance(file("examples/example.sheet"), 0), null);

@@ -1,8 +1,9 @@
 """Texts with the sheets that the Python package makes of them, for the page's modules to be held to: parity.py make | node parity.mjs | parity.py hold
 
-`make` prints a line of JSON for each text of examples/, of the guide and of so many random plans. parity.mjs compares the page's sheets and answers
+`make` prints a line of JSON for each text of examples/, of the guide and of random plans, up to COUNT that give a sheet. parity.mjs compares the page's sheets and answers
 with these and prints the texts that the page writes itself; `hold` reads those with Python and compares again.
 """
+import itertools
 import json
 import pathlib
 import random
@@ -17,7 +18,7 @@ from dihkelu.words import Wrong  # noqa: E402
 COUNT = 2000
 GLASSES = [*glasses.TABLE, *glasses.OTHER_NAMES]
 COATINGS = ["bare", "ideal-ar", "mgf2", "broadband-ar", "mirror", "ideal-beamsplitter", "ideal-mirror"]
-STACKS = ["(HL)^4", "(HL)^7 H", "H L 2H", "(H(LM)^2)^2", "H", "(HL)^8", "(HL)^9", "2M 0.5H", "((H)"]
+STACKS = ["(HL)^4", "(HL)^7 H", "(HL)⁷ H", "H L 2H", "(H(LM)^2)²", "H", "(HL)^8", "(HL)^9", "2M 0.5H", "((H)", "H^32"]
 
 
 class Writer:
@@ -34,22 +35,24 @@ class Writer:
     def number(self, low, high):
         """A number as people and programs write it."""
         x = self.rng.uniform(low, high)
-        return self.one(f"{x:.1f}", f"{x:.4g}", repr(x), f"{x:.3e}", f"{round(x)}", f"0{x:.2f}", f"{x:.17g}")
+        plain = self.one(f"{x:.1f}", f"{x:.4g}", repr(x), f"{x:.3e}", f"{round(x)}", f"0{abs(x):.2f}", f"{x:.17g}")
+        return plain.replace(".", ",").replace("-", self.one("-", "\u2212")) if self.rng.random() < 0.1 and "e" not in plain else plain
 
     def length(self, low, high):
         if self.rng.random() < 0.15:
-            return f"{self.number(low / 1000, high / 1000)} {self.one('um', 'UM')}"
-        return f"{self.number(low, high)} nm"
+            return f"{self.number(low / 1000, high / 1000)}{self.one(' um', ' UM', 'um', ' µm', 'μm')}"
+        return f"{self.number(low, high)}{self.one(' nm', ' nm', 'nm', ' NM')}"
 
     def angle(self, most=50):
-        return self.one(f"{self.number(0, most)} deg", f"{self.number(-most / 60, most / 60)} rad", "0 deg", "0 rad", "45 Deg")
+        degrees = f"{self.number(0, most)}{self.one(' deg', 'deg', '°', ' °', ' degrees')}"
+        return self.one(degrees, f"{self.number(-most / 60, most / 60)}{self.one(' rad', 'rad')}", "0 deg", "0 rad", "45 Deg")
 
     def index(self):
         if self.materials and self.rng.random() < 0.3:
             return self.one(*self.materials)
         if self.rng.random() < 0.5:
             name = self.one(*GLASSES)
-            return self.one(name, name.upper())
+            return self.one(name, name.upper(), name.replace("-", ""), name.replace("bk7", "BK-7"), name.replace("-", "_"))
         return self.number(1.3, 2.4)
 
     def layer(self):
@@ -91,13 +94,20 @@ class Writer:
             self.lines.append(f"edition {self.one(1, 2, 2)}")
         for count in range(self.rng.choice([0, 0, 1, 2])):
             self.materials.append(f"film-{count}")
-            self.lines.append(f"material film-{count} a {self.number(1.3, 2.2)} b {self.number(0, 0.03)} c {self.number(0, 0.0001)}")
+            self.lines += self.material(f"film-{count}")
         self.lines.append(f"beam {self.length(450, 1200)} s {self.number(0, 1)} p {self.number(0, 1)}  # a comment")
         for _ in range(self.rng.choice([0, 1, 1, 2, 3, 4])):
             self.row()
         if self.rng.random() < 0.08:
             self.damage()
         return self.one("\n", "\n", "\r\n").join(self.lines) + "\n"
+
+    def material(self, name):
+        if self.rng.random() < 0.3:
+            points = self.rng.sample([300, 400, 532, 632.8, 1064, 1200, 1500], self.rng.choice([1, 3, 5]))
+            return [f"material {name} at {nm} nm n {self.number(1.3, 2.4)} k {self.one('0', '0', self.number(0, 0.01))}" for nm in points]
+        k = self.one("", "", "", " k 0", f" k {self.number(0, 0.01)}")
+        return [f"material {name} a {self.number(1.3, 2.2)} b {self.number(0, 0.03)} c {self.number(0, 0.0001)}{k}"]
 
     def damage(self):
         """A word is dropped, doubled or changed."""
@@ -123,10 +133,14 @@ def sheet_of(content):
 def make():
     files = sorted([*ROOT.glob("examples/*.txt"), *ROOT.glob("docs/guide/*.txt")])
     texts = [(str(path.relative_to(ROOT)), path.read_text("utf-8")) for path in files]
-    texts += [(f"plan {seed}", Writer(seed).text()) for seed in range(COUNT)]
-    for name, content in texts:
+    plans = ((f"plan {seed}", Writer(seed).text()) for seed in itertools.count())
+    sheets = 0
+    for name, content in itertools.chain(texts, plans):
         sheet, powers = sheet_of(content)
         print(json.dumps({"name": name, "text": content, "sheet": sheet, "powers": powers}))
+        sheets += sheet is not None
+        if sheets == len(texts) + COUNT:
+            break
     back = text.read((ROOT / "docs/guide/back.txt").read_text())
     for over, points in [
         ("angle", reports.sweep_angle(back, [x / 2 for x in range(140)])),

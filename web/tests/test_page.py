@@ -93,7 +93,7 @@ class Page(unittest.TestCase):
 
     def test_from_nothing_to_a_sheet(self):
         self.assertIn("No surface yet", self.b.text("#train-part"))
-        self.cell("beam.wavelength", "1,064 µm")
+        self.cell("beam.wavelength", "1.064 µm")
         self.b.click("#materials-part summary")
         self.b.click("[data-action=add-material]")
         for name, value in [("name", "film"), ("a", "1.4485"), ("b", "0,0033"), ("c", "0")]:
@@ -321,6 +321,10 @@ class Page(unittest.TestCase):
         self.b.send("POST", "/goog/cdp/execute", {"cmd": "Emulation.setDeviceMetricsOverride", "params": size})
         try:
             self.assertLessEqual(self.b.run("return document.documentElement.scrollWidth"), 380)
+            for width in (700, 1100, 1180):
+                self.b.send("POST", "/goog/cdp/execute", {"cmd": "Emulation.setDeviceMetricsOverride", "params": {**size, "width": width}})
+                self.assertEqual(self.b.run("const box = document.querySelector('#train'); return box.scrollWidth - box.clientWidth"), 0, width)
+                self.assertLess(self.b.run("return document.querySelector('[data-action=copy]').getBoundingClientRect().height"), 40)
             self.cell("rows.0.angle", "30")
             self.assertIn("% lost", self.b.text("#total"))
         finally:
