@@ -49,7 +49,7 @@
  *
  * Link with libdihkelu.a and nothing else: the proved library calls no function of the C library. It is
  * for x86-64; the one that is built from C (c/) is for machines of 32 or 64 bits, and may call memcpy and, where the machine
- * is neither x86 nor aarch64, fegetenv and fesetenv (-lm).
+ * is neither x86 nor aarch64, fegetenv and fesetenv (-lm); what dihkelu_sheet.h adds to it calls snprintf too.
  *
  * WHAT THE CALLER OWES, since no callee can check it:
  *   - A sheet, a text, a list of layers, a Jones matrix, angles, wavelengths, a band's weights and a list or an output that is

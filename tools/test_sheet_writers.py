@@ -1,5 +1,5 @@
 #!/usr/bin/env python3
-"""Holds the sheet writers of C, Fortran and Rust to the Python package: tools/test_sheets.py PROGRAM.. [--data PROGRAM..]
+"""Holds the sheet writers of C, Fortran and Rust to the Python package: tools/test_sheet_writers.py PROGRAM.. [--data PROGRAM..]
 
 A program is tests/sheets.c or its like: it reads commands and prints each sheet. Sheets of the package's own bytes; blocks in any order,
 refused with the number and place that the gate has for the same bytes; bytes that are too few; and the words of each refusal. A program after
@@ -137,11 +137,11 @@ def held(program, cases, numbers):
     done = subprocess.run(program.split(), input=text, capture_output=True, text=True)
     lines = done.stdout.split("\n")[:-1]
     if done.returncode or len(lines) != len(wanted):
-        sys.exit(f"tools/test_sheets.py: {program} ended with {done.returncode} after {len(lines)} of {len(wanted)} sheets: {done.stderr[-500:]}")
+        sys.exit(f"tools/test_sheet_writers.py: {program} ended with {done.returncode} after {len(lines)} of {len(wanted)} sheets: {done.stderr[-500:]}")
     for i, (line, (returned, whole)) in enumerate(zip(lines, wanted)):
         right = f"{returned:016X} {words_of(returned)} {whole.hex().upper()}".rstrip()
         if line.rstrip() != right:
-            sys.exit(f"tools/test_sheets.py: {program}: sheet {i}: {line[:200]}\n  expected {right[:200]}")
+            sys.exit(f"tools/test_sheet_writers.py: {program}: sheet {i}: {line[:200]}\n  expected {right[:200]}")
     refused = sum(returned >> 32 != 0 for *_, (returned, _) in cases)
     print(f"{program}: {len(cases)} sheets, {refused} of them refused, and {len(said)} refusals in words, as the Python package and the gate have them")
 
@@ -158,5 +158,5 @@ def main():
 
 
 if len(sys.argv) < 2:
-    sys.exit("usage: tools/test_sheets.py PROGRAM.. [--data PROGRAM..]")
+    sys.exit("usage: tools/test_sheet_writers.py PROGRAM.. [--data PROGRAM..]")
 main()
