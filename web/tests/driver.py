@@ -10,6 +10,7 @@ import urllib.error
 import urllib.request
 
 ELEMENT = "element-6066-11e4-a52e-4f735466cecf"
+PATIENCE = 120  # seconds, for machines with much else to do
 
 
 def missing():
@@ -32,9 +33,10 @@ class Browser:
         options = {"args": flags, "prefs": {"download.default_directory": str(folder), "download.prompt_for_download": False}}
         wanted = {"capabilities": {"alwaysMatch": {"browserName": "chrome", "goog:chromeOptions": options, "goog:loggingPrefs": {"browser": "ALL"}}}}
         self.session = "/" + self._first(wanted)["sessionId"]
+        self.send("POST", "/timeouts", {"script": 1000 * PATIENCE})
 
     def _first(self, wanted):
-        for _ in range(100):
+        for _ in range(10 * PATIENCE):
             try:
                 return self.send("POST", "", wanted)
             except (urllib.error.URLError, ConnectionError):
@@ -45,7 +47,7 @@ class Browser:
         data = None if body is None else json.dumps(body).encode()
         request = urllib.request.Request(f"http://127.0.0.1:{self.port}/session{self.session}{path}", data, {"Content-Type": "application/json"}, method=method)
         try:
-            with urllib.request.urlopen(request, timeout=60) as answer:
+            with urllib.request.urlopen(request, timeout=PATIENCE) as answer:
                 return json.load(answer)["value"]
         except urllib.error.HTTPError as error:
             raise RuntimeError(f"{method} {path}: {json.load(error)['value']['message'][:500]}") from None
@@ -78,7 +80,7 @@ class Browser:
     def text(self, selector):
         return self.run("return document.querySelector(arguments[0]).innerText", selector)
 
-    def until(self, script, seconds=10):
+    def until(self, script, seconds=PATIENCE):
         """What a script gives as soon as that is true."""
         end = time.time() + seconds
         while time.time() < end:

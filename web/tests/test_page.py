@@ -73,7 +73,7 @@ class Page(unittest.TestCase):
     def saved(self, name):
         """The bytes of a file that the page has saved, which is taken away."""
         path = self.folder / name
-        for _ in range(200):
+        for _ in range(2000):
             if path.exists() and not list(self.folder.glob("*.crdownload")):
                 data = path.read_bytes()
                 path.unlink()
@@ -247,8 +247,8 @@ class Page(unittest.TestCase):
     def test_random_use(self):
         """Whatever is typed, chosen and pressed, nothing fails, and every total is a number or a refusal."""
         self.example()
-        wrong = self.b.run(RANDOM_USE, 1, 150)
-        self.assertEqual(wrong, [])
+        for seed in range(10):
+            self.assertEqual(self.b.run(RANDOM_USE, seed, 12), [])
 
     def test_last_work_is_kept(self):
         self.example()
@@ -392,7 +392,7 @@ class Page(unittest.TestCase):
         taken = self.b.run("""const cell = document.querySelector("[data-path='beam.s']"); const began = performance.now();
             for (let i = 0; i < 5; i++) { cell.value = String(0.1 * (i + 1)); cell.dispatchEvent(new Event('input', {bubbles: true})); }
             return (performance.now() - began) / 5""")
-        self.assertLess(taken, 400)  # slow machines, and others at work beside the test
+        self.assertLess(taken, 1000)  # slow machines, and others at work beside the test
         print(f"-- a change of the longest sheet is shown in {taken:.0f} ms")
 
 
