@@ -1,4 +1,4 @@
--- From ranges to the claims.
+-- From ranges to the claims, and a known answer.
 pub mod Polarized
 pub mod Bare
 pub mod Coated
@@ -6,3 +6,4 @@ pub mod Finite
 pub mod Returned
 pub mod Alone
 pub mod InTheGlass
+pub mod Known
