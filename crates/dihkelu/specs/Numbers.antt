@@ -66,7 +66,8 @@ pub record Numbers : Type 0 where
   pub of-answers : (src : List ℕ) → Bytes src → (i : ℕ) (list : List Float) →
       Tells (said surface-answered (surface-answers src i) list) (answered surface-answered (surface-answers src i) list .returned)
   pub of-answers-at : (src : List ℕ) → Bytes src → (i : ℕ) (wavelength : Float) (list : List Float) →
-      Tells (said surface-answered (answers-at src i wavelength) list) (answered surface-answered (answers-at src i wavelength) list .returned)
+      Tells (said surface-answered (answers-at src i wavelength) list)
+      (answered surface-answered (answers-at src i wavelength) list .returned)
   pub of-evaluate : (code : ℕ) (design n-incident n-substrate angle wavelength : Float) (flat list : List Float)
       → Tells (said evaluated (evaluate code design n-incident n-substrate angle wavelength flat) list)
       (answered evaluated (evaluate code design n-incident n-substrate angle wavelength flat) list .returned)

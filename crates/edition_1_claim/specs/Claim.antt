@@ -18,8 +18,8 @@ use Rattle.train_steps.specs.Train.{fresh, start, step, run}
 use Rattle.train_claim.specs.Claim.{acts, told, steps}
 use Rattle.sheet_edition_1.specs.Edition.{translated, to-edition-1}
 
--- ---- 'OPEN's payload is 1, all else is unchanged', over words: every word but OPEN's and those of a kind 6 is the old one's. Nine words of
--- a kind 6 become the seven of a LAYER, so that the words behind it move up: a block's words begin at its place (`places`).
+-- ---- 'OPEN's payload is 1, all else is unchanged', over words: every word but OPEN's and those of a kind 6 is the old one's. Nine words
+-- of a kind 6 become the seven of a LAYER, so that the words behind it move up: a block's words begin at its place (`places`).
 abbrev pub nth-block : Sheet → ℕ → Block
 nth-block x i = getD (blocks x) i (record { word = 0; raw = [] })
 

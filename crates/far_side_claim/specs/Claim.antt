@@ -57,7 +57,8 @@ pub record FarSide : Type 0 where
   -- of the powers that a step, a whole run and a band's line multiply by, at any wavelength
   pub of-train : (w : Float) (y : SheetSurface) → y .payload / 2 ≡ 5 →
       Turned (value (y .n-incident)) (value (y .n-substrate))
-      (λ l. chosen-of (surface-value y .reflected) (map (λ (a : Answers). a .powers) (evaluated w y l))) (films w (y .layers)) (chosen-powers w y)
+      (λ l. chosen-of (surface-value y .reflected) (map (λ (a : Answers). a .powers) (evaluated w y l))) (films w (y .layers))
+      (chosen-powers w y)
   -- of dihkelu_evaluate with code 5
   pub of-call : (design n-incident n-substrate angle wavelength : Float) (flat : List Float) → length flat % 3 ≡ 0 →
       Turned n-incident n-substrate (λ l. evaluate-coating C.Multilayer l n-incident n-substrate angle wavelength) (Call.layers flat)

@@ -129,7 +129,8 @@ pub record RefusalClaim : Type 0 where
   -- of a code, the design wavelength, numbers and layers
   pub c-evaluate : Refuses
       (listed evaluated (λ (x : (ℕ × Float) × (Numbers × List Float)).
-      at (λ n-incident n-substrate angle wavelength. evaluate (x .0 .0) (x .0 .1) n-incident n-substrate angle wavelength (x .1 .1)) (x .1 .0)))
+      at (λ n-incident n-substrate angle wavelength. evaluate (x .0 .0) (x .0 .1) n-incident n-substrate angle wavelength (x .1 .1))
+      (x .1 .0)))
       (1 ∷ 3 ∷ 8 ∷ [])
   pub c-evaluate-list : Refuses
       (listed scanned (λ (x : (ℕ × Numbers) × (List Float × (List Float × List Float))).
@@ -157,11 +158,14 @@ pub record RefusalClaim : Type 0 where
   pub c-jones-intensity : Refuses (listed alone (of 4 (λ given. intensity (vector given)))) (1 ∷ 8 ∷ [])
   pub c-stokes-figures : Refuses (listed figures (of 4 (λ given. stokes given))) (1 ∷ 8 ∷ [])
   pub c-jones-apply : Refuses
-      (listed parts (λ (x : List Float × List Float). of-two 8 4 (λ given other. apply (jones given) (vector other)) (x .0) (x .1))) (1 ∷ 8 ∷ [])
+      (listed parts (λ (x : List Float × List Float). of-two 8 4 (λ given other. apply (jones given) (vector other)) (x .0) (x .1)))
+      (1 ∷ 8 ∷ [])
   pub c-jones-mul : Refuses
-      (listed entries (λ (x : List Float × List Float). of-two 8 8 (λ given other. mul (jones given) (jones other)) (x .0) (x .1))) (1 ∷ 8 ∷ [])
+      (listed entries (λ (x : List Float × List Float). of-two 8 8 (λ given other. mul (jones given) (jones other)) (x .0) (x .1)))
+      (1 ∷ 8 ∷ [])
   pub c-mueller-apply : Refuses
-      (listed parameters (λ (x : List Float × List Float). of-two 16 4 (λ given other. apply-mueller (mueller given) (stokes other)) (x .0) (x .1)))
+      (listed parameters (λ (x : List Float × List Float).
+      of-two 16 4 (λ given other. apply-mueller (mueller given) (stokes other)) (x .0) (x .1)))
       (1 ∷ 8 ∷ [])
   pub c-diattenuator : Refuses (listed entries (of 4 (λ given. diattenuator (vector given .ex) (vector given .ey)))) (1 ∷ 8 ∷ [])
   pub c-linear-polarizer : Refuses (listed entries (always linear-polarizer)) (8 ∷ [])

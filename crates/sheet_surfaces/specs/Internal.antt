@@ -13,4 +13,5 @@ replied reply = record { refusal = record { number = reply .refusal; place = 0 }
 
 unfoldable pub answers-met : List ℕ → ℕ → Float → SurfaceReply
 answers-met src at wavelength =
-    replied (returned (answers wavelength (surface-value (surface-at src at [])) (films wavelength (layers-at src (next-place src at) (layer-run 16 src at)))))
+    let layers = layers-at src (next-place src at) (layer-run 16 src at) in
+    replied (returned (answers wavelength (surface-value (surface-at src at [])) (films wavelength layers)))

@@ -175,8 +175,8 @@ pub record EveryCall (src : List ℕ) (x : Sheet) : Type 0 where
   pub met : (i : ℕ) → i < length (x .surfaces) →
       worked-out x (steps (suc i)) .«wavelength_nm» ≡ met-at (value (x .wavelength)) (x .surfaces) i
   pub no-surface : (i : ℕ) → length (x .surfaces) ≤ i → surface-answers src i ≡ refusal 7 0
-  -- the answers of a surface after a retune made right before it is stepped, whatever the state: 7 where there is no such surface; else what
-  -- refuses the retune; else those at the wavelength that the step from there holds, all of them finite
+  -- the answers of a surface after a retune made right before it is stepped, whatever the state: 7 where there is no such surface;
+  -- else what refuses the retune; else those at the wavelength that the step from there holds, all of them finite
   pub no-surface-at : (i : ℕ) (w : Float) → length (x .surfaces) ≤ i → answers-at src i w ≡ refusal 7 0
   pub untuned-at : (st : State) (w : Float) → st .done < length (x .surfaces) → (number place : ℕ) →
       retune src st w ≡ refusal number place → answers-at src (st .done) w ≡ refusal number place
