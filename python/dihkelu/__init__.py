@@ -120,6 +120,7 @@ __all__ = [
     "WavelengthRefused",
     "WrongEnvironment",
     "answers",
+    "answers_at",
     "band",
     "bragg_mirror",
     "coating_from_name",
@@ -153,5 +154,6 @@ __all__ = [
     "surface_fresnel_jones",
     "to_mueller",
     "to_stokes",
+    "trim",
     "version",
 ]
