@@ -179,7 +179,7 @@ class Environment(unittest.TestCase):
     def test_which_calls_set_none(self):
         c = (ROOT / "c" / "dihkelu.c").read_text()
         bare = {call.name for call in header.calls(HEADER) if f"static {call.returns} {call.name}_body(" not in c}
-        self.assertEqual(bare, {"dihkelu_version", "dihkelu_coating_from_name", "dihkelu_coating_name", "dihkelu_diattenuator"})
+        self.assertEqual(bare, {"dihkelu_version", "dihkelu_coating_from_name", "dihkelu_coating_name", "dihkelu_trim", "dihkelu_diattenuator"})
 
 
 class Release(unittest.TestCase):
@@ -244,7 +244,7 @@ class Made(unittest.TestCase):
 
     def test_nothing_is_cast_but_whole_numbers(self):
         c = (ROOT / "c" / "dihkelu.c").read_text() + (ROOT / "c" / "train_text.c").read_text()
-        self.assertEqual(set(re.findall(r"\(((?:u?int\d+_t|double|size_t|char|void)(?: \*)?)\)[\w(]", c)) - {"void"}, {"uint8_t", "uint16_t", "uint32_t", "uint64_t", "double"})
+        self.assertEqual(set(re.findall(r"\(((?:u?int\d+_t|double|size_t|char|void)(?: \*)?)\)[\w(]", c)) - {"void"}, {"uint8_t", "uint32_t", "uint64_t", "double"})
 
 
 if __name__ == "__main__":

@@ -218,10 +218,16 @@ staticlib) mkdir -p target/staticlib; cc -c -x c -o $2.o code.c && ar rc target/
 esac
 """
 
+    COPIES = """void *memcpy(void *, const void *, unsigned long);
+void dihkelu_answers(void *to, const void *from, unsigned long n) { memcpy(to, from, n); }
+void dihkelu_answers_at(void *to, const void *from, unsigned long n) { memcpy(to, from, n); }
+"""
+
     def test_undefined(self):
         self.write("bin/rt", self.RT)
         for code, status, said in [
-            ("double dihkelu_half(double x) { return x / 2; }", 0, "1 calls, nothing is undefined"),
+            ("double dihkelu_half(double x) { return x / 2; }", 1, "memcpy or memset is called in target/staticlib/libdihkelu.a from: none"),
+            (self.COPIES, 1, "memcpy or memset is called in target/staticlib/libc_scalars.a from: dihkelu_answers dihkelu_answers_at"),
             ("double other(double); double dihkelu_half(double x) { return other(x); }", 1, "undefined in target/staticlib/libc_scalars.a: other"),
             ("double half(double x) { return x / 2; }", 1, "target/staticlib/libc_scalars.a exports nothing"),
         ]:
@@ -235,7 +241,7 @@ esac
 class Everything(Folder):
     """tools/test with parts that are told what to do: its last line is that of `rt ci` only where all of it passed."""
 
-    PARTS = ["check_claims", "guess_table", "test_claims.py", "test_train", "test_sheet.py", "test_python", "test_tools.py", "test_library", "test_header", "examples", "hostile", "compare", "test_printer.py", "test_release", "cargo"]
+    PARTS = ["check_claims", "check_layers", "guess_table", "test_claims.py", "check_contracts", "test_contracts.py", "wrong_programs", "test_train", "test_sheet.py", "test_python", "test_tools.py", "test_library", "test_header", "examples", "hostile", "compare", "test_printer.py", "test_release", "fuzz", "cargo"]
     RT = """#!/bin/sh
 case $1 in
 ci) echo "some crate proved"; echo "$LAST"; exit "$STATUS" ;;
