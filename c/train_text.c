@@ -184,33 +184,33 @@ static uint64_t train_text_append_letter(slice_mut_u8 page, uint64_t at, bool re
 
 static uint64_t train_text_surface_line(slice_mut_u8 page, uint64_t at, uint64_t number, bool reflected, double s,
         double p) {
-    u8_x1 value = {{32}};
-    u8_x1 value_2 = {{10}};
+    u8_x1 text = {{32}};
+    u8_x1 text_2 = {{10}};
     uint64_t digits = train_text_append_decimal(page, at, number);
     uint64_t letter = train_text_append_letter(page, digits, reflected);
     uint64_t first = train_text_append_bits(page, letter, s);
-    uint64_t space = train_text_append(page, first, (slice_u8){value.at, 1});
+    uint64_t space = train_text_append(page, first, (slice_u8){text.at, 1});
     uint64_t second = train_text_append_bits(page, space, p);
-    return train_text_append(page, second, (slice_u8){value_2.at, 1});
+    return train_text_append(page, second, (slice_u8){text_2.at, 1});
 }
 
 static uint64_t train_text_sum_line(slice_mut_u8 page, uint64_t at, double s, double p) {
-    u8_x4 value = {{115, 117, 109, 32}};
-    u8_x1 value_2 = {{10}};
-    uint64_t word = train_text_append(page, at, (slice_u8){value.at, 4});
+    u8_x4 text = {{115, 117, 109, 32}};
+    u8_x1 text_2 = {{10}};
+    uint64_t word = train_text_append(page, at, (slice_u8){text.at, 4});
     uint64_t sum = train_text_append_bits(page, word, train_steps_sum(s, p));
-    return train_text_append(page, sum, (slice_u8){value_2.at, 1});
+    return train_text_append(page, sum, (slice_u8){text_2.at, 1});
 }
 
 static uint64_t train_text_refused_line(slice_mut_u8 page, uint64_t number, uint64_t place) {
-    u8_x8 value = {{114, 101, 102, 117, 115, 101, 100, 32}};
-    u8_x1 value_2 = {{32}};
-    u8_x1 value_3 = {{10}};
-    uint64_t word = train_text_append(page, 0, (slice_u8){value.at, 8});
+    u8_x8 text = {{114, 101, 102, 117, 115, 101, 100, 32}};
+    u8_x1 text_2 = {{32}};
+    u8_x1 text_3 = {{10}};
+    uint64_t word = train_text_append(page, 0, (slice_u8){text.at, 8});
     uint64_t first = train_text_append_decimal(page, word, number);
-    uint64_t space = train_text_append(page, first, (slice_u8){value_2.at, 1});
+    uint64_t space = train_text_append(page, first, (slice_u8){text_2.at, 1});
     uint64_t second = train_text_append_decimal(page, space, place);
-    return train_text_append(page, second, (slice_u8){value_3.at, 1});
+    return train_text_append(page, second, (slice_u8){text_3.at, 1});
 }
 
 // Whether the i-th surface follows the reflected light.

@@ -57,7 +57,7 @@ class Claims(Copy):
     def test_names(self):
         for old, new, said in [
             ("`gate.specs.Claim` (`WithinLimits`", "`gate.specs.Claim` (`WithinLimit`", "`gate.specs.Claim` has no `WithinLimit`"),
-            ("`sheet.specs.Blocks` (`blocks-from`)", "`sheet.specs.Block` (`blocks-from`)", "no file crates/sheet/specs/Block.antt"),
+            ("`sheet.specs.Sheet` (`WellFormed`", "`sheet.specs.Sheets` (`WellFormed`", "no file crates/sheet/specs/Sheets.antt"),
             ("`AdmittedSheet`'s `falls`", "`AdmittedSheet`'s `taken`", "`AdmittedSheet` has no `taken`"),
             ("`train_steps::step`", "`train_steps::stepp`", "`train_steps::stepp`: no stepp"),
             ("`thin_film::SurfaceCoating::evaluate`", "`thin_film::SurfaceCoat::evaluate`", "`thin_film::SurfaceCoat::evaluate`: no SurfaceCoat"),
@@ -102,6 +102,18 @@ class Claims(Copy):
     def test_a_file_that_is_not_read(self):
         (self.copied("gate") / "specs" / "Other.antt").write_text("-- nothing\n")
         self.assertEqual(self.faults(), ["docs/READING.md: no row has crates/gate/specs/Other.antt"])
+
+    def test_crates(self):
+        self.change("docs/ARCHITECTURE.md", "| `gate` |", "| `sheet` |")
+        self.assertEqual(self.faults(), ["docs/ARCHITECTURE.md: 'The crates' has gate 0 times", "docs/ARCHITECTURE.md: 'The crates' has sheet 2 times"])
+
+    def test_readme(self):
+        path = self.folder / "README.md"
+        lines = len(path.read_text().splitlines())
+        path.write_text(path.read_text() + "\n" * (130 - lines))
+        self.assertEqual(self.faults(), [])
+        path.write_text(path.read_text() + "x" * 201 + "\n")
+        self.assertEqual(self.faults(), ["README.md: 131 lines, and 130 are the most", "README.md:131: 201 characters, and 200 are the most"])
 
 
 class Guesses(Copy):

@@ -22,6 +22,8 @@ class Contracts(unittest.TestCase):
         for crate in (ROOT / "crates").iterdir():
             (self.folder / "crates" / crate.name).symlink_to(crate)
         (self.folder / "crates/dihkelu").unlink()
+        # what hands the changed calls on would say otherwise, too
+        (self.folder / "crates/dihkelu_c").unlink(missing_ok=True)
         shutil.copytree(ROOT / "crates/dihkelu/src", self.folder / "crates/dihkelu/src")
 
     def said(self):
@@ -30,11 +32,11 @@ class Contracts(unittest.TestCase):
         self.assertEqual(done.returncode, 1 if done.stdout else 0)
         return done.stdout.splitlines()
 
-    def change(self, name, change):
-        """The head of an exported call, up to its body, changed."""
-        path = self.folder / SOURCE
+    def change(self, name, change, source=SOURCE):
+        """The head of a call that is handed on to C, up to its body, changed."""
+        path = self.folder / source
         text = path.read_text()
-        head = re.search(rf'^pub extern "C" fn {name}\(.*?^\{{$', text, re.M | re.S)
+        head = re.search(rf'^pub (?:extern "C" )?fn {name}\(.*?^\{{$', text, re.M | re.S)
         self.assertIsNotNone(head, name)
         changed = change(head[0])
         self.assertNotEqual(changed, head[0])
@@ -57,29 +59,49 @@ class Contracts(unittest.TestCase):
         self.refused("dihkelu_schlick_approx", change, "promises nothing")
 
     def test_a_requires(self):
-        self.refused("dihkelu_run", lambda head: head.replace("\n    ensures", "\n    requires { ⌜ 36 ≤ length (now sheet) ⌝ }\n    ensures"), "demands something")
+        self.refused("dihkelu_run", lambda head: head.replace("\n    ensures", "\n    requires { 36 ≤ length sheet.now }\n    ensures"), "demands something")
 
     def test_no_equation(self):
-        self.refused("dihkelu_run", lambda head: re.sub(r"⌜ (.*) ≡ .*? ⌝", r"⌜ Allowed (\1) ⌝", head), "states no equation")
+        self.refused("dihkelu_run", lambda head: re.sub(r"ensures \{ (.*) ≡ .*? \}", r"ensures { Allowed (\1) }", head), "states no equation")
 
     def test_a_hypothesis(self):
-        self.refused("dihkelu_run", lambda head: re.sub(r"⌜ (.*) ⌝", r"⌜ ((n : ℕ) → length (now (sheet .entry)) ≡ n → \1) ⌝", head), "holds only where")
+        self.refused("dihkelu_run", lambda head: re.sub(r"ensures \{ (.*) \}", r"ensures { ((n : ℕ) → length sheet.now ≡ n → \1) }", head), "holds only where")
 
     def test_a_binder_is_no_hypothesis(self):
-        self.change("dihkelu_run", lambda head: re.sub(r"⌜ (.*) ⌝", r"⌜ ((n : ℕ) (f : ℕ → ℕ) → \1) ⌝", head))
+        self.change("dihkelu_run", lambda head: re.sub(r"ensures \{ (.*) \}", r"ensures { ((n : ℕ) (f : ℕ → ℕ) → \1) }", head))
         self.assertEqual(self.said(), [])
 
     def test_the_result_unsaid(self):
-        self.refused("dihkelu_run", lambda head: head.replace("λ r. ⌜ done r ", "λ r. ⌜ done 0 "), "what is returned")
+        self.refused("dihkelu_run", lambda head: head.replace("{ done result ", "{ done 0 "), "what is returned")
 
     def test_lent_memory_unsaid(self):
-        self.refused("dihkelu_run", lambda head: head.replace("(list .exit)", "(list .entry)"), "lent memory")
+        self.refused("dihkelu_run", lambda head: head.replace("list.new", "list.old"), "lent memory")
+
+    def test_a_named_clause_and_a_starred_one(self):
+        self.change("dihkelu_run", lambda head: head.replace("ensures {", "ensures written {"))
+        self.assertEqual(self.said(), [])
+        self.change("dihkelu_run", lambda head: head.replace("ensures written {", "requires* { sheet.now ≡ sheet.now }\n    ensures written {"))
+        self.assertEqual([line.split(": ")[-2] for line in self.said()], ["it demands something of its caller"])
+
+    def test_what_is_handed_on(self):
+        """Every export of a crate for C says what the library's function says, and none is left out."""
+        source = "crates/dihkelu_c/src/lib.rt"
+        text = re.sub(r"^pub (?:extern \"C\" )?fn (dihkelu_\w+)", r'pub extern "C" fn \1', (self.folder / SOURCE).read_text(), flags=re.M)
+        (self.folder / source).parent.mkdir(parents=True)
+        (self.folder / source).write_text(text)
+        self.assertEqual(self.said(), [])
+        self.change("dihkelu_run", lambda head: head.replace("sheet.now list.old", "sheet.now list.new"), source)
+        said = self.said()
+        self.assertEqual(len(said), 1, said)
+        self.assertRegex(said[0], rf"^{source}:\d+: dihkelu_run: it does not say what dihkelu::dihkelu_run says")
+        (self.folder / source).write_text(text.replace("fn dihkelu_run(", "fn own_run("))
+        self.assertTrue(any(re.search(r"dihkelu_run: dihkelu_c does not export it$", line) for line in self.said()))
 
     def test_no_exception_of_an_export(self):
         """A row of EXCEPTIONS with an exported call's name excuses nothing."""
         tool = self.folder / "check_contracts"
         tool.write_text(TOOL.read_text().replace("EXCEPTIONS = {\n", 'EXCEPTIONS = {\n    "dihkelu::dihkelu_run": ("memory", "none"),\n'))
-        self.change("dihkelu_run", lambda head: head.replace("(list .exit)", "(list .entry)"))
+        self.change("dihkelu_run", lambda head: head.replace("list.new", "list.old"))
         done = subprocess.run([sys.executable, str(tool), str(self.folder)], capture_output=True, text=True, check=False)
         self.assertEqual(done.returncode, 1)
         self.assertIn("dihkelu_run: its `ensures` does not say what is left in lent memory", done.stdout)

@@ -1,15 +1,17 @@
 #!/usr/bin/env python3
 """Tests of tools/c_printer: what it must not move, what it must refuse, and what the files that it makes say."""
 
+import json
 import re
 import sys
+import tempfile
 import unittest
 from pathlib import Path
 
 ROOT = Path(__file__).resolve().parent.parent
 sys.path.insert(0, str(ROOT / "tools"))
 sys.dont_write_bytecode = True
-from c_printer import emit, environment, files, header, program, source  # noqa: E402
+from c_printer import emit, environment, files, header, program, rlib, source  # noqa: E402
 
 HEADER = (ROOT / "include" / "dihkelu.h").read_text()
 U64, F64, LENT = "(tyInt 64)", "(tyFloat 64)", "(tyRef (named 0) mut (tyFloat 64))"
@@ -150,6 +152,71 @@ class Refused(unittest.TestCase):
     def test_an_unknown_type_in_the_header(self):
         with self.assertRaises(ValueError):
             header.calls("DIHKELU_MUST_USE uint64_t dihkelu_new(float x);")
+
+
+def at(n, *steps):
+    return {"local": n, "steps": list(steps)}
+
+
+class Kept(unittest.TestCase):
+    """Code as the toolchain keeps it of a library (mir.json)."""
+
+    U64, BYTE = {"Int": 64}, {"Int": 8}
+
+    def code(self, types, params, *body, **more):
+        generics = {"types": [], "outlives": [], "bounds": [], "method_of": None, "trait_lifetimes": 0, "impls": []}
+        return {"lifetimes": 0, "params": params, "generics": {**generics, **more}, "types": [], "locals": [{"ty": t, "home": "ValueLocal"} for t in types], "body": list(body)}
+
+    def printed(self, *functions):
+        with tempfile.NamedTemporaryFile("w", suffix=".json") as file:
+            json.dump(functions, file)
+            file.flush()
+            found, named = program.program(rlib.program_text([file.name], "std"))
+        return "\n".join(emit.Printer(f, emit.Types(named, {}), None, False, set()).printed() for f in found.values())
+
+    def op2(self, op, a, b):
+        return {"Op2": [op, {"Copy": at(a)}, {"Copy": at(b)}]}
+
+    def test_a_loop(self):
+        body = ["Seq", "Block", "Loop", "Seq", {"Assign": [at(2), self.op2({"Lt": "Unsigned"}, 1, 1)]}, "Seq", {"If": {"Copy": at(2)}}, "Skip", {"Exit": 1},
+                {"Assign": [at(1), {"Op2": [{"Sub": "Unsigned"}, {"Copy": at(1)}, {"Int": {"width": 64, "value": 1}}]}]},
+                "Seq", {"Assign": [at(0), {"Opd": {"Copy": at(1)}}]}, "Return"]  # fmt: skip
+        c = self.printed(["std::f", self.code([self.U64, self.U64, "Bool"], 1, *body)])
+        self.assertIn("    while (a < a) {\n        a = a - 1;\n    }\n    return a;", c)
+
+    def test_lent_bytes(self):
+        array = {"Array": [self.BYTE, {"Lit": 2}]}
+        for given, said in [({"Ints": {"width": 8, "values": [65, 66]}}, "{{65, 66}}"), ({"Repeat": [{"Int": {"width": 8, "value": 7}}, 2]}, "{{7, 7}}")]:
+            body = ["Seq", {"LendStatic": [at(2), array, given]}, "Seq", {"Assign": [at(0), {"Opd": {"Copy": at(2, {"Deref": array})}}]}, "Return"]
+            c = self.printed(["std::f", self.code([array, self.U64, {"Ref": ["Erased", "Imm", array]}], 1, *body)])
+            self.assertIn(f"    u8_x2 text = {said};\n    return text;", c)
+
+    def test_what_wraps(self):
+        calls = ["Seq", {"Call": [{"Fn": ["core::num::wrapping_add_u64", {"types": [], "dicts": []}]}, [{"Copy": at(1)}, {"Copy": at(1)}], at(0)]}, "Return"]
+        caller = ["std::f", self.code([self.U64, self.U64], 1, *calls)]
+        wraps = ["Seq", {"Assign": [at(0), self.op2("WrapAdd", 1, 2)]}, "Return"]
+        c = self.printed(caller, ["core::num::wrapping_add_u64", self.code([self.U64] * 3, 2, *wraps)])
+        self.assertIn("return std_num_wrapping_add_u64(a, a);", c)
+        self.assertIn("    if (a <= 0xffffffffffffffffu - b) {\n        return a + b;\n    }\n    return a - (0xffffffffffffffffu - b) - 1;", c)
+        for other in (self.op2("WrapSub", 1, 2), self.op2("WrapAdd", 2, 1), self.op2({"Add": "Unsigned"}, 1, 2)):
+            with self.assertRaises(program.Unknown):
+                self.printed(caller, ["core::num::wrapping_add_u64", self.code([self.U64] * 3, 2, "Seq", {"Assign": [at(0), other]}, "Return")])
+
+    def refused(self, *body, types=(U64, U64, U64), **more):
+        with self.assertRaises((program.Unknown, KeyError)):
+            self.printed(["std::f", self.code(list(types), 1, *body, **more)])
+
+    def test_unknown(self):
+        self.refused("Seq", {"Assign": [at(0), self.op2("WrapAdd", 1, 1)]}, "Return")
+        self.refused("Seq", {"Assign": [at(0), self.op2({"Div": "Signed"}, 1, 1)]}, "Return")
+        self.refused("Seq", {"Assign": [at(0), {"Op1": ["BitReverse", {"Copy": at(1)}]}]}, "Return")
+        self.refused({"Goto": 3}, "Return")
+        self.refused("Seq", {"Assign": [at(0), {"Opd": {"Copy": at(1)}}]}, "Return", "Return")
+        self.refused("Seq", {"Call": [{"Fn": ["std::none", {"types": [], "dicts": []}]}, [], at(0)]}, "Return")
+        self.refused("Seq", {"Call": [{"Method": [{"Given": 0}, 1, {"types": [], "dicts": []}]}, [], at(0)]}, "Return")
+        self.refused("Return", types=({"Int": 64}, {"Param": 0}))
+        self.refused("Return", types=({"Float": 32}, {"Float": 32}))
+        self.refused("Return", bounds=[{"of": "core::ops::Fn"}])
 
 
 class Environment(unittest.TestCase):

@@ -8,6 +8,7 @@ that exchanges equal values, is none.
 import copy
 import functools
 import hashlib
+import json
 import math
 import re
 import shutil
@@ -315,11 +316,42 @@ class WholeFile(unittest.TestCase):
 
     @unittest.skipUnless(shutil.which("rt"), "LEFT OUT: the toolchain's std::num is not held to std_num.txt, since rt is not there")
     def test_std(self):
-        kit = Path(subprocess.run(["rt", "doc"], capture_output=True, text=True, check=True).stdout.strip()).parent.parent
-        theirs = (kit / "libs/std/src/num.rt").read_text()
-        for mine in rattle.read((ROOT / "tools/read_back_parts/std_num.txt").read_text(), "std_num.txt"):
-            text = re.search(rf"^pub fn {mine[1]}\(.*?^\}}\n", theirs, re.M | re.S)[0]
-            self.assertEqual(rattle.read(text, "num.rt")[0][:-1], mine[:-1])
+        """The toolchain has each function of std_num.txt, one operation that wraps, whose text is that of the integers that are left over."""
+        kit = Path(subprocess.run(["rt", "doc"], capture_output=True, text=True, check=True).stdout.strip()).parent
+        theirs = dict(json.loads((kit / "rlibs/core.rlib/toolchain/mir.json").read_text()))
+        wraps = {"wrapping_add_u64": ("WrapAdd", 1), "wrapping_sub_u64": ("WrapSub", -1)}
+        items = rattle.read((ROOT / "tools/read_back_parts/std_num.txt").read_text(), "std_num.txt")
+        self.assertEqual({mine[1] for mine in items}, set(wraps))
+        for mine in items:
+            op, sign = wraps[mine[1]]
+            at = [{"Copy": {"local": n, "steps": []}} for n in (1, 2)]
+            body = ["Seq", {"Assign": [{"local": 0, "steps": []}, {"Op2": [op, *at]}]}, "Return"]
+            code = theirs[f"core::num::{mine[1]}"]
+            self.assertEqual((code["params"], code["locals"], code["body"]), (2, 3 * [{"ty": {"Int": 64}, "home": "ValueLocal"}], body))
+            ends = [0, 1, 2, 2**63 - 1, 2**63, 2**64 - 2, 2**64 - 1]
+            for a, b in [(a, b) for a in ends for b in ends]:
+                self.assertEqual(run_std(mine[4], {"a": a, "b": b}), (a + sign * b) % 2**64, (mine[1], a, b))
+
+
+def run_std(tree, given):
+    """What a function of std_num.txt returns: its tree with whole numbers, each of which must be a u64."""
+    form = tree[0]
+    if form == "block":
+        assert not tree[1]
+        return run_std(tree[2], given)
+    if form == "if":
+        return run_std(tree[2] if run_std(tree[1], given) else tree[3], given)
+    if form == "path":
+        return {("u64", "MAX"): 2**64 - 1}.get(tuple(tree[1])) or given[tree[1][0]]
+    if form == "int":
+        return tree[1]
+    assert form == "binary", tree
+    a, b = run_std(tree[2], given), run_std(tree[3], given)
+    if tree[1] == "<=":
+        return a <= b
+    found = a + b if tree[1] == "+" else a - b
+    assert tree[1] in "+-" and 0 <= found < 2**64, tree
+    return found
 
 
 C_TYPES = """typedef struct { const double *at; uint64_t count; } slice_f64; typedef struct { double *at; uint64_t count; } slice_mut_f64;
@@ -339,9 +371,34 @@ def same(rust, c):
     return True
 
 
+class Forms(unittest.TestCase):
+    """What stands in a source beside code: it is passed over where it is known to be no part of what runs, and refused else."""
+
+    def test_passed_over(self):
+        text = "// A file.\n#![tactic(auto)]\n"
+        self.assertEqual(rattle.read(text, "x"), [])
+        item = rattle.read(text + "\n#[derive(Clone, Copy)]\npub struct A {\n    pub n: u64,\n}\n", "x")
+        self.assertEqual(item, rattle.read("#[derive(Drop)]\nstruct A { n: u64 }", "x"))
+        self.assertEqual(rattle.read("use a::{B, c};\nuse d::E;\n", "x"), [("use", [["a", "B"], ["a", "c"]]), ("use", [["d", "E"]])])
+        bare = rattle.read("fn f(a: u64) -> u64 { a }", "x")[0][:-1]
+        clauses = "\n    requires low { a ≤ 9 }\n    ensures* { result ≡ a }\n    ensures { (λ r. {r}) }\n"
+        self.assertEqual(rattle.read(f"fn f(a: u64) -> u64{clauses}{{ a }}", "x")[0][:-1], bare)
+
+    def test_who_may_be_called_from_c(self):
+        for text, exported in [("pub fn dihkelu_f() { }", True), ("fn dihkelu_f() { }", False), ("pub(crate) fn dihkelu_f() { }", False), ("pub fn f() { }", False),
+                               ('#[unsafe(no_mangle)] pub extern "C" fn f() { }', True)]:
+            self.assertEqual(rattle.read(text, "x")[0][5], exported, text)
+
+    def test_refused(self):
+        for text in ["#[derive(Debug)] struct A { n: u64 }", "#[derive(Drop)] fn f() { }", "#[no_mangle] fn f() { }", "#[unsafe(naked)] fn f() { }", "#![no_std]",
+                     "#[derive(Drop)] #![tactic(auto)] struct A { n: u64 }", 'pub extern "C" fn f() { }', "#[test] fn f() { }", "trait A { }"]:
+            with self.assertRaises(rattle.Unread, msg=text):
+                rattle.read(text, "x")
+
+
 class Small(unittest.TestCase):
     """Programs of a few lines: what is the same though it is written otherwise, and what is not though it looks so."""
-    HEAD = '#[no_mangle] pub extern "C" fn dihkelu_f'
+    HEAD = 'pub fn dihkelu_f'
 
     PARTS = (
         "(a: &[f64], i: usize) -> f64 { g(&a[i..]) }\nfn g(a: &[f64]) -> f64 { 1.0 }",

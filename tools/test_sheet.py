@@ -1,7 +1,7 @@
 #!/usr/bin/env python3
 """Tests of tools/sheet.py: test_sheet.py [--program COMMAND] [unittest's own words].
 
-The program that the library's powers are held to is tools/run train if target/bin/train is there, else the oracle's train. With the
+The program that the library's powers are held to is tools/run train if crates/train/out/train is there, else the oracle's train. With the
 oracle built, its random sheets are read and written too.
 """
 
@@ -468,7 +468,7 @@ class Programs(unittest.TestCase):
             copy.mkdir()
             for name in ["sheet.py", "test_sheet.py"]:
                 (copy / name).write_bytes((ROOT / "tools" / name).read_bytes())
-            for name, words, said in [("sheet.py", ["losses", "-"], b"the package dihkelu cannot be loaded"), ("test_sheet.py", [], b"not built yet; run: rt check train")]:
+            for name, words, said in [("sheet.py", ["losses", "-"], b"the package dihkelu cannot be loaded"), ("test_sheet.py", [], b"not built yet; run: rt run, in crates/train")]:
                 done = subprocess.run([sys.executable, "-S", str(copy / name), *words], input=KNOWN_SHEET, capture_output=True, check=False)
                 self.assertEqual((done.returncode, said in done.stderr), (1, True), done.stderr)
 
@@ -635,13 +635,13 @@ def main():
     parser.add_argument("--program", help="what gives the powers in the place of the library")
     given, rest = parser.parse_known_args()
     default = None
-    if (ROOT / "target" / "bin" / "train").exists():
+    if (ROOT / "crates" / "train" / "out" / "train").exists():
         default = [str(ROOT / "tools" / "run"), "train"]
     elif ORACLE.exists():
         default = [str(ORACLE), "train"]
     PROGRAM = given.program or (shlex.join(default) if default else None)
     if not PROGRAM:
-        print("test_sheet.py: the program train is not built yet; run: rt check train", file=sys.stderr)
+        print("test_sheet.py: the program train is not built yet; run: rt run, in crates/train", file=sys.stderr)
         return 1
     # nothing stale: what has changed since it was built is proved and built
     if not given.program and default[-2:] == [str(ROOT / "tools" / "run"), "train"]:

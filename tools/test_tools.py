@@ -45,17 +45,18 @@ class WrongPrograms(Folder):
 
     def setUp(self):
         super().setUp()
-        self.write("bin/rt", "#!/bin/sh\necho rt $*\nls crates/*/must-fail/*.edit\n")
-        self.write("crates.txt", "")
+        self.write("bin/rt", "#!/bin/sh\n[ $1 != version ] || exit 0\necho rt $*\nls crates/*/must-fail/*.edit\n[ ! -e crates/gate/out ] || echo what was kept\necho $SAID\n")
+        self.write("crates.txt", "gate:\nsheet: gate\n")
+        self.write("crates/gate/out/kept", "")
         for crate in ["gate", "sheet"]:
             self.write(f"crates/{crate}/must-fail/of_rt_ci.edit", "")
             for number in range(5):
-                self.write(f"crates/{crate}/must-fail/more/wrong_{number}.edit", "")
+                self.write(f"crates/{crate}/further/wrong_{number}.edit", "")
 
     def tried(self, *words):
-        status, out, said = run(self.folder / "tools/wrong_programs", *words, PATH=f"{self.folder}/bin:{os.environ['PATH']}")
+        status, out, said = run(self.folder / "tools/wrong_programs", *words, PATH=f"{self.folder}/bin:{os.environ['PATH']}", SAID="")
         self.assertEqual((status, said), (0, ""))
-        return [line.replace("/more/", "/") for line in out.splitlines()]
+        return [line.replace("/further/", "/must-fail/") for line in out.splitlines() if line]
 
     def test_all(self):
         asked, *edits = self.tried()
@@ -69,6 +70,20 @@ class WrongPrograms(Folder):
         self.assertEqual(self.tried("3", "2026-11-17"), first)
         self.assertTrue(any(self.tried("3", f"2026-11-{day}")[1:4] != first[1:4] for day in range(10, 14)))
 
+    def test_an_edit_that_is_none(self):
+        """rt ci lets pass an edit that cannot be applied, or was not tried: here it fails."""
+        for said in ["must-fail gate/wrong_1.edit: BAD EDIT: an 'old:' text is in src/lib.rt 0 times, and not once", "must-fail gate/wrong_1.edit: NOT TRIED: its check was killed"]:
+            status, out, told = run(self.folder / "tools/wrong_programs", PATH=f"{self.folder}/bin:{os.environ['PATH']}", SAID=said)
+            self.assertEqual((status, said in out, "could not be tried" in told), (1, True, True))
+
+    def test_after_rt_ci(self):
+        """Where rt ci has just proved all and no check has kept its work, what it proved is taken, as long as no file is another."""
+        self.write("crates/gate/src/lib.rt", "")
+        self.assertEqual(run(self.folder / "tools/stamps.py", "--ci-passed", cwd=self.folder, PATH=f"{self.folder}/bin:{os.environ['PATH']}")[0], 0)
+        self.assertEqual(self.tried()[0], "rt ci gate sheet")
+        self.write("crates/gate/src/lib.rt", "// another\n")
+        self.assertEqual(self.tried()[0], "rt must-fail gate sheet")
+
     def test_a_wrong_word(self):
         for words in [("six",), ("0",), ("6", "today"), ("6", "2026-11-17", "x")]:
             status, out, said = run(self.folder / "tools/wrong_programs", *words, PATH=f"{self.folder}/bin:{os.environ['PATH']}")
@@ -78,8 +93,8 @@ class WrongPrograms(Folder):
 
 class Run(Folder):
     def test_nothing_built(self):
-        self.assertEqual(run(self.folder / "tools/run", "train"), (1, "", "tools/run: train is not built yet; run: rt check train\n"))
-        self.assertEqual(run(self.folder / "tools/test_train"), (1, "", "tools/test_train: train is not built yet; run: rt check train\n"))
+        self.assertEqual(run(self.folder / "tools/run", "train"), (1, "", "tools/run: train is not built yet; run: rt run, in crates/train\n"))
+        self.assertEqual(run(self.folder / "tools/test_train"), (1, "", "tools/test_train: train is not built yet; run: rt run, in crates/train\n"))
 
     def test_no_toolchain(self):
         for tool, words in [("run", ["train"]), ("hostile", []), ("examples", []), ("compare", []), ("bench", []), ("library", []), ("test", []), ("test_library", []), ("test_header", []), ("test_release", [])]:
@@ -213,10 +228,15 @@ class Library(Folder):
 
     RT = """#!/bin/sh
 case $1 in
-check) mkdir -p target/stamp; shift; for name; do echo 1 > target/stamp/$name; done ;;
-staticlib) mkdir -p target/staticlib; cc -c -x c -o $2.o code.c && ar rc target/staticlib/lib$2.a $2.o ;;
+lib) name=$(basename "$PWD"); mkdir -p out; cc -c -x c -o out/$name.o ../../code.c && ar rc out/lib$name.a out/$name.o ;;
 esac
 """
+
+    def setUp(self):
+        super().setUp()
+        self.write("crates.txt", "c_scalars_c staticlib:\ndihkelu_c staticlib:\n")
+        for name in ["c_scalars_c", "dihkelu_c"]:
+            self.write(f"crates/{name}/src/lib.rt", "")
 
     COPIES = """void *memcpy(void *, const void *, unsigned long);
 void dihkelu_answers(void *to, const void *from, unsigned long n) { memcpy(to, from, n); }
@@ -244,13 +264,25 @@ class Everything(Folder):
     PARTS = ["check_claims", "check_layers", "guess_table", "test_claims.py", "check_contracts", "test_contracts.py", "wrong_programs", "test_train", "test_sheet.py", "test_python", "test_tools.py", "test_library", "test_header", "examples", "hostile", "compare", "test_printer.py", "test_release", "fuzz", "cargo"]
     RT = """#!/bin/sh
 case $1 in
-ci) echo "some crate proved"; echo "$LAST"; exit "$STATUS" ;;
-check) mkdir -p target/stamp; shift; for name; do echo 1 > target/stamp/$name; done ;;
-staticlib) [ -z "$BROKEN" ] || exit 1; mkdir -p target/staticlib; echo 1 > target/staticlib/lib$2.a ;;
+ci) [ "$#" = 1 ] || exit 1; ls crates/*/out/* 2> /dev/null; echo "some crate proved"; echo "rt: ok; handles allowed: none; must-fail edits: 9 refused$BAD; every proof and must-fail edit was done in this run"; echo "$LAST"; exit "$STATUS" ;;
+lib) [ -z "$BROKEN" ] || exit 1; mkdir -p out; echo 1 > "out/lib$(basename "$PWD").a" ;;
+doc) echo "$KIT/START-HERE.md" ;;
+run) name=$(basename "$PWD"); mkdir -p out; echo 1 > out/$name; chmod +x out/$name; echo "rt: running out/$name; to give it other input, run that file yourself" >&2; exit 3 ;;
 esac
 """
 
-    def everything(self, *words, last="12 passed, 0 failed", status=0, failing=None, command=("tools/test",)):
+    def setUp(self):
+        super().setUp()
+        programs = ["train", "test_replay", "test_replay_films", "test_replay_shorthand", "test_replay_born_wolf", "test_replay_train"]
+        for name in programs:
+            self.write(f"crates/{name}/src/main.rt", "")
+        for name in ["c_scalars_c", "dihkelu_c"]:
+            self.write(f"crates/{name}/src/lib.rt", "")
+        # what builds a static library over the libraries that rt ci has left
+        self.write("kit/bin/rattle", '#!/bin/sh\n[ -z "$BROKEN" ] || exit 1\nfor word; do :; done\necho 1 > "$word"\n')
+        self.write("crates.txt", "".join(f"{name}:\n" for name in programs) + "c_scalars_c staticlib:\ndihkelu_c staticlib:\n")
+
+    def everything(self, *words, last="12 passed, 0 failed", status=0, failing=None, command=("tools/test",), bad=""):
         self.write("bin/rt", self.RT)
         for name in ["rustc", "cc", "valgrind"]:
             self.write(f"bin/{name}", "#!/bin/sh\n")
@@ -259,7 +291,7 @@ esac
         for name in self.PARTS[:-1]:
             ended = int(name == failing)
             self.write(f"tools/{name}", f"import sys\nsys.exit({ended})\n" if name.endswith(".py") else f"#!/bin/sh\nexit {ended}\n")
-        found, out, _ = run(*command, *words, cwd=self.folder, PATH=f"{self.folder}/bin:{os.environ['PATH']}", LAST=last, STATUS=str(status), BROKEN="yes" if failing == "build" else "")
+        found, out, _ = run(*command, *words, cwd=self.folder, PATH=f"{self.folder}/bin:{os.environ['PATH']}", LAST=last, STATUS=str(status), BAD=bad, KIT=str(self.folder / "kit"), BROKEN="yes" if failing == "build" else "")
         return found, out.splitlines()[-1]
 
     def test_all_passed(self):
@@ -279,13 +311,21 @@ esac
             found, said = self.everything(last=last, status=status)
             self.assertEqual((found, said.startswith("tools/test: FAILED: rt ci")), (1, True), said)
 
+    def test_a_bad_edit(self):
+        found, said = self.everything(bad=", 1 bad")
+        self.assertEqual((found, said.startswith("tools/test: FAILED: rt ci has bad must-fail edits")), (1, True), said)
+        self.assertEqual(self.everything(bad=", 2 of them only by a limit"), (0, "12 passed, 0 failed"))
+
     def test_a_part_failed(self):
         for part in self.PARTS:
             found, last = self.everything(failing=part)
             self.assertEqual((found, last.startswith("tools/test: FAILED: ")), (1, True), part)
 
     def test_the_build_failed(self):
-        self.assertEqual(self.everything(failing="build"), (1, "tools/test: failed: rt staticlib c_scalars"))
+        found, said = self.everything(failing="build")
+        self.assertEqual((found, said.startswith(f"tools/test: failed: {self.folder}/kit/bin/rattle build --crate-name c_scalars_c ")), (1, True), said)
+        self.write("crates/dihkelu_c/src/lib.rt", "// another than rt ci proved\n")
+        self.assertEqual(self.everything("--no-ci", failing="build"), (1, "tools/test: failed: rt lib"))
 
     def test_other_words(self):
         self.assertNotEqual(run(self.folder / "tools/test", "--no-cj")[0], 0)

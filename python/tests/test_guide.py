@@ -89,6 +89,11 @@ class Pages(unittest.TestCase):
                 found += 1
         self.assertGreater(found, 5)
 
+    def test_readme(self):
+        """The Python of README.md prints what the block after it has."""
+        code, wanted = re.search(r"```python\n(.*?)```\n\n```\n(.*?)```\n", (ROOT / "README.md").read_text(), re.S).groups()
+        done = subprocess.run([sys.executable, "-c", code], env={**os.environ, "PYTHONPATH": str(PACKAGE)}, capture_output=True, text=True, check=False)
+        self.assertEqual((done.stdout, done.returncode), (wanted, 0), done.stderr)
 
     def test_forms_and_glasses(self):
         """docs/SHEETS.md has every form of a line, and every glass with its range and source."""

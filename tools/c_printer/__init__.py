@@ -1,6 +1,7 @@
 """Prints the checked program as C that people can read: tools/c_source. Nothing here is proved.
 
-program.py  the text of `rt mir` as functions of statements and expressions
+rlib.py     the proved code of a library and of those below it, as rt keeps it, as a text
+program.py  that text as functions of statements and expressions
 source.py   names and first comments from the sources, which that text does not have
 fold.py     steps of one operation each, put together to expressions as they were written
 emit.py     C from these

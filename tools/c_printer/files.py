@@ -187,5 +187,8 @@ def made(root, library, text):
         "fortran/dihkelu.f90": headers.fortran(header),
         "rust/dihkelu-sys/src/raw.rs": headers.rust(header),
         "rust/dihkelu-sys/Cargo.toml": headers.cargo(header),
+        # copies, since rt takes no links
+        **{f"{folder}/dihkelu.{ending}": it for folder in ("python/source", "rust/dihkelu-sys/c") for ending, it in (("c", c), ("h", header))},
+        "rust/dihkelu-sys/src/safe.rs": (pathlib.Path(root) / "include" / "dihkelu.rs").read_text(),
         **licences(root),
     }

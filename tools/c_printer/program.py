@@ -1,4 +1,4 @@
-"""The text of `rt mir NAME` as functions of statements and expressions.
+"""The text of a crate's code, which rlib.py writes, as functions of statements and expressions.
 
 Types are tuples: ('int', width), ('float',), ('bool',), ('unit',), ('named', name), ('array', type, count),
 ('ref', mutable, type), ('slice', mutable, type), ('ptr',).

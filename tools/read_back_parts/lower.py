@@ -64,7 +64,7 @@ class Sources:
         uses = self.uses.setdefault(path, {})
         for item in items:
             if item[0] == "use":
-                uses[item[1][-1]] = item[1]
+                uses.update((path[-1], path) for path in item[1])
             elif item[0] == "mod":
                 if path + (item[1],) not in self.texts:
                     raise Unread(f"the module {item[1]} of {path} has no file")

@@ -125,37 +125,67 @@ class Parser:
         return out
 
     def item(self):
-        exported = False
+        exported = derived = False
         while self.take("#"):
+            if self.take("!"):
+                if exported or derived:
+                    self.fail("an attribute of the file behind one of an item")
+                return self.tactics()
             self.want("[")
-            exported = exported or self.token == "no_mangle"
-            if not exported:
-                self.fail("an attribute that is not known")
-            self.step()
+            if self.take("derive"):
+                self.want("(")
+                derived = True
+                if set(self.listed(")", self.name)) - {"Drop", "Clone", "Copy"}:
+                    self.fail("a derive that writes code")
+            else:
+                self.exporting()
+                exported = True
             self.want("]")
+        if derived and self.token == "ghost":
+            self.fail("a derive of nothing that runs")
         if self.token == "ghost":
             self.skip_to(";")
             return None
-        if self.take("pub") and self.take("("):
+        public = self.take("pub")
+        if public and self.take("("):
             self.name()
             self.want(")")
+            public = False
         if self.take("extern"):
             if self.token != '"C"' or not exported:
                 self.fail("an extern that is no exported function")
             self.step()
         word = self.name()
-        reader = {"fn": lambda: self.function(exported), "struct": self.struct, "enum": self.enum, "const": self.constant,
+        if derived and word not in ("struct", "enum"):
+            self.fail("a derive of what is no type")
+        reader = {"fn": lambda: self.function(exported, public), "struct": self.struct, "enum": self.enum, "const": self.constant,
                   "use": self.use, "mod": self.module, "impl": self.methods}.get(word)
         if reader is None:
             self.fail(f"an item '{word}' that is not known")
         return reader()
 
+    def tactics(self):
+        """`#![tactic(auto)]`, which is for the proof alone."""
+        for sign in ("[", "tactic", "(", "auto", ")", "]"):
+            self.want(sign)
+        return None
+
+    def exporting(self):
+        for sign in ("unsafe", "(", "no_mangle", ")"):
+            if not self.take(sign):
+                self.fail("an attribute that is not known")
+
     def use(self):
+        """The paths that a line brings in."""
         path = [self.name()]
         while self.take("::"):
+            if self.take("{"):
+                paths = [[*path, name] for name in self.listed("}", self.name)]
+                self.want(";")
+                return ("use", paths)
             path.append(self.name())
         self.want(";")
-        return ("use", path)
+        return ("use", [path])
 
     def module(self):
         name = self.name()
@@ -229,7 +259,7 @@ class Parser:
             self.fail("a parameter that is 'mut'")
         return name, self.type()
 
-    def function(self, exported):
+    def function(self, exported, public):
         line = self.text.count("\n", 0, self.begin) + 1
         name = self.name()
         self.lifetimes()
@@ -238,7 +268,7 @@ class Parser:
         result = self.type() if self.take("->") else "unit"
         while self.token in ("requires", "ensures"):
             self.skip_braces()
-        return ("fn", name, parameters, result, self.block(), exported, line)
+        return ("fn", name, parameters, result, self.block(), exported or (public and name.startswith("dihkelu_")), line)
 
     # ---- types
 

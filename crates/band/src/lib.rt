@@ -1,5 +1,7 @@
 // A whole band (document 02, slip 14): a sheet's train at each of 1 to 64 lines from its start, and the
 // weighed means of s and of p.
+#![tactic(auto)]
+
 ghost use Rattle.std.specs.Prelude.{◌≡◌, ◌<◌, true, T, Float, length};
 ghost use Rattle.refusal.specs.Outcome.{answer};
 ghost use Rattle.sheet.specs.Sheet.{Sheet};
@@ -84,7 +86,7 @@ fn at_line(src: &[u8], count: u32, wavelength_nm: f64) -> State
 }
 
 // The means of s and of p over a band, and how many lines it has.
-#[derive(Drop)]
+#[derive(Clone, Copy)]
 pub struct BandPowers {
     pub lines: u32,
     pub s: f64,
@@ -120,7 +122,7 @@ fn weighed(src: &[u8], count: u32, wavelengths: &[f64], weights: &[u32]) -> Band
 // ---- a band
 
 // The powers of a band, or a refusal.
-#[derive(Drop)]
+#[derive(Clone, Copy)]
 pub enum BandReply {
     Powers(BandPowers),
     Refused(Refusal),

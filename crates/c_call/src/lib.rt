@@ -1,5 +1,7 @@
 // What an exported call returns, and what it leaves in the list that it was lent: refusals as one
 // number, and answers by their numbers.
+#![tactic(auto)]
+
 ghost use Rattle.std.specs.Prelude.{◌≡◌, ◌++◌, ◌+◌, ◌%◌, ◌^◌, ◌≤◌, length, take, drop};
 ghost use Rattle.c_call.specs.Call.{done, packed, reply, written};
 ghost use Rattle.c_call.specs.Layout.{response_numbers, jones_numbers, mueller_numbers, rows, head, common, alone, both, entries, two_entries, evaluated, surface_answered};

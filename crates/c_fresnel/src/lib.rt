@@ -1,4 +1,6 @@
 // The Fresnel equations for callers in C: fresnel.rs, and the Jones matrices of a bare surface, in a list that was lent.
+#![tactic(auto)]
+
 ghost use Rattle.std.specs.Prelude.{◌≡◌};
 ghost use Rattle.fresnel.specs.Fresnel.{fresnel_dielectric, fresnel_unpolarized, schlick_approx};
 ghost use Rattle.polarization.specs.Surface.{surface_fresnel_jones};

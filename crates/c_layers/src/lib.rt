@@ -1,5 +1,7 @@
 // SurfaceCoating::evaluate for a coating by its code, whose layers stand in a flat list: n, k, thickness
 // of one after the other.
+#![tactic(auto)]
+
 ghost use Rattle.std.specs.Prelude.{◌≡◌, List, ◌<◌, ◌+◌, ◌*◌, ◌≤◌, ◌/◌, ◌-◌, cond, length, get_or, take, drop};
 ghost use Rattle.thin_film_solver.specs.declared.ThinFilmLayer as Layer;
 ghost use Rattle.thin_film_solver.specs.Internal.{solved};

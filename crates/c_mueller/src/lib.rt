@@ -1,5 +1,7 @@
 // dihkelu_to_mueller and dihkelu_mueller_born_wolf: a Jones matrix from 8 numbers that were lent, its Mueller
 // matrix to a list that was lent.
+#![tactic(auto)]
+
 ghost use Rattle.std.specs.Prelude.{◌≡◌, length};
 ghost use Rattle.polarization_mueller.specs.Mueller.{to_mueller};
 ghost use Rattle.polarization_born_wolf.specs.Conversion.{to_mueller_born_wolf};

@@ -1,5 +1,7 @@
 // Names of coatings for callers in C: the code that a name stands for, the name of a code's coating, and the trimmed part
 // of a name.
+#![tactic(auto)]
+
 ghost use Rattle.std.specs.Prelude.{◌≡◌, ◌++◌, ◌≤◌, length, drop};
 ghost use Rattle.refusal.specs.Outcome.{map};
 ghost use Rattle.name_coating.specs.Name.{from_format_name, format_name};

@@ -1,5 +1,7 @@
 // Jones and Stokes vectors, Jones and Mueller matrices for callers in C: from numbers that were lent to a list that was
 // lent. A list of another length than is needed is refused with 1, an output that is too short with 8.
+#![tactic(auto)]
+
 ghost use Rattle.std.specs.Prelude.{◌≡◌, length};
 ghost use Rattle.polarization_stokes.specs.Jones.{intensity, normalize, to_stokes};
 ghost use Rattle.polarization_mueller.specs.Jones.{linear_polarizer, retarder, quarter_wave_plate, half_wave_plate, diattenuator, apply, mul};

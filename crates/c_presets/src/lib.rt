@@ -1,4 +1,6 @@
 // The layers of quarter_wave_ar and bragg_mirror for callers in C, in a list that was lent.
+#![tactic(auto)]
+
 ghost use Rattle.std.specs.Prelude.{◌≡◌, ◌++◌, ◌+◌, ◌*◌, ◌≤◌, length, drop};
 ghost use Rattle.thin_film_presets.specs.Layers.{bragg_layers};
 ghost use Rattle.thin_film_coating.specs.Coating.{quarter_wave_layers};

@@ -1,4 +1,6 @@
 // dihkelu_quarter_waves: the count is returned, and what is over is written to the number that was lent.
+#![tactic(auto)]
+
 ghost use Rattle.std.specs.Prelude.{◌≡◌, [], ◌∷◌};
 ghost use Rattle.c_call.specs.Call.{done, answered};
 ghost use Rattle.quarter_waves.specs.Waves.{quarter_waves};

@@ -1,4 +1,6 @@
 // dihkelu_reflectance_range: a low and a high reflectance, in a list that was lent.
+#![tactic(auto)]
+
 ghost use Rattle.std.specs.Prelude.{◌≡◌};
 ghost use Rattle.c_call.specs.Call.{done, answered};
 ghost use Rattle.reflectance_range.specs.Range.{reflectance_range};

@@ -7,50 +7,43 @@ ghost use Rattle.math_trig.specs.Trig.{sin, cos};
 ghost use Rattle.math_exp.specs.Exp.{exp};
 ghost use Rattle.math_atan.specs.Atan.{atan, asin, atan2};
 
-#[unsafe(no_mangle)]
-pub extern "C" fn dihkelu_sqrt(x: f64) -> f64
+pub fn dihkelu_sqrt(x: f64) -> f64
     ensures { result ≡ square_root binary64 x }
 {
     math_sqrt::sqrt(x)
 }
 
-#[unsafe(no_mangle)]
-pub extern "C" fn dihkelu_sin(x: f64) -> f64
+pub fn dihkelu_sin(x: f64) -> f64
     ensures { result ≡ sin x }
 {
     math_trig::sin(x)
 }
 
-#[unsafe(no_mangle)]
-pub extern "C" fn dihkelu_cos(x: f64) -> f64
+pub fn dihkelu_cos(x: f64) -> f64
     ensures { result ≡ cos x }
 {
     math_trig::cos(x)
 }
 
-#[unsafe(no_mangle)]
-pub extern "C" fn dihkelu_exp(x: f64) -> f64
+pub fn dihkelu_exp(x: f64) -> f64
     ensures { result ≡ exp x }
 {
     math_exp::exp(x)
 }
 
-#[unsafe(no_mangle)]
-pub extern "C" fn dihkelu_atan(x: f64) -> f64
+pub fn dihkelu_atan(x: f64) -> f64
     ensures { result ≡ atan x }
 {
     math_atan::atan(x)
 }
 
-#[unsafe(no_mangle)]
-pub extern "C" fn dihkelu_asin(x: f64) -> f64
+pub fn dihkelu_asin(x: f64) -> f64
     ensures { result ≡ asin x }
 {
     math_atan::asin(x)
 }
 
-#[unsafe(no_mangle)]
-pub extern "C" fn dihkelu_atan2(y: f64, x: f64) -> f64
+pub fn dihkelu_atan2(y: f64, x: f64) -> f64
     ensures { result ≡ atan2 y x }
 {
     math_atan::atan2(y, x)

@@ -2,5 +2,6 @@
 pub mod Cases
 pub mod Written
 pub mod Placed
+pub mod Filled
 pub mod Argument
 pub mod Known

@@ -1,5 +1,7 @@
 // dihkelu_evaluate_list: one coated surface at many angles and wavelengths, its responses in a list that was
 // lent. dihkelu_invalid_argument: which argument an evaluation is refused for.
+#![tactic(auto)]
+
 ghost use Rattle.std.specs.Prelude.{◌≡◌, ◌++◌, ◌+◌, ◌*◌, ◌≤◌, ◌<◌, length, drop};
 ghost use Rattle.c_layers.specs.Evaluate.{evaluate};
 ghost use Rattle.c_call.specs.Call.{done, answered};

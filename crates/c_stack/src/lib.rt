@@ -1,4 +1,6 @@
 // dihkelu_stack: the layers of a stack by their numbers, in a list that was lent.
+#![tactic(auto)]
+
 ghost use Rattle.std.specs.Prelude.{◌≡◌, ◌++◌, map, ◌*◌, ◌≤◌, length, take, drop};
 ghost use Rattle.c_call.specs.Call.{done, written, answered};
 ghost use Rattle.thin_film_shorthand.specs.Stack.{layer, stack};

@@ -1,6 +1,8 @@
 // The C interface (include/dihkelu.h). A list is lent as a pointer and a count of elements, two
 // arguments one after the other, and a number as a pointer. No call that refuses changes what it was lent:
 // a refusal is its number times 2^32 plus its place, which is 0 where the documents give none.
+#![tactic(auto)]
+
 ghost use Rattle.std.specs.Prelude.{◌≡◌, [], ◌∷◌};
 ghost use Rattle.ieee.specs.Functions.{zero_f};
 ghost use Rattle.gate.specs.Gate as Gate;
@@ -53,8 +55,7 @@ use train_steps::{State, TrainReply};
 // ---- the library
 
 // Its version: major times 2^16 plus minor.
-#[unsafe(no_mangle)]
-pub extern "C" fn dihkelu_version() -> u32
+pub fn dihkelu_version() -> u32
     ensures { result ≡ version }
 {
     0x0000_0004
@@ -65,8 +66,7 @@ pub extern "C" fn dihkelu_version() -> u32
 // SurfaceCoating::evaluate: the coating by its code, its layers as n, k, thickness one after the
 // other. Writes the response to the front of list and returns the count of its numbers; or returns
 // a refusal: 1, then 3, then 8 for a list that is too short.
-#[unsafe(no_mangle)]
-pub extern "C" fn dihkelu_evaluate(
+pub fn dihkelu_evaluate(
     code: u32,
     design_wavelength_nm: f64,
     n_incident: f64,
@@ -96,8 +96,7 @@ pub extern "C" fn dihkelu_evaluate(
 // The same at many angles and wavelengths, angles_rad[i] and wavelengths_nm[i] being case i: writes the responses one
 // after the other and returns the count of their numbers; or a refusal: 1 for lists of unequal length, that of the first
 // case that is refused, 1 or 3, with its index as the place, then 8.
-#[unsafe(no_mangle)]
-pub extern "C" fn dihkelu_evaluate_list(
+pub fn dihkelu_evaluate_list(
     code: u32,
     design_wavelength_nm: f64,
     n_incident: f64,
@@ -123,8 +122,7 @@ pub extern "C" fn dihkelu_evaluate_list(
 
 // Which argument earned evaluate's refusal 1: 1 n_incident, 2 n_substrate, 3 the angle, 4 the wavelength, the first
 // of them that fails; 0 where none does.
-#[unsafe(no_mangle)]
-pub extern "C" fn dihkelu_invalid_argument(
+pub fn dihkelu_invalid_argument(
     n_incident: f64,
     n_substrate: f64,
     angle_incident_rad: f64,
@@ -138,8 +136,7 @@ pub extern "C" fn dihkelu_invalid_argument(
 // The layers that a text of the stack shorthand stands for, H, L and M being quarter waves of three
 // indices at the design wavelength: writes n, k, thickness of one after the other, as dihkelu_evaluate
 // takes them, and returns the count of these numbers; or a refusal: 1, 9, 10, then 8.
-#[unsafe(no_mangle)]
-pub extern "C" fn dihkelu_stack(
+pub fn dihkelu_stack(
     text: &[u8],
     n_h: f64,
     n_l: f64,
@@ -156,16 +153,14 @@ pub extern "C" fn dihkelu_stack(
 
 // JonesMatrix::to_mueller of a Jones matrix by its 8 numbers, m00, m01, m10, m11, each as re, im: writes
 // the matrix row after row and returns 16; or a refusal: 1 where there are not 8 numbers, then 8.
-#[unsafe(no_mangle)]
-pub extern "C" fn dihkelu_to_mueller(jones: &[f64], list: &mut [f64]) -> u64
+pub fn dihkelu_to_mueller(jones: &[f64], list: &mut [f64]) -> u64
     ensures { done result list.new ≡ answered rows (converted to_mueller jones.now) list.old }
 {
     c_mueller::to_mueller(jones, list)
 }
 
 // The same over Stokes vectors with S3 = 2 Im(Ex* Ey), after Born and Wolf: to_mueller_born_wolf.
-#[unsafe(no_mangle)]
-pub extern "C" fn dihkelu_mueller_born_wolf(jones: &[f64], list: &mut [f64]) -> u64
+pub fn dihkelu_mueller_born_wolf(jones: &[f64], list: &mut [f64]) -> u64
     ensures { done result list.new ≡ answered rows (converted to_mueller_born_wolf jones.now) list.old }
 {
     c_mueller::mueller_born_wolf(jones, list)
@@ -175,8 +170,7 @@ pub extern "C" fn dihkelu_mueller_born_wolf(jones: &[f64], list: &mut [f64]) -> 
 
 // Met head-on, both indices known as ranges within 1 to 4: writes a low and a high reflectance, between
 // which every pair of indices within the ranges reflects, and returns 2; or a refusal: 13, then 8.
-#[unsafe(no_mangle)]
-pub extern "C" fn dihkelu_reflectance_range(
+pub fn dihkelu_reflectance_range(
     n1_low: f64,
     n1_high: f64,
     n2_low: f64,
@@ -192,8 +186,7 @@ pub extern "C" fn dihkelu_reflectance_range(
 
 // n * thickness in whole quarters of the wavelength: writes the length that is over and returns the
 // count; or a refusal: 14.
-#[unsafe(no_mangle)]
-pub extern "C" fn dihkelu_quarter_waves(
+pub fn dihkelu_quarter_waves(
     n: f64,
     thickness_nm: f64,
     wavelength_nm: f64,
@@ -207,39 +200,21 @@ pub extern "C" fn dihkelu_quarter_waves(
 // ---- fresnel.rs
 
 // Rs and Rp of a dielectric interface: writes both and returns 2; or 8.
-#[unsafe(no_mangle)]
-pub extern "C" fn dihkelu_fresnel_dielectric(
-    cos_theta_i: f64,
-    n1: f64,
-    n2: f64,
-    list: &mut [f64],
-) -> u64
+pub fn dihkelu_fresnel_dielectric(cos_theta_i: f64, n1: f64, n2: f64, list: &mut [f64]) -> u64
     ensures { done result list.new ≡ written (reflectances (fresnel_dielectric cos_theta_i n1 n2)) list.old }
 {
     c_fresnel::fresnel_dielectric(cos_theta_i, n1, n2, list)
 }
 
 // R and T of unpolarized light: writes both and returns 2; or 8.
-#[unsafe(no_mangle)]
-pub extern "C" fn dihkelu_fresnel_unpolarized(
-    cos_theta_i: f64,
-    n1: f64,
-    n2: f64,
-    list: &mut [f64],
-) -> u64
+pub fn dihkelu_fresnel_unpolarized(cos_theta_i: f64, n1: f64, n2: f64, list: &mut [f64]) -> u64
     ensures { done result list.new ≡ written (totals (fresnel_unpolarized cos_theta_i n1 n2)) list.old }
 {
     c_fresnel::fresnel_unpolarized(cos_theta_i, n1, n2, list)
 }
 
 // Schlick's approximation: writes it and returns 1; or 8.
-#[unsafe(no_mangle)]
-pub extern "C" fn dihkelu_schlick_approx(
-    cos_theta_i: f64,
-    n1: f64,
-    n2: f64,
-    list: &mut [f64],
-) -> u64
+pub fn dihkelu_schlick_approx(cos_theta_i: f64, n1: f64, n2: f64, list: &mut [f64]) -> u64
     ensures { done result list.new ≡ written (alone (schlick_approx cos_theta_i n1 n2)) list.old }
 {
     c_fresnel::schlick_approx(cos_theta_i, n1, n2, list)
@@ -247,13 +222,7 @@ pub extern "C" fn dihkelu_schlick_approx(
 
 // The Jones matrices of a bare surface, of the reflected light and of the transmitted: writes them and returns 16; or
 // a refusal: 1, then 8.
-#[unsafe(no_mangle)]
-pub extern "C" fn dihkelu_surface_fresnel_jones(
-    n1: f64,
-    n2: f64,
-    angle_i_rad: f64,
-    list: &mut [f64],
-) -> u64
+pub fn dihkelu_surface_fresnel_jones(n1: f64, n2: f64, angle_i_rad: f64, list: &mut [f64]) -> u64
     ensures { done result list.new ≡ answered matrices (surface_fresnel_jones n1 n2 angle_i_rad) list.old }
 {
     c_fresnel::surface_fresnel_jones(n1, n2, angle_i_rad, list)
@@ -262,8 +231,7 @@ pub extern "C" fn dihkelu_surface_fresnel_jones(
 // ---- layers and names of coatings
 
 // Coating::quarter_wave_ar: writes n, k, thickness of its layer and returns 3; or 8.
-#[unsafe(no_mangle)]
-pub extern "C" fn dihkelu_quarter_wave_ar(
+pub fn dihkelu_quarter_wave_ar(
     n_ambient: f64,
     n_substrate: f64,
     design_wavelength_nm: f64,
@@ -276,8 +244,7 @@ pub extern "C" fn dihkelu_quarter_wave_ar(
 
 // Coating::bragg_mirror: writes n, k, thickness of one layer after the other and returns the count of these numbers; or
 // a refusal: 3 for more than 31 pairs, then 8.
-#[unsafe(no_mangle)]
-pub extern "C" fn dihkelu_bragg_mirror(
+pub fn dihkelu_bragg_mirror(
     n_high: f64,
     n_low: f64,
     pairs: u32,
@@ -291,8 +258,7 @@ pub extern "C" fn dihkelu_bragg_mirror(
 
 // SurfaceCoating::from_format_name: returns the code that dihkelu_evaluate has the coating by, 0 for none; or a
 // refusal: 2.
-#[unsafe(no_mangle)]
-pub extern "C" fn dihkelu_coating_from_name(name: &[u8]) -> u64
+pub fn dihkelu_coating_from_name(name: &[u8]) -> u64
     ensures { result ≡ returned (map named_code (from_format_name name.now)) }
 {
     c_names::coating_from_name(name)
@@ -301,8 +267,7 @@ pub extern "C" fn dihkelu_coating_from_name(name: &[u8]) -> u64
 // SurfaceCoating::to_format_name of the coating that dihkelu_evaluate has by a code: writes the name to the front of the
 // output and returns its length in bytes; or a refusal: 2 for a code that has no coating, then 8 for an output that is
 // too short.
-#[unsafe(no_mangle)]
-pub extern "C" fn dihkelu_coating_name(code: u32, output: &mut [u8]) -> u64
+pub fn dihkelu_coating_name(code: u32, output: &mut [u8]) -> u64
     ensures { left result output.new ≡ name_left (coating_name code) output.old }
 {
     c_names::coating_name(code, output)
@@ -311,8 +276,7 @@ pub extern "C" fn dihkelu_coating_name(code: u32, output: &mut [u8]) -> u64
 // The trimmed part of a name: bytes 0x09 to 0x0D and 0x20 go from both ends. Writes its place in the name and its length
 // in bytes, and returns 0; a name without any other byte has a part of length 0 at place 0. It takes all bytes and
 // refuses none.
-#[unsafe(no_mangle)]
-pub extern "C" fn dihkelu_trim(name: &[u8], place: &mut u64, length: &mut u64) -> u64
+pub fn dihkelu_trim(name: &[u8], place: &mut u64, length: &mut u64) -> u64
     ensures { cut result place.new length.new ≡ trim_left name.now }
 {
     c_names::trim(name, place, length)
@@ -321,24 +285,21 @@ pub extern "C" fn dihkelu_trim(name: &[u8], place: &mut u64, length: &mut u64) -
 // ---- Jones and Stokes vectors: 4 numbers each, else 1; then 8
 
 // JonesVector::to_stokes: writes S0 to S3 and returns 4.
-#[unsafe(no_mangle)]
-pub extern "C" fn dihkelu_to_stokes(field: &[f64], list: &mut [f64]) -> u64
+pub fn dihkelu_to_stokes(field: &[f64], list: &mut [f64]) -> u64
     ensures { done result list.new ≡ answered parameters (of 4 (λ given. to_stokes (vector given)) field.now) list.old }
 {
     c_polarization::to_stokes(field, list)
 }
 
 // JonesVector::normalize: writes the vector and returns 4.
-#[unsafe(no_mangle)]
-pub extern "C" fn dihkelu_jones_normalize(field: &[f64], list: &mut [f64]) -> u64
+pub fn dihkelu_jones_normalize(field: &[f64], list: &mut [f64]) -> u64
     ensures { done result list.new ≡ answered parts (of 4 (λ given. normalize (vector given)) field.now) list.old }
 {
     c_polarization::jones_normalize(field, list)
 }
 
 // JonesVector::intensity: writes it and returns 1.
-#[unsafe(no_mangle)]
-pub extern "C" fn dihkelu_jones_intensity(field: &[f64], list: &mut [f64]) -> u64
+pub fn dihkelu_jones_intensity(field: &[f64], list: &mut [f64]) -> u64
     ensures { done result list.new ≡ answered alone (of 4 (λ given. intensity (vector given)) field.now) list.old }
 {
     c_polarization::jones_intensity(field, list)
@@ -346,8 +307,7 @@ pub extern "C" fn dihkelu_jones_intensity(field: &[f64], list: &mut [f64]) -> u6
 
 // The degrees of polarization, of linear and of circular polarization, the orientation and the ellipticity: writes
 // them and returns 5.
-#[unsafe(no_mangle)]
-pub extern "C" fn dihkelu_stokes_figures(beam: &[f64], list: &mut [f64]) -> u64
+pub fn dihkelu_stokes_figures(beam: &[f64], list: &mut [f64]) -> u64
     ensures { done result list.new ≡ answered figures (of 4 (λ given. stokes given) beam.now) list.old }
 {
     c_polarization::stokes_figures(beam, list)
@@ -356,64 +316,56 @@ pub extern "C" fn dihkelu_stokes_figures(beam: &[f64], list: &mut [f64]) -> u64
 // ---- Jones matrices, 8 numbers, and Mueller matrices, 16
 
 // JonesMatrix::apply: writes the vector and returns 4.
-#[unsafe(no_mangle)]
-pub extern "C" fn dihkelu_jones_apply(matrix: &[f64], field: &[f64], list: &mut [f64]) -> u64
+pub fn dihkelu_jones_apply(matrix: &[f64], field: &[f64], list: &mut [f64]) -> u64
     ensures { done result list.new ≡ answered parts (of_two 8 4 (λ given other. apply (Matrix.jones given) (vector other)) matrix.now field.now) list.old }
 {
     c_polarization::jones_apply(matrix, field, list)
 }
 
 // JonesMatrix::mul: writes the product and returns 8.
-#[unsafe(no_mangle)]
-pub extern "C" fn dihkelu_jones_mul(left: &[f64], right: &[f64], list: &mut [f64]) -> u64
+pub fn dihkelu_jones_mul(left: &[f64], right: &[f64], list: &mut [f64]) -> u64
     ensures { done result list.new ≡ answered entries (of_two 8 8 (λ given other. mul (Matrix.jones given) (Matrix.jones other)) left.now right.now) list.old }
 {
     c_polarization::jones_mul(left, right, list)
 }
 
 // MuellerMatrix::apply: writes the Stokes vector and returns 4.
-#[unsafe(no_mangle)]
-pub extern "C" fn dihkelu_mueller_apply(matrix: &[f64], beam: &[f64], list: &mut [f64]) -> u64
+pub fn dihkelu_mueller_apply(matrix: &[f64], beam: &[f64], list: &mut [f64]) -> u64
     ensures { done result list.new ≡ answered parameters (of_two 16 4 (λ given other. apply_mueller (mueller given) (stokes other)) matrix.now beam.now) list.old }
 {
     c_polarization::mueller_apply(matrix, beam, list)
 }
 
 // JonesMatrix::diattenuator of two amplitudes, each re, im: writes the matrix and returns 8.
-#[unsafe(no_mangle)]
-pub extern "C" fn dihkelu_diattenuator(amplitudes: &[f64], list: &mut [f64]) -> u64
+pub fn dihkelu_diattenuator(amplitudes: &[f64], list: &mut [f64]) -> u64
     ensures { done result list.new ≡ answered entries (of 4 (λ given. diattenuator (vector given).ex (vector given).ey) amplitudes.now) list.old }
 {
     c_polarization::diattenuator(amplitudes, list)
 }
 
 // JonesMatrix::linear_polarizer: writes the matrix and returns 8; or 8.
-#[unsafe(no_mangle)]
-pub extern "C" fn dihkelu_linear_polarizer(angle_rad: f64, list: &mut [f64]) -> u64
+pub fn dihkelu_linear_polarizer(angle_rad: f64, list: &mut [f64]) -> u64
     ensures { done result list.new ≡ written (entries (linear_polarizer angle_rad)) list.old }
 {
     c_polarization::linear_polarizer(angle_rad, list)
 }
 
 // JonesMatrix::retarder.
-#[unsafe(no_mangle)]
-pub extern "C" fn dihkelu_retarder(retardance_rad: f64, fast_axis_rad: f64, list: &mut [f64]) -> u64
+pub fn dihkelu_retarder(retardance_rad: f64, fast_axis_rad: f64, list: &mut [f64]) -> u64
     ensures { done result list.new ≡ written (entries (retarder retardance_rad fast_axis_rad)) list.old }
 {
     c_polarization::retarder(retardance_rad, fast_axis_rad, list)
 }
 
 // JonesMatrix::quarter_wave_plate.
-#[unsafe(no_mangle)]
-pub extern "C" fn dihkelu_quarter_wave_plate(fast_axis_rad: f64, list: &mut [f64]) -> u64
+pub fn dihkelu_quarter_wave_plate(fast_axis_rad: f64, list: &mut [f64]) -> u64
     ensures { done result list.new ≡ written (entries (quarter_wave_plate fast_axis_rad)) list.old }
 {
     c_polarization::quarter_wave_plate(fast_axis_rad, list)
 }
 
 // JonesMatrix::half_wave_plate.
-#[unsafe(no_mangle)]
-pub extern "C" fn dihkelu_half_wave_plate(fast_axis_rad: f64, list: &mut [f64]) -> u64
+pub fn dihkelu_half_wave_plate(fast_axis_rad: f64, list: &mut [f64]) -> u64
     ensures { done result list.new ≡ written (entries (half_wave_plate fast_axis_rad)) list.old }
 {
     c_polarization::half_wave_plate(fast_axis_rad, list)
@@ -433,8 +385,7 @@ fn number_of(g: Gated) -> u64
 }
 
 // The gate: the count of surfaces, or a refusal: 4, 5 or 6.
-#[unsafe(no_mangle)]
-pub extern "C" fn dihkelu_gate(sheet: &[u8]) -> u64
+pub fn dihkelu_gate(sheet: &[u8]) -> u64
     ensures { result ≡ returned (gate sheet.now) }
 {
     number_of(gate::gate(sheet))
@@ -442,8 +393,7 @@ pub extern "C" fn dihkelu_gate(sheet: &[u8]) -> u64
 
 // A fresh train: writes 0 surfaces done and the BEAM's s, p and wavelength, and returns the count of
 // surfaces; or a refusal: 4, 5 or 6.
-#[unsafe(no_mangle)]
-pub extern "C" fn dihkelu_start(
+pub fn dihkelu_start(
     sheet: &[u8],
     surfaces_done: &mut u32,
     s: &mut f64,
@@ -467,8 +417,7 @@ pub extern "C" fn dihkelu_start(
 
 // One surface on from any state: writes the next one and returns its surfaces done; or a refusal: 4, 5,
 // 6, 7 or 11.
-#[unsafe(no_mangle)]
-pub extern "C" fn dihkelu_step(
+pub fn dihkelu_step(
     sheet: &[u8],
     surfaces_done: &mut u32,
     s: &mut f64,
@@ -497,8 +446,7 @@ pub extern "C" fn dihkelu_step(
 
 // A new wavelength for the surfaces not yet done, from any state: writes it and returns the surfaces
 // done; or a refusal: 4, 5, 6 or 11. A state's s and p do not count.
-#[unsafe(no_mangle)]
-pub extern "C" fn dihkelu_retune(
+pub fn dihkelu_retune(
     sheet: &[u8],
     surfaces_done: u32,
     wavelength_nm: &mut f64,
@@ -523,8 +471,7 @@ pub extern "C" fn dihkelu_retune(
 
 // A whole run: writes s, p after each surface and returns the count of surfaces; or a refusal: 4, 5,
 // 6, then 8 for a list shorter than 2 numbers for each surface.
-#[unsafe(no_mangle)]
-pub extern "C" fn dihkelu_run(sheet: &[u8], list: &mut [f64]) -> u64
+pub fn dihkelu_run(sheet: &[u8], list: &mut [f64]) -> u64
     ensures { done result list.new ≡ run_done (run sheet.now list.old) }
 {
     number_of(train_steps::run(sheet, list))
@@ -535,8 +482,7 @@ pub extern "C" fn dihkelu_run(sheet: &[u8], list: &mut [f64]) -> u64
 // An edition 1 sheet for a sheet of either edition, which runs alike: writes it to the front of the output
 // and returns its length in bytes; or a refusal: 4, 5, 6, 12 at the first kind 7, then 8 for an output that
 // is too short.
-#[unsafe(no_mangle)]
-pub extern "C" fn dihkelu_edition_1(sheet: &[u8], output: &mut [u8]) -> u64
+pub fn dihkelu_edition_1(sheet: &[u8], output: &mut [u8]) -> u64
     ensures { copied result output.new ≡ rewritten (to_edition_1 sheet.now output.old) }
 {
     match sheet_edition_1::to_edition_1(sheet, output) {
@@ -549,13 +495,7 @@ pub extern "C" fn dihkelu_edition_1(sheet: &[u8], output: &mut [u8]) -> u64
 
 // The means of s and of p over the lines of a band, each a wavelength and a weight: writes s, p and returns
 // the count of lines; or a refusal: 4, 5, 6, 12, 15, 16, then 8.
-#[unsafe(no_mangle)]
-pub extern "C" fn dihkelu_band(
-    sheet: &[u8],
-    wavelengths_nm: &[f64],
-    weights: &[u32],
-    list: &mut [f64],
-) -> u64
+pub fn dihkelu_band(sheet: &[u8], wavelengths_nm: &[f64], weights: &[u32], list: &mut [f64]) -> u64
     ensures { done result list.new ≡ answered banded (band sheet.now wavelengths_nm.now weights.now) list.old }
 {
     match band::band(sheet, wavelengths_nm, weights) {
@@ -581,8 +521,7 @@ fn put_surface(reply: SurfaceReply, list: &mut [f64]) -> u64
 
 // Of a sheet's surface, counted from 0: writes its answers and returns the count of their numbers; or
 // a refusal: 4, 5, 6, 7 where there is no such surface, then 8.
-#[unsafe(no_mangle)]
-pub extern "C" fn dihkelu_answers(sheet: &[u8], surface: u32, list: &mut [f64]) -> u64
+pub fn dihkelu_answers(sheet: &[u8], surface: u32, list: &mut [f64]) -> u64
     ensures { done result list.new ≡ answered surface_answered (surface_answers sheet.now surface) list.old }
 {
     put_surface(sheet_surfaces::surface_answers(sheet, surface), list)
@@ -590,13 +529,7 @@ pub extern "C" fn dihkelu_answers(sheet: &[u8], surface: u32, list: &mut [f64]) 
 
 // The same where the train is retuned to a wavelength right before that surface is stepped; a kind 7 before the surface
 // acts over it. Refuses with 4, 5, 6, 7, then 11 where that retune is refused, then 8.
-#[unsafe(no_mangle)]
-pub extern "C" fn dihkelu_answers_at(
-    sheet: &[u8],
-    surface: u32,
-    wavelength_nm: f64,
-    list: &mut [f64],
-) -> u64
+pub fn dihkelu_answers_at(sheet: &[u8], surface: u32, wavelength_nm: f64, list: &mut [f64]) -> u64
     ensures { done result list.new ≡ answered surface_answered (answers_at sheet.now surface wavelength_nm) list.old }
 {
     put_surface(

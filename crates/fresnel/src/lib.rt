@@ -1,5 +1,7 @@
 // The Fresnel equations of fresnel.rs for dielectric media, and Schlick's approximation. Each is for
 // every f64 and never refuses.
+#![tactic(auto)]
+
 ghost use Rattle.std.specs.Prelude.{◌≡◌};
 ghost use Rattle.fresnel.specs.Fresnel.{sin2_t, cos_t, power, refracted, fresnel_dielectric, fresnel_unpolarized, schlick, schlick_approx};
 

@@ -233,7 +233,7 @@ pub record Reached (src : List ℕ) (n i : ℕ) (w : Float) (o : Outcome ℕ) : 
 abbrev result : List ℕ → Outcome ℕ
 result src = map surfaces_of (within_limits (graded (decode src)))
 
-module _ (src : List ℕ) (n : ℕ) (known : Known src) (t : T (length_fits src)) (e : grammar src ≡ answer n) (m : Beam) (m-is : m ≡ beam_at src (next_place src 0)) (p : Bool) (p_is : p ≡ beam_passes m.wavelength_nm m.s m.p) where
+module _ (src : List ℕ) (n : ℕ) (known : Known src) (t : T (length_fits src)) (e : grammar src ≡ answer n) (m : Beam) (m_is : m ≡ beam_at src (next_place src 0)) (p : Bool) (p_is : p ≡ beam_passes m.wavelength_nm m.s m.p) where
   x : Sheet
   x = (counted src n e).0
 
@@ -241,7 +241,7 @@ module _ (src : List ℕ) (n : ℕ) (known : Known src) (t : T (length_fits src)
   s = standing src (bytes_from src known) t (counted src n e).0 (counted src n e).1.0
 
   is_beam : m ≡ beam_value (counted src n e).0
-  is_beam = m-is ∙ beam_here src (counted src n e).0 s
+  is_beam = m_is ∙ beam_here src (counted src n e).0 s
 
   whole_sheet : result src ≡ cond p (judged n (starts (begin src 0) (surfaces_blocks (counted src n e).0.surfaces (end_block (length (counted src n e).0.surfaces) ∷ []))) (surfaces_verdicts m.wavelength_nm (counted src n e).0.surfaces (true ∷ []))) (refusal 6 (next_place src 0))
   unfolding blocks begin place_on

@@ -1,5 +1,7 @@
 // The gate of document 01: any bytes of any length are admitted, with their count of surfaces, or
 // refused with 4, 5 or 6, in that order over the whole sheet.
+#![tactic(auto)]
+
 ghost use Rattle.std.specs.Prelude.{◌≡◌, ◌||◌, T, Float};
 ghost use Rattle.ieee.specs.Functions.{zero_f};
 ghost use Rattle.math_trig.specs.Trig.{sin_cos};
@@ -19,7 +21,7 @@ use sheet::Verdict;
 use sheet_values::Cauchy;
 
 // A sheet that is admitted, with its count of surfaces; or a refusal.
-#[derive(Drop)]
+#[derive(Clone, Copy)]
 pub enum Gated {
     Admitted(u32),
     Refused(Refusal),
@@ -130,7 +132,7 @@ fn layer_passes(src: &[u8], at: usize, wavelength_nm: f64, snell: f64) -> bool
 }
 
 // Whether layers pass; and the place of the first that does not, or else the one after them.
-#[derive(Drop)]
+#[derive(Clone, Copy)]
 struct Fit {
     all: bool,
     place: usize,
@@ -162,7 +164,7 @@ fn or_metal(all: bool, src: &[u8], at: usize, n: usize, wavelength_nm: f64) -> b
 // ---- a SURFACE with its kind 7 and its layers
 
 // Whether it is within the limits, the wavelength that it is met with, and the place of its first block outside.
-#[derive(Drop)]
+#[derive(Clone, Copy)]
 struct Passage {
     passes: bool,
     wavelength_nm: f64,
@@ -262,7 +264,7 @@ pub fn gate_index(
     sines: &mut [f64; 64],
     cosines: &mut [f64; 64],
 ) -> Gated
-    ensures* { λ r. ⌜ record { result = outcome r; begins = begins.new; counts = counts.new; sines = sines.new; cosines = cosines.new } ≡ index src.now ⌝ }
+    ensures { record { result = outcome result; begins = begins.new; counts = counts.new; sines = sines.new; cosines = cosines.new } ≡ index src.now }
 {
     *begins = [1usize; 64];
     *counts = [1usize; 64];

@@ -1,4 +1,6 @@
 // One surface of a train: its coating by code, and the limits of document 01's section 3 and of document 02's slip 12.
+#![tactic(auto)]
+
 ghost use Rattle.std.specs.Prelude.{◌≡◌};
 ghost use Rattle.math_trig.specs.Trig.{sin_cos};
 ghost use Rattle.gate_limits.specs.Coating.{coded, interface, preset_layers};
@@ -11,7 +13,7 @@ use thin_film_solver::ThinFilmLayer;
 
 // A SURFACE's words: whether the reflected light is followed, the coating's code (payload / 2), both
 // indices and the angle of incidence.
-#[derive(Drop)]
+#[derive(Clone, Copy)]
 pub struct Surface {
     pub reflected: bool,
     pub coating: u32,
@@ -21,7 +23,7 @@ pub struct Surface {
 }
 
 // What lies between the two media.
-#[derive(Drop)]
+#[derive(Clone, Copy)]
 pub enum Interface {
     Bare,
     Coated(SurfaceCoating),
@@ -125,7 +127,7 @@ fn surface_within(snell: f64, cos: f64, surface: Surface) -> bool
 }
 
 // Whether a SURFACE is within the limits, and its n_incident * abs(sin), which those of its LAYERs ask for.
-#[derive(Drop)]
+#[derive(Clone, Copy)]
 pub struct Judgement {
     pub passes: bool,
     pub snell: f64,

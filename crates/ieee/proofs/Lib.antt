@@ -5,3 +5,4 @@ pub mod Range
 pub mod Rounding
 pub mod Count
 pub mod Fmod
+pub mod Half

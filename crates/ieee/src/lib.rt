@@ -1,4 +1,6 @@
 // The small functions on f64 that document 01's section 2 gives a meaning to, each for every f64.
+#![tactic(auto)]
+
 ghost use Rattle.std.specs.Prelude.{◌≡◌};
 ghost use Rattle.std.specs.Float.Ieee.Scale.{finite};
 ghost use Rattle.ieee.specs.Functions.{abs, max, clamp, powi2, powi5, finite_positive, of_words};

@@ -1,5 +1,7 @@
 // Quotients by 6, 12, 20, 72, 132 and 272 without a division. Each is a sum of two powers of 2, so that a product with it is two
 // exact ones, and 1 less the quotient has the bits that it has with a division.
+#![tactic(auto)]
+
 ghost use Rattle.std.specs.Prelude.{◌≡◌};
 ghost use Rattle.ieee_quotient.specs.Quick.{quick};
 

@@ -1,4 +1,6 @@
 // atan, asin and atan2 as document 01's section 2 gives them, each for every f64.
+#![tactic(auto)]
+
 ghost use Rattle.std.specs.Prelude.{◌≡◌, ◌&&◌, ◌||◌, cond};
 ghost use Rattle.std.specs.Float.Ieee.{lt};
 ghost use Rattle.ieee.specs.Operators.{◌⊘◌};

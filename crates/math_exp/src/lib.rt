@@ -1,4 +1,6 @@
 // exp as document 01's section 2 gives it, for every f64.
+#![tactic(auto)]
+
 ghost use Rattle.std.specs.Prelude.{◌≡◌};
 ghost use Rattle.ieee.specs.Functions.{one};
 ghost use Rattle.math_exp.specs.Exp.{exp_series, squares, exp};

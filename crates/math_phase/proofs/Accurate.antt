@@ -23,7 +23,7 @@ use Rattle.math_trig.proofs.Turns.{turns_of, round_sgn}
 use Rattle.math_trig.proofs.Less.{whole_is, sign_of, cross_of, whole_mag, sub_at, k_is}
 use Rattle.math_phase.specs.Claim.{two_pi}
 use Rattle.math_phase.proofs.Exact.{tau_count, half_turn, left_is, no_turn_same, low_exact}
-use Rattle.math_phase.proofs.Half.{Half, half}
+use Rattle.ieee.proofs.Half.{Half, half}
 
 -- r is (above r - below r) / den r
 abbrev pub pick : Bool → ℕ → ℕ → ℕ

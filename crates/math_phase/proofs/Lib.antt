@@ -1,7 +1,6 @@
 -- The claim of slip 7, and some answers.
 mod Whole
 mod Exact
-mod Half
 mod Accurate
 mod Near
 mod Below

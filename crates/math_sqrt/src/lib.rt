@@ -6,6 +6,8 @@
 // A positive finite x is R * 4 ^ k, where R has 105 or 106 binary digits. The root of x is the root of R,
 // times 2 ^ k. A whole number q is the one nearest to the root of R where q * (q - 1) < R <= q * (q + 1).
 // If no guess is found to be the root, which is rare, the root is taken a digit at a time.
+#![tactic(auto)]
+
 ghost use Rattle.std.specs.Prelude.{◌≡◌, ◌+◌, ◌*◌, ◌/◌, ◌%◌, ◌^◌, ◌<◌, ◌≤◌, T, from_bits};
 ghost use Rattle.std.specs.Float.{binary64};
 ghost use Rattle.math_root.specs.Root.{square_root, closest_root};

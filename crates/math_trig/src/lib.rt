@@ -1,4 +1,6 @@
 // sin and cos as document 01's section 2 gives them, with the first line of document 02, slip 7; each for every f64.
+#![tactic(auto)]
+
 ghost use Rattle.std.specs.Prelude.{◌≡◌};
 ghost use Rattle.ieee.specs.Functions.{one};
 ghost use Rattle.math_trig.specs.Trig.{first_line, fold, second_fold, series, sin_div, cos_div, sin_at, sin, cos_at, cos_of, cos, sin_cos};
@@ -105,7 +107,7 @@ fn cos_series(z: f64) -> f64
 }
 
 // Both series of one square.
-#[derive(Drop)]
+#[derive(Clone, Copy)]
 pub struct Series {
     pub sin: f64,
     pub cos: f64,
@@ -179,7 +181,7 @@ pub fn cos(x: f64) -> f64
 }
 
 // The sine and the cosine of one angle.
-#[derive(Drop)]
+#[derive(Clone, Copy)]
 pub struct SinCos {
     pub sin: f64,
     pub cos: f64,

@@ -1,6 +1,8 @@
 // Sines and cosines of up to 16 angles at once, each with the bits of math_trig's. The loops have neither a call that stays
 // nor a branch, so that a compiler can take two angles at a time. A few angles go through both series in one loop. Of
 // sixteen each step of a series is a loop of its own, so that many quotients are under way, and six of them are no divisions.
+#![tactic(auto)]
+
 ghost use Rattle.std.specs.Prelude.{◌≡◌, ◌≤◌};
 ghost use Rattle.ieee.specs.Functions.{one, minus_one, clamp};
 ghost use Rattle.math_trig.specs.Trig as Trig;

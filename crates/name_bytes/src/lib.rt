@@ -1,4 +1,6 @@
 // Byte strings: the part without the blank bytes at both ends, comparing, searching, ASCII.
+#![tactic(auto)]
+
 ghost use Rattle.std.specs.Prelude.{◌≡◌};
 ghost use Rattle.name_bytes.specs.Trim.{blank, prefix, kept, span, part, handed, span_of};
 ghost use Rattle.name_bytes.specs.Search.{begins, is, contains};
@@ -94,7 +96,7 @@ pub struct Part<'a> {
 
 // The trimmed part of the caller's name, with its place in it.
 pub fn trim<'a>(name: &'a [u8]) -> Part<'a>
-    ensures { ((result.bytes.ptr, result.bytes.now), result.place) ≡ handed name.entry.ref_ptr name.now }
+    ensures { ((result.bytes.ref_ptr, result.bytes.now), result.place) ≡ handed name.entry.ref_ptr name.now }
 {
     Part {
         bytes: trimmed(name),

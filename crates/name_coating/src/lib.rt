@@ -1,4 +1,6 @@
 // The names of coatings, on bytes: the coating that a name stands for, and the name of a coating.
+#![tactic(auto)]
+
 ghost use Rattle.std.specs.Prelude.{◌≡◌, ◌++◌, ◌-◌, ◌≤◌, length, replicate};
 ghost use Rattle.refusal.specs.Outcome.{answer};
 ghost use Rattle.thin_film.specs.Coating.{text};
@@ -8,7 +10,7 @@ use refusal::Refusal;
 use thin_film::{SurfaceCoating, Text};
 
 // The coating that a name stands for; none; or a refusal.
-#[derive(Drop)]
+#[derive(Clone, Copy)]
 pub enum Named {
     Coating(SurfaceCoating),
     Nothing,
@@ -16,7 +18,7 @@ pub enum Named {
 }
 
 // An upper-case name: the first len bytes.
-#[derive(Drop)]
+#[derive(Clone, Copy)]
 struct Clean {
     bytes: [u8; 32],
     len: usize,

@@ -1,4 +1,6 @@
 // The Jones matrices of a surface, coated or bare, as polarization.rs has them.
+#![tactic(auto)]
+
 ghost use Rattle.std.specs.Prelude.{◌≡◌};
 ghost use Rattle.thin_film_complex.specs.Complex.{real};
 ghost use Rattle.polarization_mueller.specs.Jones.{diattenuator};
@@ -9,7 +11,7 @@ use thin_film_complex::Complex;
 use thin_film_solver::CoatingResponse;
 
 // What a surface does to the reflected and to the transmitted light.
-#[derive(Drop)]
+#[derive(Clone, Copy)]
 pub struct SurfaceJones {
     pub reflection: JonesMatrix,
     pub transmission: JonesMatrix,
@@ -17,7 +19,7 @@ pub struct SurfaceJones {
 
 // The matrices of a bare surface; or a refusal's number, which is 0 where there is none, beside zero
 // matrices.
-#[derive(Drop)]
+#[derive(Clone, Copy)]
 pub struct FresnelJones {
     pub refusal: u32,
     pub matrices: SurfaceJones,

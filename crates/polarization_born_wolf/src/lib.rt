@@ -1,5 +1,7 @@
 // The Mueller matrix of a Jones matrix over Stokes vectors with S3 = 2·Im(Ex*·Ey), as Born and Wolf have them
 // (document 02, slip 8). `to_mueller` of polarization_mueller is the Rust's.
+#![tactic(auto)]
+
 ghost use Rattle.std.specs.Prelude.{◌≡◌};
 ghost use Rattle.polarization_born_wolf.specs.Conversion.{transformed, from_six, to_mueller_born_wolf};
 

@@ -1,4 +1,6 @@
 // Jones and Mueller matrices, as polarization.rs has them: flat arrays, one row after the other.
+#![tactic(auto)]
+
 ghost use Rattle.std.specs.Prelude.{◌≡◌};
 ghost use Rattle.polarization_mueller.specs.Jones.{identity, linear_polarizer, retarding, retarder, quarter_wave_plate, half_wave_plate, diattenuator, apply, mul};
 ghost use Rattle.polarization_mueller.specs.Mueller as M;
@@ -9,7 +11,7 @@ use thin_film_complex::Complex;
 // ---- Jones matrices
 
 // The entry [i][j] stands at 2 i + j.
-#[derive(Drop)]
+#[derive(Clone, Copy)]
 pub struct JonesMatrix {
     pub m: [Complex; 4],
 }
@@ -163,7 +165,7 @@ impl JonesMatrix {
 // ---- Mueller matrices
 
 // The entry [i][j] stands at 4 i + j.
-#[derive(Drop)]
+#[derive(Clone, Copy)]
 pub struct MuellerMatrix {
     pub m: [f64; 16],
 }

@@ -1,4 +1,6 @@
 // Jones and Stokes vectors, as polarization.rs has them.
+#![tactic(auto)]
+
 ghost use Rattle.std.specs.Prelude.{◌≡◌};
 ghost use Rattle.polarization_stokes.specs.Stokes.{unpolarized, degree_of_polarization, degree_of_linear_polarization, degree_of_circular_polarization, orientation_angle_rad, ellipticity_angle_rad};
 ghost use Rattle.polarization_stokes.specs.Jones.{linear_horizontal, linear_vertical, linear_45, circular_right, circular_left, intensity, normalize, to_stokes};
@@ -8,14 +10,14 @@ use thin_film_complex::Complex;
 const FRAC_1_SQRT_2: f64 = 0.7071067811865476;
 
 // The transverse electric field: ex is x or s, ey is y or p.
-#[derive(Drop)]
+#[derive(Clone, Copy)]
 pub struct JonesVector {
     pub ex: Complex,
     pub ey: Complex,
 }
 
 // Intensity, horizontal against vertical, +45 against -45 degrees, and circular preference.
-#[derive(Drop)]
+#[derive(Clone, Copy)]
 pub struct StokesVector {
     pub s0: f64,
     pub s1: f64,

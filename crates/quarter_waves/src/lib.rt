@@ -1,4 +1,6 @@
 // Document 02, slip 11: the path n * thickness of a film in whole quarter waves, and what is over.
+#![tactic(auto)]
+
 ghost use Rattle.std.specs.Prelude.{◌≡◌};
 ghost use Rattle.quarter_waves.specs.Waves.{admitted, divided, outcome, quarter_waves};
 ghost use Rattle.quarter_waves.specs.Internal.{Divides};
@@ -6,13 +8,13 @@ ghost use Rattle.quarter_waves.specs.Internal.{Divides};
 use refusal::Refusal;
 
 // So many whole quarter waves, and the length that is over.
-#[derive(Drop)]
+#[derive(Clone, Copy)]
 pub struct QuarterWaves {
     pub count: u32,
     pub remainder_nm: f64,
 }
 
-#[derive(Drop)]
+#[derive(Clone, Copy)]
 pub enum QuarterWavesReply {
     Counted(QuarterWaves),
     Refused(Refusal),

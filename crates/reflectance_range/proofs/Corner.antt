@@ -7,7 +7,6 @@ use lib.Dec.{T, lit≤}
 use lib.Ieee.{Float, binary64, fits, of_bits}
 use lib.Ieee.Fits.{mul-fits}
 use lib.Ieee.Positive.{num, den, den_pos}
-use Rattle.ieee.specs.Functions.{one}
 use Rattle.ieee.specs.Range.{plus}
 use Rattle.ieee.specs.Count.{count}
 use Rattle.ieee.proofs.Count.{count_is}

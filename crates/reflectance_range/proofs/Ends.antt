@@ -7,7 +7,6 @@ use mathlib.Core.Bool.{Bool, true, false, not}
 use lib.Dec.{T, ltb, ltb→lt, nltb→le, lt→ltb, lit≤}
 use lib.Ieee.{Float, nan, inf, fin, binary64, fits, up, lt, le, of_bits}
 use lib.Ieee.Fits.{and_i}
-use lib.Ieee.Scale.{finite}
 use lib.Ieee.Positive.{num, den, den_pos, positive, le→cross, cross→le, first_pos}
 use borrow.Author.Tests.{lt-ltb, le-ltb}
 use Rattle.ieee.specs.Functions.{one, four}

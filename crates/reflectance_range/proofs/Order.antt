@@ -1,6 +1,6 @@
 -- Over whole numbers: |x - y| / (x + y) grows as the two move apart; bounds of one fraction as bounds of another. Assumes nothing.
 use mathlib.Core.Path.{◌≡◌, sym, ap, ap₂, subst}
-use Prim.Native.Nat.{ℕ, ◌+◌, ◌-◌, ◌*◌, ◌≤◌, ◌<◌}
+use Prim.Native.Nat.{ℕ, ◌+◌, ◌*◌, ◌≤◌, ◌<◌}
 use native.Mathlib.Nat.{le_refl, le_trans, le_of_eq, add_comm, mul_comm, mul_right_comm, mul-mul-mul_comm, mul-le-mul, mul-le-mul_left, mul-le-mul_right, mul-pos, add-le-add, le_of_mul-le-mul_right, le_dest}
 use native.Mathlib.Omega.{arith}
 use Rattle.ieee_near.specs.Index.{gap}

@@ -1,19 +1,21 @@
 // Indices off the data sheet: a low and a high reflectance of a bare surface met head-on, where both
 // indices are known as ranges within 1 to 4.
+#![tactic(auto)]
+
 ghost use Rattle.std.specs.Prelude.{◌≡◌};
 ghost use Rattle.reflectance_range.specs.Range.{index_valid, range_valid, head_on, upper, lower, high, low, reflectance_range, outcome};
 
 use refusal::Refusal;
 
 // No pair of indices within the ranges reflects less than low or more than high.
-#[derive(Drop)]
+#[derive(Clone, Copy)]
 pub struct ReflectanceRange {
     pub low: f64,
     pub high: f64,
 }
 
 // The range, or a refusal.
-#[derive(Drop)]
+#[derive(Clone, Copy)]
 pub enum RangeReply {
     Range(ReflectanceRange),
     Refused(Refusal),

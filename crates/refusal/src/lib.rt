@@ -1,6 +1,6 @@
 // The refusals of document 01's table 'Turned back': a number, and a place, which is 0 where the
 // table gives none.
-#[derive(Drop)]
+#[derive(Clone, Copy)]
 pub struct Refusal {
     pub number: u32,
     pub place: usize,

@@ -79,13 +79,13 @@ use Rattle.sheet.specs.Sheet.{nth, WellFormed, raw_words, surfaces_blocks, block
 use Rattle.sheet.specs.Read.{floats_after, raws, numbers, may, decode}
 use Rattle.sheet.specs.Claim.{Bytes}
 use Rattle.sheet.proofs.Claim.{grammar_claim}
-use Rattle.sheet_values.specs.Values.{value, met_at}
+use Rattle.sheet_values.specs.Values.{value, met_at, films}
 use Rattle.gate.specs.Gate.{verdict, tuned, carried, walked, verdicts, gated, gate}
 use Rattle.gate.specs.Wavelength.{holds}
 use Rattle.gate.proofs.Claim.{gate_claim}
 use Rattle.quarter_waves.specs.Waves as Waves
 use Rattle.quarter_waves.specs.Waves.{quarter_waves}
-use Rattle.sheet_surfaces.specs.Surfaces.{of_surface, surface_of, numbered, layer_of, nth_surface, nth_layer, surface_answers}
+use Rattle.sheet_surfaces.specs.Surfaces.{of_surface, surface_of, numbered, layer_of, no_film, its_answers, nth_surface, nth_layer, surface_answers}
 use Rattle.sheet_surfaces.proofs.Answers.{nth_answered}
 use Rattle.train_steps.specs.declared.State.{State}
 use Rattle.train_steps.specs.Train.{fresh, start, after_one, stepped, step, with_wavelength, retuned, retune, Ran, ran, run}
@@ -545,15 +545,15 @@ of_answers : Refuses (λ (x : Sheet × ℕ). surface_answers x.0.src x.1) (4 ∷
 unfolding surface_answers
 of_answers = record {
   only = λ x.
-      of_surface_only _ x.1 (gated x.0.src) (all_seven x.0.src)
+      of_surface_only its_answers x.1 (gated x.0.src) (all_seven x.0.src)
       (λ y e lt. let g = ((gate_claim.admits x.0.src x.0.bytes y).0 e).0 in rw (nth_answered y g.0 g.1 x.1 lt).is tt);
-  each = (((none, 0), (0, as_gated _ 0 _ 4 0 four)), (((blank, 0), (0, as_gated _ 0 _ 5 0 five)), (((unlit, 0), (1, as_gated _ 0 _ 6 1 six)), (((whole, 16), (0, past _)), tt))));
+  each = (((none, 0), (0, as_gated its_answers 0 _ 4 0 four)), (((blank, 0), (0, as_gated its_answers 0 _ 5 0 five)), (((unlit, 0), (1, as_gated its_answers 0 _ 6 1 six)), (((whole, 16), (0, past its_answers)), tt))));
 }
 
 of_nth_surface : Refuses (λ (x : Sheet × ℕ). nth_surface x.0.src x.1) (4 ∷ 5 ∷ 6 ∷ 7 ∷ [])
 unfolding nth_surface
 of_nth_surface = record {
-  only = λ x. mapped seven numbered (surface_of x.1 (gated x.0.src)) (of_surface_only _ x.1 (gated x.0.src) (all_seven x.0.src) (λ y e lt. tt));
+  only = λ x. mapped seven numbered (surface_of x.1 (gated x.0.src)) (of_surface_only (λ w y. answer y) x.1 (gated x.0.src) (all_seven x.0.src) (λ y e lt. tt));
   each = (
     ((none, 0), (0, ap (λ o. map numbered (surface_of 0 o)) four)),
     (
@@ -567,11 +567,11 @@ of_nth_layer : Refuses (λ (x : Sheet × (ℕ × ℕ)). nth_layer x.0.src x.1.0 
 unfolding nth_layer
 of_nth_layer = record {
   only = λ x.
-      of_surface_only _ x.1.0 (gated x.0.src) (all_seven x.0.src)
-      (λ y e lt. either seven (ltb x.1.1 (length (nth y.surfaces x.1.0).layers)) (answer _) (refusal 7 0) tt tt);
+      of_surface_only (layer_of x.1.1) x.1.0 (gated x.0.src) (all_seven x.0.src)
+      (λ y e lt. either {A = ThinFilmLayer} seven (ltb x.1.1 (length (nth y.surfaces x.1.0).layers)) (answer (get_or (films (met_at (value y.wavelength) y.surfaces x.1.0) (nth y.surfaces x.1.0).layers) x.1.1 no_film)) (refusal 7 0) tt tt);
   each = (
-    ((none, (0, 0)), (0, as_gated _ 0 _ 4 0 four)),
-    (((blank, (0, 0)), (0, as_gated _ 0 _ 5 0 five)), (((unlit, (0, 0)), (1, as_gated _ 0 _ 6 1 six)), (((whole, (16, 0)), (0, past (layer_of 0))), tt))),
+    ((none, (0, 0)), (0, as_gated (layer_of 0) 0 _ 4 0 four)),
+    (((blank, (0, 0)), (0, as_gated (layer_of 0) 0 _ 5 0 five)), (((unlit, (0, 0)), (1, as_gated (layer_of 0) 0 _ 6 1 six)), (((whole, (16, 0)), (0, past (layer_of 0))), tt))),
   );
 }
 

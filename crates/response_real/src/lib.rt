@@ -1,6 +1,8 @@
 // The whole response of a coated surface over real numbers: the quick way where no film absorbs, from the products of
 // surface_real. A zero's sign can be another than in thin_film_solver, and only a zero's: the response is known where
 // the powers are finite and no part of an amplitude is a zero, and is that of thin_film_solver then.
+#![tactic(auto)]
+
 ghost use Rattle.std.specs.Prelude.{◌≡◌, []};
 ghost use Rattle.thin_film_solver.specs.Internal.{solved};
 ghost use Rattle.thin_film_layers.specs.Evaluation.{ordered};
@@ -15,7 +17,7 @@ use thin_film_solver::{CoatingResponse, Incidence, Polarized};
 // ---- amplitudes
 
 // What is reflected and what is transmitted: the amplitudes, and their shares before they are clamped.
-#[derive(Drop)]
+#[derive(Clone, Copy)]
 pub struct Amplitudes {
     pub r: Complex,
     pub t: Complex,
@@ -110,7 +112,7 @@ fn polarized(k: Amplitudes) -> Polarized
 }
 
 // A response, and whether it is known.
-#[derive(Drop)]
+#[derive(Clone, Copy)]
 pub struct Known {
     pub known: bool,
     pub response: CoatingResponse,

@@ -1,4 +1,6 @@
 // Sheets of document 01, section 1, and of document 02, slips 3 and 5: the reader of their words, and the grammar.
+#![tactic(auto)]
+
 ghost use Rattle.std.specs.Prelude.{◌≡◌, true, suc, ◌+◌, ◌/◌, ◌≤◌, ◌<◌, length};
 ghost use Rattle.std.specs.Float.{binary64};
 ghost use Rattle.std.specs.Float.Ieee.{of_bits};
@@ -267,7 +269,7 @@ pub fn plain_floats_again(src: &[u8], at: usize) -> PlainFloats
 
 // Where one stands between two blocks: before OPEN, before BEAM (the edition), among the blocks after it
 // (the edition, SURFACEs so far, layers that may come), after a kind 7 (the edition, SURFACEs so far), after END.
-#[derive(Drop)]
+#[derive(Clone, Copy)]
 pub enum Standing {
     AtOpen,
     AtBeam(u32),

@@ -1,5 +1,7 @@
 // The answers of a surface of a sheet, from the sheet's bytes: document 01, section 7. The SURFACE's kind
 // word is at a place and n layers follow it; neither need be so: past the last word every word is zero.
+#![tactic(auto)]
+
 ghost use Rattle.std.specs.Prelude.{◌≡◌};
 ghost use Rattle.sheet.specs.Internal.{next_place, place_on, layer_at, layers_at};
 ghost use Rattle.sheet_values.specs.Values.{film, films};
@@ -21,7 +23,7 @@ use thin_film_solver::{CoatingResponse, Incidence, ThinFilmLayer};
 mod quick;
 
 // A surface's powers alone, or a refusal.
-#[derive(Drop)]
+#[derive(Clone, Copy)]
 pub enum PowersReply {
     Powers(Powers),
     Refused(Refusal),

@@ -27,7 +27,7 @@ use thin_film_layers::{Evaluation, Prepared};
 use thin_film_solver::{CoatingResponse, Incidence, ThinFilmLayer};
 
 // A layer, and the place after it.
-#[derive(Drop)]
+#[derive(Clone, Copy)]
 struct Reached {
     layer: ThinFilmLayer,
     next: usize,

@@ -1,5 +1,7 @@
 // Sheets for the old reduction program, which reads edition 1 only (document 02, slip 6): an edition 1
 // sheet is written from an edition 2 sheet.
+#![tactic(auto)]
+
 ghost use Rattle.std.specs.Prelude.{◌≡◌, [], ◌∷◌, ◌++◌, ◌+◌, ◌*◌, ◌/◌, ◌%◌, ◌^◌, ◌≤◌, ◌<◌, length, get_or, drop};
 ghost use Rattle.std.proofs.lemmas.List.Edits.{sets};
 ghost use Rattle.std.specs.Float.{binary64};
@@ -152,7 +154,7 @@ fn write(src: &[u8], output: &mut [u8])
 }
 
 // The new sheet's length in bytes, or a refusal.
-#[derive(Drop)]
+#[derive(Clone, Copy)]
 pub enum Rewritten {
     Length(usize),
     Refused(Refusal),
@@ -163,7 +165,7 @@ pub enum Rewritten {
 // output, whose bytes past it keep what they held. Refusals: 4, 5, 6, 12 with the word of the first kind 7,
 // then 8 for an output that is too short; each leaves the output untouched.
 pub fn to_edition_1(src: &[u8], output: &mut [u8]) -> Rewritten
-    ensures* { λ r. ⌜ record { result = outcome r; output = output.new } ≡ to_edition_1 src.now output.old ⌝ }
+    ensures { record { result = outcome result; output = output.new } ≡ to_edition_1 src.now output.old }
 {
     match sheet_untuned::without_tuning(src) {
         Gated::Admitted(_) => {

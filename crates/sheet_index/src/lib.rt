@@ -1,4 +1,6 @@
 // The index of a sheet: of each SURFACE where it begins, how many layers it has, and the sine and the cosine of its angle.
+#![tactic(auto)]
+
 ghost use Rattle.std.specs.Prelude.{◌≡◌, ◌+◌, ◌-◌, ◌≤◌, get_or};
 ghost use Rattle.std.specs.Float.{nan};
 ghost use Rattle.math_waves.specs.Waves.{at_most_16};

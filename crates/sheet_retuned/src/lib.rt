@@ -1,5 +1,7 @@
 // Document 02, slip 5: the answers of a sheet's surface where the train is retuned right before it is stepped. The call is
 // handed the sheet's bytes and gates them anew.
+#![tactic(auto)]
+
 ghost use Rattle.std.specs.Prelude.{◌≡◌};
 ghost use Rattle.sheet_surfaces.specs.Surfaces.{given};
 ghost use Rattle.sheet_retuned.specs.Retuned.{answers_at};

@@ -1,5 +1,7 @@
 // The surfaces of a sheet by their numbers, counted from 0: document 01, section 7. Each call is handed
 // the sheet's bytes and gates them anew.
+#![tactic(auto)]
+
 ghost use Rattle.std.specs.Prelude.{◌≡◌};
 ghost use Rattle.refusal.specs.Outcome.{refused as refused-with};
 ghost use Rattle.sheet_surfaces.specs.Surfaces.{surface_answers, given, nth_surface, surface_outcome, nth_layer, layer_outcome};
@@ -14,7 +16,7 @@ use thin_film_solver::ThinFilmLayer;
 // ---- a surface's answers
 
 // The answers of a surface, and a refusal, whose number is 0 where there is none.
-#[derive(Drop)]
+#[derive(Clone, Copy)]
 pub struct SurfaceReply {
     pub refusal: Refusal,
     pub answers: Answers,
@@ -68,13 +70,13 @@ pub fn surface_answers(src: &[u8], i: u32) -> SurfaceReply
 // ---- its words
 
 // A SURFACE's words, and how many layers it has.
-#[derive(Drop)]
+#[derive(Clone, Copy)]
 pub struct NumberedSurface {
     pub surface: Surface,
     pub layers: usize,
 }
 
-#[derive(Drop)]
+#[derive(Clone, Copy)]
 pub enum NthSurface {
     Surface(NumberedSurface),
     Refused(Refusal),
@@ -101,7 +103,7 @@ pub fn nth_surface(src: &[u8], i: u32) -> NthSurface
     }
 }
 
-#[derive(Drop)]
+#[derive(Clone, Copy)]
 pub enum NthLayer {
     Layer(ThinFilmLayer),
     Refused(Refusal),

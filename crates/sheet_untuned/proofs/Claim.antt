@@ -74,13 +74,13 @@ record First (at : ℕ) (bs : List Block) (place : ℕ) : Type 0 where
 none_there : {A : Type 0} (a : A) (at : ℕ) (bs : List Block) → All Other bs → no_tuning a (starts at bs) bs ≡ answer a
 unfolding no_tuning starts
 none_there a at [] h = refl
-none_there a at (b ∷ bs) h = rw (ne_eqb (kind b.word) 7 h.0) (none_there a _ bs h.1)
+none_there a at (b ∷ bs) h = rw (ne_eqb (kind b.word) 7 h.0) (none_there a (at + suc (length b.raw)) bs h.1)
 
 found_there : {A : Type 0} (a : A) (at : ℕ) (bs : List Block) (n place : ℕ) → n < length bs → kind (get_or bs n no_block).word ≡ 7 → ((i : ℕ) → i < n → kind (get_or bs i no_block).word ≡ 7 → ⊥) → place ≡ get_or (starts at bs) n 0 → no_tuning a (starts at bs) bs ≡ refusal 12 place
 unfolding no_tuning starts
 found_there a at [] n place lt s f e = absurd (omega arith)
 found_there a at (b ∷ bs) zero place lt s f e = rw (eq-eqb (kind b.word) 7 s) (ap (refusal 12) (sym e))
-found_there a at (b ∷ bs) (suc n) place lt s f e = rw (ne_eqb (kind b.word) 7 (f 0 (omega arith))) (found_there a _ bs n place (omega arith) s (λ i l. f (suc i) (omega arith)) e)
+found_there a at (b ∷ bs) (suc n) place lt s f e = rw (ne_eqb (kind b.word) 7 (f 0 (omega arith))) (found_there a (at + suc (length b.raw)) bs n place (omega arith) s (λ i l. f (suc i) (omega arith)) e)
 
 search : (at : ℕ) (bs : List Block) → All Other bs ⊎ ((place : ℕ) × First at bs place)
 unfolding starts

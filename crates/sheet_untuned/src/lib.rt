@@ -1,4 +1,6 @@
 // A sheet without kind 7 (document 02, slips 6 and 14): the gate, then 12 with the word of the first kind 7.
+#![tactic(auto)]
+
 ghost use Rattle.std.specs.Prelude.{◌≡◌};
 ghost use Rattle.refusal.specs.Outcome.{answer, map};
 ghost use Rattle.sheet.specs.Sheet.{Sheet};

@@ -1,4 +1,6 @@
 // The BEAM, the SURFACEs and the layers of a sheet as values: document 01, section 1, and document 02, slips 3 and 5.
+#![tactic(auto)]
+
 ghost use Rattle.std.specs.Prelude.{◌≡◌, []};
 ghost use Rattle.sheet.specs.Internal.{next_place, layer_at, tuning_at, surface_at};
 ghost use Rattle.sheet_values.specs.Values.{cauchy_index, cauchy_film, film, surface_value, met_with};
@@ -8,7 +10,7 @@ use gate_limits::Surface;
 use thin_film_solver::ThinFilmLayer;
 
 // A BEAM: its wavelength, its s and its p power.
-#[derive(Drop)]
+#[derive(Clone, Copy)]
 pub struct Beam {
     pub wavelength_nm: f64,
     pub s: f64,
@@ -64,7 +66,7 @@ pub fn plain_at(src: &[u8], at: usize) -> ThinFilmLayer
 }
 
 // A glass that changes with colour, kind 6: the coefficients of Cauchy's formula, and the thickness.
-#[derive(Drop)]
+#[derive(Clone, Copy)]
 pub struct Cauchy {
     pub a: f64,
     pub b: f64,

@@ -1,4 +1,6 @@
 // The answers of one surface of a train: document 01's section 7.
+#![tactic(auto)]
+
 ghost use Rattle.std.specs.Prelude.{◌≡◌};
 ghost use Rattle.math_trig.specs.Trig as Trig;
 ghost use Rattle.refusal.specs.Outcome.{refusal};
@@ -11,7 +13,7 @@ use thin_film_complex::Complex;
 use thin_film_solver::CoatingResponse;
 
 // The parts of the s and p power that a surface reflects and transmits.
-#[derive(Drop)]
+#[derive(Clone, Copy)]
 pub struct Powers {
     pub reflectance_s: f64,
     pub reflectance_p: f64,
@@ -20,7 +22,7 @@ pub struct Powers {
 }
 
 // A surface's answers. A bare surface has no response: every number of it is zero.
-#[derive(Drop)]
+#[derive(Clone, Copy)]
 pub struct Answers {
     pub coated: bool,
     pub powers: Powers,
@@ -32,7 +34,7 @@ pub struct Answers {
 }
 
 // The answers of a surface, or a refusal's number, which is 0 where there is none.
-#[derive(Drop)]
+#[derive(Clone, Copy)]
 pub struct AnswersReply {
     pub refusal: u32,
     pub answers: Answers,

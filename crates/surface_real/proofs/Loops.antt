@@ -16,7 +16,7 @@ module _ (f : ℕ → Film) (reversed : Bool) (n : ℕ) where
 
   pub next : (i : ℕ) (k m m' : Stack) (g : Film) → m ≡ joined f reversed n i k → g ≡ f (nth_index reversed n i) → m' ≡ join m g → m' ≡ joined f reversed n (i + 1) k
   unfolding joined
-  next i k m m' g m-is g-is m'-is = m'-is ∙ ap₂ join m-is g-is ∙ ap (λ (z : ℕ). joined f reversed n z k) (sym (add-one i))
+  next i k m m' g m_is g-is m'-is = m'-is ∙ ap₂ join m_is g-is ∙ ap (λ (z : ℕ). joined f reversed n z k) (sym (add-one i))
 
   pub all : (i : ℕ) (k m : Stack) → i ≡ n → m ≡ joined f reversed n i k → m ≡ joined f reversed n n k
   all i k m e is = is ∙ ap (λ (z : ℕ). joined f reversed n z k) e

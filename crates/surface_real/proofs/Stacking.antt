@@ -38,8 +38,8 @@ module _ (snell wavelength : Float) where
   -- one layer more
   one_more : (layers : List ThinFilmLayer) (i : ℕ) (f : Film) (k m : Stack) → i < length layers → f ≡ film_of snell wavelength (get_or layers i no_layer)
       → m ≡ stacked snell wavelength k (take i layers) → join m f ≡ stacked snell wavelength k (take (suc i) layers)
-  one_more layers i f k m h f-is m-is =
-      ap₂ join m-is f-is ∙ sym (more k (take i layers) (get_or layers i no_layer)) ∙ ap (stacked snell wavelength k) (sym (take-suc layers i no_layer h))
+  one_more layers i f k m h f-is m_is =
+      ap₂ join m_is f-is ∙ sym (more k (take i layers) (get_or layers i no_layer)) ∙ ap (stacked snell wavelength k) (sym (take-suc layers i no_layer h))
 
   -- each place has the film of its layer
   module _ (layers : List ThinFilmLayer) (reversed : Bool) (f : ℕ → Film) (own : (j : ℕ) → j < length layers → f j ≡ film_of snell wavelength (get_or layers j no_layer)) where

@@ -1,6 +1,8 @@
 // The powers of a coated surface over real numbers, for a run: the quick way where no film absorbs. Each film is
 // [[cos, i y], [i z, cos]] then, and so is each product. What the quick way does not cover makes a NaN, and a NaN or an
 // infinity stays to the end: the powers are known where the last numbers are finite, and are those of thin_film_solver.
+#![tactic(auto)]
+
 ghost use Rattle.std.specs.Prelude.{◌≡◌, T};
 ghost use Rattle.surface_real.specs.Internal.{over, real_part, root, cos_theta, medium_of, film_in, times, join, no_films, cos_theta_sub, power, finish, no_recent, Again};
 
@@ -14,7 +16,7 @@ pub mod presets;
 // ---- films
 
 // A film's matrices for s and for p.
-#[derive(Drop)]
+#[derive(Clone, Copy)]
 pub struct Film {
     pub cos: f64,
     pub y_s: f64,
@@ -83,7 +85,7 @@ fn cos_theta(snell: f64, layer: ThinFilmLayer) -> f64
 }
 
 // The admittances of a film that does not absorb, and its phase thickness.
-#[derive(Drop)]
+#[derive(Clone, Copy)]
 pub struct Medium {
     pub eta_s: f64,
     pub eta_p: f64,
@@ -120,7 +122,7 @@ fn film_in(eta_s: f64, eta_p: f64, sin: f64, cos: f64) -> Film
 // ---- products
 
 // [[a, i b], [i c, d]]
-#[derive(Drop)]
+#[derive(Clone, Copy)]
 pub struct Product {
     pub a: f64,
     pub b: f64,
@@ -129,7 +131,7 @@ pub struct Product {
 }
 
 // The products for s and for p.
-#[derive(Drop)]
+#[derive(Clone, Copy)]
 pub struct Stack {
     pub s: Product,
     pub p: Product,
@@ -177,7 +179,7 @@ pub fn no_films() -> Stack
 // ---- powers
 
 // What is reflected and what is transmitted, before they are clamped.
-#[derive(Drop)]
+#[derive(Clone, Copy)]
 pub struct Shares {
     pub r: f64,
     pub t: f64,
@@ -223,7 +225,7 @@ pub fn cos_theta_sub(sin_theta_sub: f64) -> f64
 }
 
 // Powers, and whether they are known.
-#[derive(Drop)]
+#[derive(Clone, Copy)]
 pub struct Known {
     pub known: bool,
     pub powers: Powers,
@@ -297,14 +299,14 @@ fn same_layer(a: ThinFilmLayer, b: ThinFilmLayer) -> bool
 }
 
 // A layer with its medium.
-#[derive(Drop)]
+#[derive(Clone, Copy)]
 pub struct Seen {
     pub layer: ThinFilmLayer,
     pub medium: Medium,
 }
 
 // The last two layers that were read: of layers that take turns, as in H L H L, two media are worked out.
-#[derive(Drop)]
+#[derive(Clone, Copy)]
 pub struct Recent {
     pub earlier: Seen,
     pub last: Seen,

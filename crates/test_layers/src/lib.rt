@@ -1,6 +1,8 @@
 // Coatings on layers that are held by value: the first count of 72 places are lent to the functions
 // of thin_film that read a caller's list. For programs that have their layers in an array. A count
 // past the places is refused with 3.
+#![tactic(auto)]
+
 ghost use Rattle.std.specs.Prelude.{◌≡◌, cond, leb, take};
 ghost use Rattle.refusal.specs.Outcome.{answer, too_many_layers};
 ghost use Rattle.thin_film_solver.specs.Solve as Solve;

@@ -1,5 +1,7 @@
 // Recorded answers: their words, and the words of an answer. oracle/README.md ("Records") has the format.
 // A word has the bytes of two words of a sheet, and is read by the sheet's reader.
+#![tactic(auto)]
+
 ghost use Rattle.std.specs.Prelude.{◌≡◌};
 ghost use Rattle.std.specs.Float.{binary64};
 ghost use Rattle.std.specs.Float.Ieee.{of_bits};
@@ -35,7 +37,7 @@ pub fn float_at(b: &[u8], i: usize) -> f64
 }
 
 // Four floats.
-#[derive(Drop)]
+#[derive(Clone, Copy)]
 pub struct Four {
     pub a: f64,
     pub b: f64,
@@ -136,7 +138,7 @@ pub fn bytes_at(b: &[u8], i: usize) -> &[u8]
 }
 
 // What a record's first word says: the function, and the counts of its argument and result words.
-#[derive(Drop)]
+#[derive(Clone, Copy)]
 pub struct Header {
     pub function: usize,
     pub args: usize,

@@ -1,6 +1,8 @@
 // Replays recorded Mueller matrices over Born and Wolf's Stokes vectors: reads records from standard input, calls the
 // function for each, and prints how many answers agree, and the first that does not, whole.
 // README.md has the record format.
+#![tactic(auto)]
+
 use polarization_mueller::JonesMatrix;
 use polarization_stokes::JonesVector;
 use test_tally::Next;

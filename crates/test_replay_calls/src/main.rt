@@ -1,6 +1,8 @@
 // Replays recorded answers of the C calls that are single functions: reads records from standard input, calls the export
 // that each names, and prints for each export how many answers agree, and the first that does not, whole.
 // README.md has the record format.
+#![tactic(auto)]
+
 mod calls;
 
 use test_tally::Next;

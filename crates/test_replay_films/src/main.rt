@@ -1,6 +1,8 @@
 // Replays recorded answers of thin films and names: reads records from standard input, calls the function that each names,
 // and prints for each function how many answers agree, and the first that does not, whole.
 // README.md has the record format.
+#![tactic(auto)]
+
 mod films;
 mod names;
 

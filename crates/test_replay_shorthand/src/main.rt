@@ -1,6 +1,8 @@
 // Replays recorded readings of the stack shorthand: reads records from standard input, calls the function for each,
 // and prints how many answers agree, and the first that does not, whole.
 // README.md has the record format.
+#![tactic(auto)]
+
 use test_tally::Next;
 use thin_film_coating::Layers;
 use thin_film_shorthand::Stacked;

@@ -54,7 +54,7 @@ fn retune_call(src: &[u8], state: State, wavelength_nm: f64, out: &mut [u64; 256
 }
 
 // The state that an action returns, and the number that it was refused with, or 0.
-#[derive(Drop)]
+#[derive(Clone, Copy)]
 struct Moved {
     state: State,
     number: u64,

@@ -1,5 +1,7 @@
 // Square roots of 384,000 patterns, in 384 sums of a thousand roots each. The file `stdout` has the sums that
 // the machine's own square root gives (`sums.c`).
+#![tactic(auto)]
+
 ghost use Rattle.std.specs.Prelude.{◌<◌};
 
 // The next random pattern: Marsaglia's xorshift.

@@ -1,5 +1,7 @@
 // A replay: its records, read one after the other; for each function how many answers agree with the recorded ones, and the
 // first record that does not, whole.
+#![tactic(auto)]
+
 ghost use Rattle.std.specs.Prelude.{◌≡◌, true, ◌&&◌, length};
 ghost use Rattle.test_records.specs.Words.{arguments, results, recorded};
 ghost use Rattle.test_tally.specs.Counts.{fits, stands, clean, all_clean, one_more, tallied};
@@ -9,7 +11,7 @@ use test_records::Header;
 // ---- records
 
 // What comes next on standard input.
-#[derive(Drop)]
+#[derive(Clone, Copy)]
 pub enum Next {
     Record(Header),
     End,

@@ -1,5 +1,7 @@
 // Optical coatings of thin_film.rs as they are ordered: what they are made of, and their response at a
 // wavelength and an angle of incidence. A list of layers stands beside the enum that speaks of it.
+#![tactic(auto)]
+
 ghost use Rattle.std.specs.Prelude.{◌≡◌};
 ghost use Rattle.thin_film_layers.specs.Evaluation.{outcome};
 ghost use Rattle.thin_film.specs.Coating.{mgf2_default, to_coating, label, text};
@@ -13,7 +15,7 @@ mod presets;
 pub mod reading;
 
 // A coating as it is ordered. The layers of Custom(Multilayer) are the list beside it.
-#[derive(Drop)]
+#[derive(Clone, Copy)]
 pub enum SurfaceCoating {
     IdealAr,
     MgF2 { design_wavelength_nm: f64 },
@@ -23,7 +25,7 @@ pub enum SurfaceCoating {
 }
 
 // A short text: the first len bytes.
-#[derive(Drop)]
+#[derive(Clone, Copy)]
 pub struct Text {
     pub bytes: [u8; 16],
     pub len: usize,

@@ -1,5 +1,7 @@
 // A coating of thin_film.rs beside a list of its layers: how it is built, and its response at a
 // wavelength and an angle of incidence.
+#![tactic(auto)]
+
 ghost use Rattle.std.specs.Prelude.{◌≡◌, [], ◌∷◌, ◌≤◌};
 ghost use Rattle.thin_film_solver.specs.Internal.{solved};
 ghost use Rattle.thin_film_layers.specs.Evaluation.{outcome, ordered};
@@ -15,7 +17,7 @@ use thin_film_solver::{CoatingResponse, Incidence, ThinFilmLayer};
 
 // A coating. The layers of Multilayer are the list beside it, from the incident medium to the
 // substrate.
-#[derive(Drop)]
+#[derive(Clone, Copy)]
 pub enum Coating {
     IdealAr,
     IdealMirror,
@@ -24,7 +26,7 @@ pub enum Coating {
 }
 
 // Layers: the first count of the places hold them. More than 64 are none that can be evaluated.
-#[derive(Drop)]
+#[derive(Clone, Copy)]
 pub struct Layers {
     pub items: [ThinFilmLayer; 64],
     pub count: usize,
@@ -32,7 +34,7 @@ pub struct Layers {
 
 // A coating with its layers; or a refusal's number, which is 0 where there is none. Beside a refusal
 // stand more layers than there are places, so that its evaluation is refused with 3.
-#[derive(Drop)]
+#[derive(Clone, Copy)]
 pub struct Built {
     pub refusal: u32,
     pub coating: Coating,

@@ -1,8 +1,10 @@
 // Complex numbers of two f64, as thin_film.rs has them: every operation rounds, in the Rust's order.
+#![tactic(auto)]
+
 ghost use Rattle.std.specs.Prelude.{◌≡◌};
 ghost use Rattle.thin_film_complex.specs.Complex.{real, zero, scale, norm_sq, norm, arg, exp, half_root, sqrt, add, sub, mul, div};
 
-#[derive(Drop)]
+#[derive(Clone, Copy)]
 pub struct Complex {
     pub re: f64,
     pub im: f64,

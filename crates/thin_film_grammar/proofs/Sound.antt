@@ -199,7 +199,9 @@ sound : (t : List Sym) → Partial t (run begin t)
 sound t = run_partial [] t begin (going no_bracket (is_ready nothing tt) refl)
 
 derived : {t : List Sym} {q : State} {s : Stack} → Partial t q → Accepts q s → Symbols t s
+derived {t = t} {s = s} stopped x3 = elim x3 [ ]
 derived (going no_bracket h e) (accepts {s = s} {p = p} y) = record { spells = by_text (sym e) (spelled_at h (and_r (some s) (rests p) y)); holds = and_l (some s) (rests p) y }
+derived {t = t} (going {k = k} {w = w} {u = u} {p = p} (bracket {s = s} {fs = fs} _ _ _) h e) x22 = elim x22 [ ]
 
 pub derivable : (t : List Sym) (s : Stack) → Accepts (run begin t) s → Symbols t s
 derivable t s h = derived (sound t) h

@@ -1,5 +1,7 @@
 // An evaluation before and while its layers are read: which are, and from which end; and the loop over
 // the caller's own list of them.
+#![tactic(auto)]
+
 ghost use Rattle.std.specs.Prelude.{◌≡◌};
 ghost use Rattle.thin_film_solver.specs.Solve as Solve;
 ghost use Rattle.thin_film_solver.specs.Internal.{terms_of};
@@ -11,7 +13,7 @@ use thin_film_complex::Complex;
 use thin_film_solver::{CoatingResponse, Incidence, Terms, ThinFilmLayer};
 
 // What evaluating a coating gives.
-#[derive(Drop)]
+#[derive(Clone, Copy)]
 pub enum Evaluation {
     Response(CoatingResponse),
     Refused(Refusal),
@@ -19,7 +21,7 @@ pub enum Evaluation {
 
 // An evaluation before any layer is read: it is answered, or the layers beside the coating are all to
 // be read, in their order or reversed.
-#[derive(Drop)]
+#[derive(Clone, Copy)]
 pub enum Prepared {
     Answered(Evaluation),
     Layers { reversed: bool, light: Incidence },
@@ -103,8 +105,10 @@ pub fn evaluate_list(layers: &[ThinFilmLayer], prepared: Prepared) -> Evaluation
     while i < n {
         let j = read_index(prepared, n, i);
         let terms = read_terms(prepared, layers[j]);
-        ms = thin_film_solver::step_s(ms, terms);
-        mp = thin_film_solver::step_p(mp, terms);
+        let next_s = thin_film_solver::step_s(ms, terms);
+        let next_p = thin_film_solver::step_p(mp, terms);
+        ms = next_s;
+        mp = next_p;
         i += 1;
     }
     conclude(prepared, ms, mp)

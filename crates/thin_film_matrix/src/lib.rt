@@ -1,5 +1,7 @@
 // The characteristic matrix of one film, and products of such matrices: thin_film.rs's mat_mul_2x2
 // and the body of the loop in its evaluate_tmm_multilayer.
+#![tactic(auto)]
+
 ghost use Rattle.std.specs.Prelude.{◌≡◌};
 ghost use Rattle.math_exp.specs.Exp.{exp};
 ghost use Rattle.thin_film_complex.specs.Complex.{◌⊠◌, ◌⧄◌};
@@ -52,7 +54,7 @@ pub fn cos_theta(snell: f64, n_c: Complex) -> Complex
 }
 
 // cos(delta) and i sin(delta) of a phase thickness.
-#[derive(Drop)]
+#[derive(Clone, Copy)]
 pub struct Phase {
     pub cos: Complex,
     pub i_sin: Complex,

@@ -1,4 +1,6 @@
 // The layers of the preset coatings by index, and 64 places that hold none.
+#![tactic(auto)]
+
 ghost use Rattle.std.specs.Prelude.{◌≡◌, get_or, replicate};
 ghost use Rattle.thin_film_solver.specs.Solve as Solve;
 ghost use Rattle.thin_film_layers.specs.Evaluation.{no_layer};

@@ -9,7 +9,7 @@ use thin_film_grammar::Film;
 
 // The first count of the places hold films. A count of 65 says that there are more than 64. The last
 // item is unit films long before its power, and opened has the count at each open bracket.
-#[derive(Drop)]
+#[derive(Clone, Copy)]
 pub struct Films {
     pub items: [Film; 64],
     pub count: usize,

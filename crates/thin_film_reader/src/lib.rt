@@ -1,5 +1,7 @@
 // The films that a text of the stack shorthand stands for: a machine that takes one byte after the
 // other, and the films so far beside it.
+#![tactic(auto)]
+
 ghost use Rattle.std.specs.Prelude.{◌≡◌};
 ghost use Rattle.refusal.specs.Outcome.{refusal};
 ghost use Rattle.thin_film_grammar.specs.Reading.{reading};

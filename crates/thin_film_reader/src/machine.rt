@@ -6,7 +6,7 @@ ghost use Rattle.thin_film_reader.specs.InternalMachine.{view, small_step, space
 // Stop: no text of the grammar goes on so. Ready: an item may follow. Atom: a power may follow too.
 // Number1, Number2: after the digits of a multiplier, Gap: and a space. Caret: after ^. Power1,
 // Power2: after the digits of a power.
-#[derive(Drop)]
+#[derive(Clone, Copy)]
 pub enum Phase {
     Stop,
     Ready,
@@ -21,7 +21,7 @@ pub enum Phase {
 
 // How many brackets are open, whether anything stands behind the last of them, and the number of the
 // phases that have one.
-#[derive(Drop)]
+#[derive(Clone, Copy)]
 pub struct Machine {
     pub phase: Phase,
     pub number: u8,

@@ -1,4 +1,6 @@
 // The stack shorthand of coating makers: (HL)^7 H is fifteen quarter waves.
+#![tactic(auto)]
+
 ghost use Rattle.std.specs.Prelude.{◌≡◌, map, ◌≤◌, length, take};
 ghost use Rattle.refusal.specs.Outcome.{refused};
 ghost use Rattle.thin_film_coating.specs.Coating.{layers_in};
@@ -11,7 +13,7 @@ use thin_film_solver::ThinFilmLayer;
 
 // The layers of a text, from the incident medium to the substrate. Where the refusal's number is not 0
 // there are none.
-#[derive(Drop)]
+#[derive(Clone, Copy)]
 pub struct Stacked {
     pub refusal: Refusal,
     pub layers: Layers,

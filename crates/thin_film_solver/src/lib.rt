@@ -2,6 +2,8 @@
 //
 // Whoever has layers, in a list, by index or in a sheet, begins with two identity matrices, takes
 // step_s and step_p for each layer, from the incident medium to the substrate, and calls finish.
+#![tactic(auto)]
+
 ghost use Rattle.std.specs.Prelude.{◌≡◌};
 ghost use Rattle.thin_film_solver.specs.Solve.{cos_theta_sub, solve, respond, no_response, unpolarized_reflectance, unpolarized_transmittance, dielectric};
 ghost use Rattle.thin_film_solver.specs.Absorptance.{absorptance};
@@ -13,7 +15,7 @@ use thin_film_matrix::Phase;
 // ---- layers and responses
 
 // One isotropic layer: refractive index n, extinction coefficient k, thickness in nanometres.
-#[derive(Drop)]
+#[derive(Clone, Copy)]
 pub struct ThinFilmLayer {
     pub n: f64,
     pub k: f64,
@@ -41,7 +43,7 @@ impl ThinFilmLayer {
 }
 
 // Amplitudes, powers and phases of a coating at one wavelength and angle, and what stays in the glass.
-#[derive(Drop)]
+#[derive(Clone, Copy)]
 pub struct CoatingResponse {
     pub rs: Complex,
     pub rp: Complex,
@@ -75,7 +77,7 @@ impl CoatingResponse {
 
 // What the two media, the angle and the wavelength fix before any layer is read. snell is
 // n_incident * sin_theta0.
-#[derive(Drop)]
+#[derive(Clone, Copy)]
 pub struct Incidence {
     pub n_incident: f64,
     pub n_substrate: f64,
@@ -105,7 +107,7 @@ impl Incidence {
 }
 
 // What both matrices of a layer are made of.
-#[derive(Drop)]
+#[derive(Clone, Copy)]
 pub struct Terms {
     pub phase: Phase,
     pub eta_s: Complex,
@@ -164,7 +166,7 @@ pub fn step_p(mp: [[Complex; 2]; 2], terms: Terms) -> [[Complex; 2]; 2]
 // ---- the answers
 
 // The answers for one polarization.
-#[derive(Drop)]
+#[derive(Clone, Copy)]
 pub struct Polarized {
     pub r: Complex,
     pub t: Complex,

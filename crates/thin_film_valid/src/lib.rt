@@ -1,5 +1,7 @@
 // What an evaluation asks and answers before any layer is read: the tests of its numbers, and the
 // responses of the ideal coatings.
+#![tactic(auto)]
+
 ghost use Rattle.std.specs.Prelude.{◌≡◌};
 ghost use Rattle.thin_film_valid.specs.Valid.{valid};
 ghost use Rattle.thin_film_valid.specs.Ideal.{ideal_ar, mirrored, ideal_mirror, ideal_beamsplitter};

@@ -1,5 +1,7 @@
 // The program `train` of document 01: a sheet on standard input; s and p after each surface, and their
 // sum, on standard output. What is printed is the text of the crate `train_text`.
+#![tactic(auto)]
+
 use train_text::Printed;
 
 // No text is longer than 4096 bytes, so that none is refused.

@@ -1,5 +1,7 @@
 // The train of document 01, section 7, and of document 02, slip 5: start, step, retune and whole run. Each is
 // handed the sheet's bytes and gates them anew.
+#![tactic(auto)]
+
 ghost use Rattle.std.specs.Prelude.{◌≡◌, ◌++◌, ◌+◌, ◌*◌, ◌≤◌, ◌<◌, length, drop};
 ghost use Rattle.refusal.specs.Outcome.{answer};
 ghost use Rattle.sheet.specs.Sheet.{Sheet};
@@ -21,7 +23,7 @@ use surface::Powers;
 // ---- a surface
 
 // The powers of a surface that s and p are multiplied by.
-#[derive(Drop)]
+#[derive(Clone, Copy)]
 pub struct Chosen {
     pub s: f64,
     pub p: f64,
@@ -79,7 +81,7 @@ fn chosen_with(src: &[u8], at: usize, n: usize, wavelength_nm: f64, theta: SinCo
 // ---- the train
 
 // Document 01's State: surfaces done, s and p; and the wavelength that is held.
-#[derive(Drop)]
+#[derive(Clone, Copy)]
 pub struct State {
     pub done: u32,
     pub s: f64,
@@ -94,7 +96,7 @@ pub fn sum(s: f64, p: f64) -> f64
 }
 
 // A train's state, or a refusal.
-#[derive(Drop)]
+#[derive(Clone, Copy)]
 pub enum TrainReply {
     State(State),
     Refused(Refusal),
@@ -273,7 +275,7 @@ pub fn run_at(src: &[u8], count: u32, wavelength_nm: f64) -> State
 
 // A run over the whole sheet from its start: s, p after each surface go to the lent list.
 pub fn run(src: &[u8], list: &mut [f64]) -> Gated
-    ensures* { λ r. ⌜ record { result = Gate.outcome r; list = list.new } ≡ run src.now list.old ⌝ }
+    ensures { record { result = Gate.outcome result; list = list.new } ≡ run src.now list.old }
 {
     let mut begins = [1usize; 64];
     let mut counts = [1usize; 64];

@@ -1,4 +1,6 @@
 // What the program `train` prints of a sheet (document 01, 'Known answers'), written to a lent buffer.
+#![tactic(auto)]
+
 ghost use Rattle.std.specs.Prelude.{◌≡◌, ◌++◌, ◌+◌, ◌≤◌, ◌<◌, length, drop};
 ghost use Rattle.refusal.specs.Outcome.{answer};
 ghost use Rattle.sheet.specs.Sheet.{Sheet};
@@ -48,7 +50,7 @@ fn hex(w: u64) -> [u8; 16]
 }
 
 // The digits of a number, from a place on.
-#[derive(Drop)]
+#[derive(Clone, Copy)]
 struct Digits {
     digits: [u8; 20],
     from: usize,
@@ -220,7 +222,7 @@ fn copy(bytes: &[u8], buffer: &mut [u8])
 }
 
 // How many bytes were written, or a refusal: 8.
-#[derive(Drop)]
+#[derive(Clone, Copy)]
 pub enum Printed {
     Written(usize),
     Refused(Refusal),
@@ -229,7 +231,7 @@ pub enum Printed {
 // What `train` prints of a sheet, at the front of a buffer. A buffer that is too short is refused with
 // 8 and left as it is; 4096 bytes are enough for every sheet.
 pub fn train_text(src: &[u8], buffer: &mut [u8]) -> Printed
-    ensures* { λ r. ⌜ record { result = Text.outcome r; buffer = buffer.new } ≡ Text.written (Text.train_text src.now) buffer.old ⌝ }
+    ensures { record { result = Text.outcome result; buffer = buffer.new } ≡ Text.written (Text.train_text src.now) buffer.old }
 {
     let mut page = [0u8; 4096];
     let n = write_text(src, &mut page);

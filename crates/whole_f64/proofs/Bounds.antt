@@ -20,7 +20,7 @@ pub record Within (k b : ℕ) (x : Float) (z : ℤ) : Type 0 where
   pub most : nat_abs z ≤ b
 
 -- ---- sizes
-sum_size : (s t : Bool) (m n : ℕ) → nat_abs (signed s m +ℤ signed t n) ≤ m + n
+pub sum_size : (s t : Bool) (m n : ℕ) → nat_abs (signed s m +ℤ signed t n) ≤ m + n
 sum_size s t m n = go s t (ltb m n) (ltb→lt m n) (nltb→le m n)
   where
     less : (a m n : ℕ) → a ≡ m - n → a ≤ m + n

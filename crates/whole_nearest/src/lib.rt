@@ -1,1 +1,2 @@
 // The whole number nearest to a float, ties to even; no code.
+#![tactic(auto)]

@@ -1,0 +1,4 @@
+-- The claim.
+pub mod Claim
+pub mod Exists
+pub mod Known

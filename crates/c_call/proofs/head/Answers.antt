@@ -1,0 +1,8 @@
+-- `c_call::head` meets its contract. Assumes nothing.
+use Rattle.c_call.proofs.head.Goals as goal
+
+pub returns-then-a : goal.returns-then-a
+returns-then-a c = simp c.if-a.true
+
+pub returns-else-a : goal.returns-else-a
+returns-else-a c = simp c.if-a.false

@@ -1,0 +1,9 @@
+-- `c_layers::front_of` meets its contract. Assumes nothing.
+use borrow.Author.Rules.{rules}
+use Rattle.c_layers.proofs.front_of.Goals as goal
+
+pub returns-then-reversed : goal.returns-then-reversed
+returns-then-reversed c = simp c.if-reversed.true
+
+pub returns-else-reversed : goal.returns-else-reversed
+returns-else-reversed c = simp c.if-reversed.false

@@ -1,0 +1,33 @@
+-- `c_presets::place` meets its contract. Assumes nothing.
+use Prim.Native.Nat.{◌+◌, ◌*◌, ◌-◌}
+use lib.Dec.{lit<}
+use lib.ListN.{set}
+use lib.Seq.{lt-length-set}
+use Rattle.thin_film_presets.specs.Layers.{bragg_layers}
+use Rattle.c_stack.proofs.Flat.{Half, start, inside}
+use Rattle.c_presets.proofs.Mirror.{turn, ended}
+use borrow.Author.Rules.{rules}
+use Rattle.c_presets.proofs.place.Goals as goal
+
+pub loop-i-init : goal.loop-i-init
+loop-i-init c = start _ _ _
+
+pub bounds-list-i-in-loop-i : goal.bounds-list-i-in-loop-i
+bounds-list-i-in-loop-i c =
+    lt-length-set c.loop-i.list _ _
+    (inside _ _ _ _ c.loop-i.i 1 (lit< tt) c.requires.1 c.loop-i-test.true c.loop-i.invariant)
+
+pub bounds-list-i-in-loop-i-2 : goal.bounds-list-i-in-loop-i-2
+bounds-list-i-in-loop-i-2 c =
+    lt-length-set (set c.loop-i.list _ _) _ _
+    (lt-length-set c.loop-i.list _ _
+    (inside _ _ _ _ c.loop-i.i 2 (lit< tt) c.requires.1 c.loop-i-test.true c.loop-i.invariant))
+
+pub loop-i-preserved : goal.loop-i-preserved
+loop-i-preserved c = turn _ _ _ c.args.pairs _ c.loop-i.list c.loop-i.i _ c.requires.1 c.loop-i-test.true c.loop-i.invariant c.bragg-layer.ensures
+
+pub shape_of-list : goal.shape_of-list
+shape_of-list c = c.loop-i.invariant.long
+
+pub returns : goal.returns
+returns c = ended _ _ _ c.args.pairs _ _ _ c.loop-i-test.false c.loop-i.invariant

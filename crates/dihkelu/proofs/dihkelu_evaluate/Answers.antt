@@ -1,0 +1,28 @@
+-- `dihkelu::dihkelu_evaluate` meets its contract. Assumes nothing.
+use mathlib.Core.Path.{◌≡◌, sym, ap, ◌∙◌}
+use mathlib.Core.List.{List}
+use Prim.Native.Nat.{ℕ, ◌%◌, ◌^◌}
+use lib.Ieee.{Float}
+use borrow.Author.Rules.{rules}
+use Rattle.refusal.specs.declared.Refusal.{Refusal}
+use Rattle.refusal.specs.Outcome.{refused as refused-with}
+use Rattle.thin_film_layers.specs.Evaluation.{outcome}
+use Rattle.c_layers.specs.Evaluate.{evaluate}
+use Rattle.c_layers.proofs.Plain.{of_code}
+use Rattle.c_call.specs.Call.{done, packed, answered}
+use Rattle.c_call.specs.Layout.{evaluated}
+use Rattle.c_call.proofs.Returned.{sound_apart, refuses, answers}
+use Rattle.dihkelu.proofs.Places.{plain_sound}
+use Rattle.dihkelu.proofs.dihkelu_evaluate.Goals as goal
+
+refused : (code : ℕ) (design n_incident n_substrate angle wavelength : Float) (flat : List Float) (r : Refusal) (n : ℕ) (list : List Float)
+    → refused-with r ≡ evaluate code design n_incident n_substrate angle wavelength flat → n ≡ packed r.number (r.place % 2 ^ 32) → done n list ≡ answered evaluated (evaluate code design n_incident n_substrate angle wavelength flat) list
+refused code design n_incident n_substrate angle wavelength flat r n list e is =
+    let o = evaluate code design n_incident n_substrate angle wavelength flat in
+    refuses evaluated r _ n list e (sound_apart o (plain_sound o (of_code n_incident n_substrate angle wavelength code design flat))) is
+
+pub returns-in-Response : goal.returns-in-Response
+returns-in-Response c = answers evaluated _ _ _ _ (sym (ap outcome c.in-Response.is) ∙ c.evaluate-evaluation.ensures) c.put_response.ensures
+
+pub returns-in-Refused : goal.returns-in-Refused
+returns-in-Refused c = refused _ _ _ _ _ _ _ _ _ _ (sym (ap outcome c.in-Refused.is) ∙ c.evaluate-evaluation.ensures) c.packed.ensures

@@ -1,0 +1,22 @@
+-- `ieee_rem::left` meets its contract. The loop's invariant: r is m·2 ^ (d - k) % n. Assumes nothing.
+use mathlib.Core.Path.{◌≡◌}
+use Prim.Native.Nat.{◌-◌, ◌*◌, ◌%◌, ◌^◌, ◌≤◌, ◌<◌}
+use native.Mathlib.Nat.{mod-lt, le_refl}
+use native.Mathlib.Omega.{arith}
+use Rattle.ieee_rem.proofs.Steps.{started, eleven, ended}
+use Rattle.ieee_rem.proofs.left.Goals as goal
+
+pub loop-k-init : goal.loop-k-init
+loop-k-init c = (mod-lt c.args.m c.requires.0, le_refl c.args.d, started c.args.m c.args.n c.args.d)
+
+pub loop-k-preserved : goal.loop-k-preserved
+loop-k-preserved c = (
+  mod-lt (c.loop-k.r * 2048) c.requires.0,
+  omega arith,
+  eleven c.args.m c.args.n c.args.d c.loop-k.r c.loop-k.k c.loop-k.invariant.1 c.loop-k-test.true c.loop-k.invariant.2,
+)
+
+pub returns : goal.returns
+returns c =
+    ended c.args.m c.args.n c.args.d c.loop-k.r c.loop-k.k
+    c.loop-k.invariant.1 c.loop-k.invariant.0 c.requires.1 c.loop-k-test.false c.loop-k.invariant.2

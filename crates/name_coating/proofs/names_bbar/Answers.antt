@@ -1,0 +1,17 @@
+-- `name_coating::names_bbar` meets its contract. Assumes nothing.
+use mathlib.Core.Path.{sym}
+use Rattle.name_coating.specs.Name.{names_bbar}
+use borrow.Author.Rules.{rules}
+use Rattle.name_coating.proofs.names_bbar.Goals as goal
+
+pub returns-then-is : goal.returns-then-is
+unfolding names_bbar
+returns-then-is c = simp (sym c.is.ensures, c.if-is.true)
+
+pub returns-then-is-2 : goal.returns-then-is-2
+unfolding names_bbar
+returns-then-is-2 c = simp (sym c.is.ensures, sym c.is-2.ensures, c.if-is.false, c.if-is-2.true)
+
+pub returns : goal.returns
+unfolding names_bbar
+returns c = simp (c.contains.ensures, sym c.is.ensures, sym c.is-2.ensures, c.if-is.false, c.if-is-2.false)

@@ -1,0 +1,2 @@
+-- Whole numbers that differ by so much at most.
+pub mod Off

@@ -1,0 +1,4 @@
+-- One surface, a train, and the claim.
+pub mod Surface
+pub mod Train
+pub mod Claim

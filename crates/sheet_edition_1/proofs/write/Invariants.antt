@@ -1,0 +1,38 @@
+-- `sheet_edition_1::write` meets its contract. The loop's invariant: what comes of the blocks so far stands at the front. Assumes nothing.
+use mathlib.Core.Path.{◌≡◌, refl, sym, ap, ◌∙◌}
+use mathlib.Core.List.{List, ◌++◌}
+use Prim.Native.Nat.{ℕ, ◌+◌, ◌-◌, ◌*◌, ◌≤◌, ◌<◌}
+use native.Mathlib.Omega.{arith}
+use lib.ListN.{length, drop}
+use lib.Seq.{sets, length-sets}
+use lib.Ieee.{Float}
+use borrow.Author.Rules.{rules}
+use Rattle.refusal.specs.Outcome.{answer}
+use Rattle.sheet.specs.Words.{count}
+use Rattle.sheet.specs.Sheet.{Sheet, bytes, encode}
+use Rattle.sheet.specs.Internal.{next_place}
+use Rattle.sheet.proofs.WordBytes.{length_bytes}
+use Rattle.sheet.proofs.Stands.{Known}
+use Rattle.sheet_values.specs.declared.Beam.{Beam}
+use Rattle.sheet_values.specs.Values.{value}
+use Rattle.sheet_values.specs.Internal.{beam_at}
+use Rattle.sheet_values.proofs.Here.{beam_here}
+use Rattle.gate.specs.Gate.{gated}
+use Rattle.gate.proofs.Admitted.{gives}
+use Rattle.sheet_edition_1.specs.Edition.{translated}
+use Rattle.sheet_edition_1.specs.Internal.{new_size, new_words, Room}
+use Rattle.sheet_edition_1.proofs.NewBlocks.{less_left}
+use Rattle.sheet_edition_1.proofs.Walk.{all, one_on, Wrote, wrote_first, wrote_on, wrote_all}
+use Rattle.sheet_edition_1.proofs.write.Given as goal
+
+-- at the BEAM's wavelength
+pub record Before (src output₀ output : List ℕ) (w : Float) (at to : ℕ) : Type 0 where
+  pub long : length output ≡ length output₀
+  pub beam : (x : Sheet) → gated src ≡ answer x → w ≡ value x.wavelength
+  pub wrote : (x : Sheet) → gated src ≡ answer x → Wrote src output₀ output x at to
+
+abbrev pub invariant-loop-at : goal.invariant-loop-at
+invariant-loop-at l = Before l.src l.initial.output l.output l.wavelength_nm l.at l.to
+
+abbrev pub decreases-loop-at : goal.decreases-loop-at
+decreases-loop-at l = count l.src - l.at

@@ -1,0 +1,7 @@
+-- `train_text::sum_line` meets its contract. Assumes nothing.
+use Rattle.train_text.proofs.Pieces.{sum_is}
+use borrow.Author.Rules.{rules}
+use Rattle.train_text.proofs.sum_line.Goals as goal
+
+pub returns : goal.returns
+returns c = sum_is _ _ _ c.requires c.append-word.ensures c.sum.ensures c.append_bits-sum.ensures c.append.ensures
