@@ -17,7 +17,7 @@ use Rattle.math_trig.specs.Trig.{fold, second_fold, series, sin_div, cos_div, si
 use Rattle.math_trig.specs.Internal.{near_line}
 use Rattle.math_trig.proofs.Turns.{limit_mag}
 use Rattle.math_trig.proofs.TrigBounds.{fold_mag, second_fold_mag}
-use Rattle.math_waves.specs.Internal.{near, near_sin, near_cos, near_fold, near_square, step, quick_step, by_6, by_12, by_20, by_72, by_132, by_272, first_sin, last_sin, first_cos, last_cos, sin_steps, cos_steps, sin_end, cos_end, quick_sin, quick_cos}
+use Rattle.math_waves.specs.Internal.{near, near_sin, near_cos, near_fold, near_square, step, quick_step, by_6, by_12, by_20, by_72, first_sin, last_sin, first_cos, last_cos, sin_steps, cos_steps, sin_end, cos_end, quick_sin, quick_cos}
 use Rattle.math_waves.proofs.Sizes.{limited, folded}
 
 module _ (z : Float) (Z : In 0 0 5 1 z) where

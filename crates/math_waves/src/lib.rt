@@ -42,8 +42,7 @@ fn at_once(x: &[f64; 16], n: usize, sin: &mut [f64; 16], cos: &mut [f64; 16]) ->
     ensures { (result ≡ all_near x.now n) × (sin.new ≡ each_first near_sin x.now n sin.old) × (cos.new ≡ each_first near_cos x.now n cos.old) }
 {
     let mut all = true;
-    let mut i = 0;
-    while i < n {
+    for i in 0..n {
         let angle = x[i];
         let r = math_trig::near_line(angle);
         all = all & near(angle, r);
@@ -51,7 +50,6 @@ fn at_once(x: &[f64; 16], n: usize, sin: &mut [f64; 16], cos: &mut [f64; 16]) ->
         let p = math_trig::both_series(a * a);
         sin[i] = ieee::clamp(a * p.sin, -1.0, 1.0);
         cos[i] = turned(r, ieee::clamp(p.cos, -1.0, 1.0));
-        i += 1;
     }
     all
 }
@@ -62,8 +60,7 @@ fn folds(x: &[f64; 16], n: usize, r: &mut [f64; 16], a: &mut [f64; 16], z: &mut 
     ensures { (result ≡ all_near x.now n) × (r.new ≡ each_first near_line x.now n r.old) × (a.new ≡ each_first near_fold x.now n a.old) × (z.new ≡ each_first near_square x.now n z.old) }
 {
     let mut all = true;
-    let mut i = 0;
-    while i < n {
+    for i in 0..n {
         let angle = x[i];
         let rest = math_trig::near_line(angle);
         all = all & near(angle, rest);
@@ -71,7 +68,6 @@ fn folds(x: &[f64; 16], n: usize, r: &mut [f64; 16], a: &mut [f64; 16], z: &mut 
         r[i] = rest;
         a[i] = folded;
         z[i] = folded * folded;
-        i += 1;
     }
     all
 }
@@ -81,10 +77,8 @@ fn step(z: &[f64; 16], n: usize, c: f64, p: &mut [f64; 16])
     requires { n ≤ 16 }
     ensures { p.new ≡ stepped (step c) z.now n p.old }
 {
-    let mut i = 0;
-    while i < n {
+    for i in 0..n {
         p[i] = 1.0 - (p[i] * z[i]) / c;
-        i += 1;
     }
 }
 
@@ -93,10 +87,8 @@ fn quick_step(z: &[f64; 16], n: usize, a: f64, b: f64, y: f64, u: f64, p: &mut [
     requires { n ≤ 16 }
     ensures { p.new ≡ stepped (quick_step a b y u) z.now n p.old }
 {
-    let mut i = 0;
-    while i < n {
+    for i in 0..n {
         p[i] = 1.0 - ieee_quotient::quick(p[i] * z[i], a, b, y, u);
-        i += 1;
     }
 }
 
@@ -121,11 +113,9 @@ fn ends(
     requires { n ≤ 16 }
     ensures { (sin.new ≡ written (λ i. sin_end (at a.now i) (at s.now i)) n sin.old) × (cos.new ≡ written (λ i. cos_end (at r.now i) (at c.now i)) n cos.old) }
 {
-    let mut i = 0;
-    while i < n {
+    for i in 0..n {
         sin[i] = to_one(a[i] * s[i]);
         cos[i] = turned(r[i], to_one(c[i]));
-        i += 1;
     }
 }
 
@@ -186,12 +176,10 @@ fn one_by_one(x: &[f64; 16], n: usize, sin: &mut [f64; 16], cos: &mut [f64; 16])
     requires { n ≤ 16 }
     ensures { (sin.new ≡ each_first Trig.sin x.now n sin.old) × (cos.new ≡ each_first Trig.cos x.now n cos.old) }
 {
-    let mut i = 0;
-    while i < n {
+    for i in 0..n {
         let waves = math_trig::sin_cos(x[i]);
         sin[i] = waves.sin;
         cos[i] = waves.cos;
-        i += 1;
     }
 }
 

@@ -1,17 +1,11 @@
 -- `math_waves::at_once` meets its contract. Assumes nothing.
 use mathlib.Core.Path.{◌≡◌, refl, ap, ◌∙◌}
-use mathlib.Core.Bool.{Bool}
-use Prim.Native.Nat.{ℕ, ◌-◌, ◌≤◌}
-use native.Mathlib.Omega.{arith}
-use mathlib.Core.List.{List}
 use lib.Ieee.{Float, neg, of_bits}
-use borrow.Author.Rules.{rules}
 use Rattle.ieee.specs.Operators.{◌⊗◌}
 use Rattle.ieee.specs.Functions.{one, minus_one, clamp}
 use Rattle.math_trig.specs.declared.Series.{Series}
 use Rattle.math_trig.specs.Trig.{second_fold, series, sin_div, cos_div, sin_at, cos_at}
 use Rattle.math_trig.specs.Internal.{near_line}
-use Rattle.math_waves.specs.Waves.{each_first}
 use Rattle.math_waves.specs.Internal.{turned, all_near, near_sin, near_cos}
 use Rattle.math_waves.proofs.Written.{written_none, written_more}
 use Rattle.math_waves.proofs.Sizes.{more_near}
@@ -28,14 +22,9 @@ module _ (x r a : Float) (p : Series) (er : r ≡ near_line x) (ea : a ≡ secon
   unfolding near_cos cos_at
   cos_here c t e f = f ∙ ap (turned r) (e ∙ ap (λ (q : Series). clamp q.cos minus_one one) ep ∙ ap cos_at ea) ∙ ap (λ (z : Float). turned z (cos_at (second_fold z))) er
 
--- all of them
-whole : (x : List Float) (i n : ℕ) → i ≡ n → (b : Bool) (s s₀ t t₀ : List Float) → b ≡ all_near x i → s ≡ each_first near_sin x i s₀ → t ≡ each_first near_cos x i t₀
-    → (b ≡ all_near x n) × (s ≡ each_first near_sin x n s₀) × (t ≡ each_first near_cos x n t₀)
-whole x i n e b s s₀ t t₀ f g h = (f ∙ ap (all_near x) e, g ∙ ap (λ (k : ℕ). each_first near_sin x k s₀) e, h ∙ ap (λ (k : ℕ). each_first near_cos x k t₀) e)
-
 pub loop-i-init : goal.loop-i-init
 unfolding all_near
-loop-i-init c = (omega arith, (refl, (written_none _ _, written_none _ _)))
+loop-i-init c = (refl, (written_none _ _, written_none _ _))
 
 pub loop-i-preserved : goal.loop-i-preserved
 unfolding of_bits neg
@@ -43,20 +32,10 @@ loop-i-preserved c =
     let line = c.near_line-r.ensures in
     let folds = c.second_fold-a.ensures in
     let both = c.both_series-p.ensures in
-    let w = c.loop-i.invariant.1 in (
-      omega (arith, c.loop-i-test.true),
+    let w = c.loop-i.invariant in (
+      more_near _ _ _ _ _ w.0 c.near-all.ensures line,
       (
-        more_near _ _ _ _ _ w.0 c.near-all.ensures line,
-        (
-          written_more _ _ _ _ _ w.1.0 (sin_here _ _ _ _ line folds both _ c.clamp.ensures),
-          written_more _ _ _ _ _ w.1.1 (cos_here _ _ _ _ line folds both _ _ c.clamp-in-loop-i.ensures c.turned.ensures),
-        ),
+        written_more _ _ _ _ _ w.1.0 (sin_here _ _ _ _ line folds both _ c.clamp.ensures),
+        written_more _ _ _ _ _ w.1.1 (cos_here _ _ _ _ line folds both _ _ c.clamp-in-loop-i.ensures c.turned.ensures),
       ),
     )
-
-pub returns : goal.returns
-returns c =
-    let e : c.loop-i.i ≡ c.args.n = omega arith in
-    let w = c.loop-i.invariant.1 in
-    let a = c.args in
-    whole a.x.now _ _ e _ _ a.sin.now _ a.cos.now w.0 w.1.0 w.1.1

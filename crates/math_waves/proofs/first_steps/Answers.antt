@@ -1,6 +1,5 @@
 -- `math_waves::first_steps` meets its contract. Assumes nothing.
 use lib.Ieee.{Float, of_int, of_bits}
-use borrow.Author.Rules.{rules}
 use Rattle.ieee_quotient.specs.Quick.{whole}
 use Rattle.math_waves.specs.Internal.{step, by_272, first_sin, first_cos}
 use Rattle.math_waves.proofs.Steps.{after, and_then}

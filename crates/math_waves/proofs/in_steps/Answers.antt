@@ -5,7 +5,6 @@ use native.Mathlib.Nat.{lt_of_lt_of_le}
 use mathlib.Core.List.{List}
 use lib.ListN.{length, replicate, length-replicate, get_or-replicate}
 use lib.Ieee.{Float, nan}
-use borrow.Author.Rules.{rules}
 use Rattle.ieee.specs.Functions.{one}
 use Rattle.math_trig.specs.Internal.{near_line}
 use Rattle.math_waves.specs.Waves.{written, each_first}

@@ -1,6 +1,5 @@
 -- `math_waves::last_steps` meets its contract. Assumes nothing.
 use lib.Ieee.{Float, of_int, of_bits}
-use borrow.Author.Rules.{rules}
 use Rattle.ieee_quotient.specs.Quick.{whole}
 use Rattle.math_waves.specs.Internal.{step, by_132, by_72, by_20, by_12, by_6, last_sin, last_cos}
 use Rattle.math_waves.proofs.Steps.{after, and_then}

@@ -1,25 +1,19 @@
 -- `math_waves::quick_step` meets its contract. Assumes nothing.
-use mathlib.Core.Path.{◌≡◌, ap}
-use Prim.Native.Nat.{◌-◌, ◌≤◌}
-use native.Mathlib.Omega.{arith}
+use mathlib.Core.Path.{ap}
 use lib.Ieee.{Float}
-use borrow.Author.Rules.{rules}
 use Rattle.ieee.specs.Operators.{◌⊖◌}
 use Rattle.ieee.specs.Functions.{one}
-use Rattle.math_waves.specs.Internal.{quick_step, stepped}
-use Rattle.math_waves.proofs.Written.{written_none, written_all}
+use Rattle.math_waves.specs.Internal.{quick_step}
+use Rattle.math_waves.proofs.Written.{written_none}
 use Rattle.math_waves.proofs.Steps.{stepped_more}
 use Rattle.math_waves.proofs.quick_step.Goals as goal
 
 pub loop-i-init : goal.loop-i-init
-loop-i-init c = (omega arith, written_none _ _)
+loop-i-init c = written_none _ _
 
 pub loop-i-preserved : goal.loop-i-preserved
 unfolding quick_step
 loop-i-preserved c =
     let l = c.loop-i in
     let a = c.args in
-    (omega (arith, c.loop-i-test.true), stepped_more (quick_step a.a a.b a.y a.u) a.z.now l.p a.p.now l.i _ l.invariant.1 (ap (λ (v : Float). one ⊖ v) c.quick.ensures))
-
-pub returns : goal.returns
-returns c = let e : c.loop-i.i ≡ c.args.n = omega arith in written_all _ _ _ _ _ e c.loop-i.invariant.1
+    stepped_more (quick_step a.a a.b a.y a.u) a.z.now l.p a.p.now l.i _ l.invariant (ap (λ (v : Float). one ⊖ v) c.quick.ensures)

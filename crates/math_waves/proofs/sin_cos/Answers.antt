@@ -1,8 +1,7 @@
 -- `math_waves::sin_cos` meets its contract. Assumes nothing.
 use mathlib.Core.Path.{◌≡◌, refl, sym, ap, ◌∙◌}
-use mathlib.Core.Logic.{⊎_elim}
 use mathlib.Core.Bool.{Bool, true, false, not, true≢false}
-use Prim.Native.Nat.{ℕ, ◌≤◌, ◌<◌}
+use Prim.Native.Nat.{ℕ, ◌<◌}
 use native.Mathlib.Omega.{arith}
 use mathlib.Core.List.{List}
 use lib.Dec.{T}
@@ -47,46 +46,38 @@ steps_sin x t = quick_sin_is x t ∙ sin_near x t
 steps_cos : (x : Float) → T (near x (near_line x)) → quick_cos x ≡ Trig.cos x
 steps_cos x t = quick_cos_is x t ∙ cos_near x t
 
-pub in_steps-requires : goal.in_steps-requires
-in_steps-requires c = ((let it : (c.if-n-lt16.few ≤ 16) × (c.if-n-lt16.few ≡ at_most_16 c.args.n) = elim c.if-n-lt16.branch [ then-n-lt16 w ↦ (omega arith, omega arith) | else-n-lt16 w ↦ (omega arith, omega arith) ] in it)).0
-
-pub one_by_one-requires : goal.one_by_one-requires
-one_by_one-requires c = ((let it : (c.if-n-lt16.few ≤ 16) × (c.if-n-lt16.few ≡ at_most_16 c.args.n) = elim c.if-n-lt16.branch [ then-n-lt16 w ↦ (omega arith, omega arith) | else-n-lt16 w ↦ (omega arith, omega arith) ] in it)).0
-
-pub at_once-requires : goal.at_once-requires
-at_once-requires c = ((let it : (c.if-n-lt16.few ≤ 16) × (c.if-n-lt16.few ≡ at_most_16 c.args.n) = elim c.if-n-lt16.branch [ then-n-lt16 w ↦ (omega arith, omega arith) | else-n-lt16 w ↦ (omega arith, omega arith) ] in it)).0
-
-pub one_by_one-requires-then-not-at_once : goal.one_by_one-requires-then-not-at_once
-one_by_one-requires-then-not-at_once c = ((let it : (c.if-n-lt16.few ≤ 16) × (c.if-n-lt16.few ≡ at_most_16 c.args.n) = elim c.if-n-lt16.branch [ then-n-lt16 w ↦ (omega arith, omega arith) | else-n-lt16 w ↦ (omega arith, omega arith) ] in it)).0
-
 pub returns-then-not-in_steps : goal.returns-then-not-in_steps
 returns-then-not-in_steps c =
     let a = c.args in
+    let few : c.if-n-lt16.few ≡ at_most_16 a.n = elim c.if-n-lt16.branch [ then-n-lt16 w ↦ omega arith | else-n-lt16 w ↦ omega arith ] in
     let r = c.in_steps.ensures in (
-      then_slow a.x.now a.n _ ((let it : (c.if-n-lt16.few ≤ 16) × (c.if-n-lt16.few ≡ at_most_16 c.args.n) = elim c.if-n-lt16.branch [ then-n-lt16 w ↦ (omega arith, omega arith) | else-n-lt16 w ↦ (omega arith, omega arith) ] in it)).1 quick_sin Trig.sin _ r.0 a.sin.now _ r.1 _ c.one_by_one.ensures.0,
-      then_slow a.x.now a.n _ ((let it : (c.if-n-lt16.few ≤ 16) × (c.if-n-lt16.few ≡ at_most_16 c.args.n) = elim c.if-n-lt16.branch [ then-n-lt16 w ↦ (omega arith, omega arith) | else-n-lt16 w ↦ (omega arith, omega arith) ] in it)).1 quick_cos Trig.cos _ r.0 a.cos.now _ r.2 _ c.one_by_one.ensures.1,
+      then_slow a.x.now a.n _ few quick_sin Trig.sin _ r.0 a.sin.now _ r.1 _ c.one_by_one.ensures.0,
+      then_slow a.x.now a.n _ few quick_cos Trig.cos _ r.0 a.cos.now _ r.2 _ c.one_by_one.ensures.1,
     )
 
 pub returns-else-not-in_steps : goal.returns-else-not-in_steps
 returns-else-not-in_steps c =
     let a = c.args in
+    let few : c.if-n-lt16.few ≡ at_most_16 a.n = elim c.if-n-lt16.branch [ then-n-lt16 w ↦ omega arith | else-n-lt16 w ↦ omega arith ] in
     let r = c.in_steps.ensures in (
-      then_quick a.x.now a.n _ ((let it : (c.if-n-lt16.few ≤ 16) × (c.if-n-lt16.few ≡ at_most_16 c.args.n) = elim c.if-n-lt16.branch [ then-n-lt16 w ↦ (omega arith, omega arith) | else-n-lt16 w ↦ (omega arith, omega arith) ] in it)).1 quick_sin Trig.sin _ r.0 a.sin.now _ r.1 (λ k. steps_sin _) (ap not c.if-not-in_steps.false),
-      then_quick a.x.now a.n _ ((let it : (c.if-n-lt16.few ≤ 16) × (c.if-n-lt16.few ≡ at_most_16 c.args.n) = elim c.if-n-lt16.branch [ then-n-lt16 w ↦ (omega arith, omega arith) | else-n-lt16 w ↦ (omega arith, omega arith) ] in it)).1 quick_cos Trig.cos _ r.0 a.cos.now _ r.2 (λ k. steps_cos _) (ap not c.if-not-in_steps.false),
+      then_quick a.x.now a.n _ few quick_sin Trig.sin _ r.0 a.sin.now _ r.1 (λ k. steps_sin _) (ap not c.if-not-in_steps.false),
+      then_quick a.x.now a.n _ few quick_cos Trig.cos _ r.0 a.cos.now _ r.2 (λ k. steps_cos _) (ap not c.if-not-in_steps.false),
     )
 
 pub returns-then-not-at_once : goal.returns-then-not-at_once
 returns-then-not-at_once c =
     let a = c.args in
+    let few : c.if-n-lt16.few ≡ at_most_16 a.n = elim c.if-n-lt16.branch [ then-n-lt16 w ↦ omega arith | else-n-lt16 w ↦ omega arith ] in
     let r = c.at_once.ensures in (
-      then_slow a.x.now a.n _ ((let it : (c.if-n-lt16.few ≤ 16) × (c.if-n-lt16.few ≡ at_most_16 c.args.n) = elim c.if-n-lt16.branch [ then-n-lt16 w ↦ (omega arith, omega arith) | else-n-lt16 w ↦ (omega arith, omega arith) ] in it)).1 near_sin Trig.sin _ r.0 a.sin.now _ r.1 _ c.one_by_one-then-not-at_once.ensures.0,
-      then_slow a.x.now a.n _ ((let it : (c.if-n-lt16.few ≤ 16) × (c.if-n-lt16.few ≡ at_most_16 c.args.n) = elim c.if-n-lt16.branch [ then-n-lt16 w ↦ (omega arith, omega arith) | else-n-lt16 w ↦ (omega arith, omega arith) ] in it)).1 near_cos Trig.cos _ r.0 a.cos.now _ r.2 _ c.one_by_one-then-not-at_once.ensures.1,
+      then_slow a.x.now a.n _ few near_sin Trig.sin _ r.0 a.sin.now _ r.1 _ c.one_by_one-then-not-at_once.ensures.0,
+      then_slow a.x.now a.n _ few near_cos Trig.cos _ r.0 a.cos.now _ r.2 _ c.one_by_one-then-not-at_once.ensures.1,
     )
 
 pub returns-else-not-at_once : goal.returns-else-not-at_once
 returns-else-not-at_once c =
     let a = c.args in
+    let few : c.if-n-lt16.few ≡ at_most_16 a.n = elim c.if-n-lt16.branch [ then-n-lt16 w ↦ omega arith | else-n-lt16 w ↦ omega arith ] in
     let r = c.at_once.ensures in (
-      then_quick a.x.now a.n _ ((let it : (c.if-n-lt16.few ≤ 16) × (c.if-n-lt16.few ≡ at_most_16 c.args.n) = elim c.if-n-lt16.branch [ then-n-lt16 w ↦ (omega arith, omega arith) | else-n-lt16 w ↦ (omega arith, omega arith) ] in it)).1 near_sin Trig.sin _ r.0 a.sin.now _ r.1 (λ k. sin_near _) (ap not c.if-not-at_once.false),
-      then_quick a.x.now a.n _ ((let it : (c.if-n-lt16.few ≤ 16) × (c.if-n-lt16.few ≡ at_most_16 c.args.n) = elim c.if-n-lt16.branch [ then-n-lt16 w ↦ (omega arith, omega arith) | else-n-lt16 w ↦ (omega arith, omega arith) ] in it)).1 near_cos Trig.cos _ r.0 a.cos.now _ r.2 (λ k. cos_near _) (ap not c.if-not-at_once.false),
+      then_quick a.x.now a.n _ few near_sin Trig.sin _ r.0 a.sin.now _ r.1 (λ k. sin_near _) (ap not c.if-not-at_once.false),
+      then_quick a.x.now a.n _ few near_cos Trig.cos _ r.0 a.cos.now _ r.2 (λ k. cos_near _) (ap not c.if-not-at_once.false),
     )

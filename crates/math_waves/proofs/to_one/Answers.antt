@@ -1,6 +1,5 @@
 -- `math_waves::to_one` meets its contract: -1 is not above 1. Assumes nothing.
 use mathlib.Core.Path.{◌≡◌, refl, sym, ap, ◌∙◌}
-use mathlib.Core.Logic.{⊎_elim}
 use mathlib.Core.Bool.{Bool, true, false, cond}
 use lib.Ieee.{Float, neg, lt, of_bits}
 use Rattle.ieee.specs.Functions.{one, minus_one, clamp}
