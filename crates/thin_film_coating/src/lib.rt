@@ -59,10 +59,8 @@ impl Coating {
         }
         let count = pairs * 2 + 1;
         let mut items = thin_film_presets::no_layers();
-        let mut i = 0;
-        while i < count {
+        for i in 0..count {
             items[i] = thin_film_presets::bragg(n_high, n_low, design_wavelength_nm, i);
-            i += 1;
         }
         Built {
             refusal: 0,
@@ -133,15 +131,13 @@ fn solve_places(
 {
     let mut ms = thin_film_matrix::identity();
     let mut mp = thin_film_matrix::identity();
-    let mut i = 0;
-    while i < count {
+    for i in 0..count {
         let j = thin_film_layers::nth_index(reversed, count, i);
         let terms = thin_film_solver::terms_of(light, items[j]);
         let next_s = thin_film_solver::step_s(ms, terms);
         let next_p = thin_film_solver::step_p(mp, terms);
         ms = next_s;
         mp = next_p;
-        i += 1;
     }
     thin_film_solver::finish(light, ms, mp)
 }

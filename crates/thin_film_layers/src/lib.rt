@@ -101,15 +101,13 @@ pub fn evaluate_list(layers: &[ThinFilmLayer], prepared: Prepared) -> Evaluation
     let n = read_count(prepared, layers.len());
     let mut ms = thin_film_matrix::identity();
     let mut mp = thin_film_matrix::identity();
-    let mut i = 0;
-    while i < n {
+    for i in 0..n {
         let j = read_index(prepared, n, i);
         let terms = read_terms(prepared, layers[j]);
         let next_s = thin_film_solver::step_s(ms, terms);
         let next_p = thin_film_solver::step_p(mp, terms);
         ms = next_s;
         mp = next_p;
-        i += 1;
     }
     conclude(prepared, ms, mp)
 }

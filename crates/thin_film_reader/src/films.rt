@@ -72,8 +72,7 @@ fn repeat(f: Films, more: usize) -> Films
     ensures { result ≡ repeated f more }
 {
     let mut films = f;
-    let mut left = more;
-    while 0 < left {
+    for _ in 0..more {
         let count = films.count;
         if count >= 64 {
             return over(films);
@@ -81,7 +80,6 @@ fn repeat(f: Films, more: usize) -> Films
         let items = films.items;
         let from = count - films.unit;
         films = push(films, items[from]);
-        left -= 1;
     }
     films
 }

@@ -66,18 +66,16 @@ pub fn read(text: &[u8]) -> Reading
     }
     let mut m = machine::begin();
     let mut f = films::no_films();
-    let mut i = 0;
-    while i < text.len() {
-        let next = machine::step(m, text[i]);
+    for (i, byte) in text.iter().enumerate() {
+        let next = machine::step(m, *byte);
         if machine::halted(next) {
             return refused(9, i);
         }
-        f = films::take(f, m, text[i]);
+        f = films::take(f, m, *byte);
         m = next;
-        i += 1;
     }
     if !machine::whole(m) {
-        return refused(9, i);
+        return refused(9, text.len());
     }
     counted(f)
 }

@@ -1,5 +1,8 @@
 -- `thin_film_reader::read` meets its contract. Assumes nothing.
-use mathlib.Core.Path.{sym, ap, ◌∙◌}
+use mathlib.Core.Path.{◌≡◌, sym, ap, ◌∙◌}
+use native.Mathlib.Omega.{arith}
+use lib.ListN.{length}
+use Rattle.refusal.specs.Outcome.{refusal}
 use Rattle.thin_film_reader.specs.Read.{handed}
 use Rattle.thin_film_reader.proofs.Reached as Reached
 use Rattle.thin_film_reader.proofs.Reached.{Reached}
@@ -24,7 +27,7 @@ pub loop-i-preserved : goal.loop-i-preserved
 loop-i-preserved c = (c.loop-i.invariant.0, Reached.next _ _ _ _ c.loop-i.invariant.1 c.loop-i-test.true _ c.step-next.ensures _ (sym c.halted.ensures ∙ c.if-halted.false) c.take-f.ensures)
 
 pub returns-then-not-whole : goal.returns-then-not-whole
-returns-then-not-whole c = c.refused-then-not-whole.ensures ∙ ap handed (Reached.early _ _ _ _ c.loop-i.invariant.1 c.loop-i-test.false (sym c.whole.ensures ∙ c.if-not-whole.true) ∙ sym (Reached.not_long _ c.loop-i.invariant.0))
+returns-then-not-whole c = c.refused-then-not-whole.ensures ∙ ap (λ n. handed (refusal 9 n)) (let e : length c.args.text.now ≡ c.loop-i.i = omega arith in e) ∙ ap handed (Reached.early _ _ _ _ c.loop-i.invariant.1 c.loop-i-test.false (sym c.whole.ensures ∙ c.if-not-whole.true) ∙ sym (Reached.not_long _ c.loop-i.invariant.0))
 
 pub returns : goal.returns
 returns c = c.counted.ensures ∙ Reached.counts _ _ _ _ c.loop-i.invariant.1 c.loop-i-test.false (sym c.whole.ensures ∙ c.if-not-whole.false) ∙ ap handed (sym (Reached.not_long _ c.loop-i.invariant.0))

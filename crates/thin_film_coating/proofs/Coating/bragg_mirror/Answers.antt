@@ -8,7 +8,6 @@ use lib.ListN.{length, get_or, set, replicate}
 use lib.Ieee.{Float}
 use lib.Seq.{paste}
 use borrow.Author.Tests.{lt-leb, le-leb}
-use borrow.Author.Rules.{rules}
 use Rattle.thin_film_solver.specs.declared.ThinFilmLayer.{ThinFilmLayer}
 use Rattle.thin_film_coating.specs.declared.Built.{Built}
 use Rattle.thin_film_coating.specs.declared.Coating.TheVariants as C
@@ -48,14 +47,8 @@ module _ (high low design : Float) (pairs : ℕ) where
 pub returns-then-pairs-gt31 : goal.returns-then-pairs-gt31
 returns-then-pairs-gt31 c = c.too_many.ensures ∙ simp (lt-leb _ _ c.if-pairs-gt31.true)
 
-pub loop-i-init : goal.loop-i-init
-loop-i-init c = (search rules, refl)
-
-pub bounds-items-i : goal.bounds-items-i
-bounds-items-i c = omega arith
-
 pub loop-i-preserved : goal.loop-i-preserved
-loop-i-preserved c = (search rules, turn _ _ _ _ _ _ _ _ c.no_layers-items.ensures (omega arith) c.loop-i-test.true c.loop-i.invariant.1 c.bragg.ensures)
+loop-i-preserved c = turn _ _ _ _ _ _ _ _ c.no_layers-items.ensures (omega arith) c.loop-i-test.true c.loop-i.invariant c.bragg.ensures
 
 pub returns : goal.returns
-returns c = whole _ _ _ _ _ _ c.loop-i.i c.no_layers-items.ensures (omega arith) (omega arith) c.loop-i.invariant.1
+returns c = whole _ _ _ _ _ _ c.loop-i.i c.no_layers-items.ensures (omega arith) (omega arith) c.loop-i.invariant
