@@ -8,7 +8,7 @@ use mathlib.Core.List.{List, [], ◌∷◌, ◌++◌, Memᴰ}
 use Prim.Native.Nat.{ℕ, zero, suc, ◌+◌, ◌-◌, ◌≤◌, ◌<◌}
 use native.Mathlib.Omega.{arith}
 use lib.Dec.{leb}
-use lib.ListN.{length, get_or, take, drop, replicate, length-append, length-drop, length-replicate, take-append-drop, get_or-append}
+use lib.ListN.{length, take, drop, replicate, length-append, length-drop, length-replicate, take-append-drop, get_or-append}
 use lib.Seq.{length-take-le, take_at, drop_at}
 use borrow.Author.Tests.{leb-true, leb-false, le-leb}
 use Rattle.sheet.specs.Blocks.{Block, Grammar, All, Word, GoodBlock, InGrammar, flat, starts, Result, read, fault, mapped, blocks_from}

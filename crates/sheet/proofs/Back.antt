@@ -3,17 +3,17 @@ use mathlib.Core.Path.{◌≡◌, refl, sym, ap, ◌∙◌, subst}
 use mathlib.Core.Bool.{Bool, true, false, cond}
 use mathlib.Core.Logic.{◌⊎◌, inl, inr, ⊎_elim}
 use mathlib.Core.List.{List, [], ◌∷◌}
-use Prim.Native.Nat.{ℕ, zero, suc, ◌+◌, ◌-◌, ◌*◌, ◌/◌, ◌^◌, ◌≤◌, ◌<◌}
+use Prim.Native.Nat.{ℕ, suc, ◌+◌, ◌-◌, ◌/◌, ◌≤◌, ◌<◌}
 use native.Mathlib.Nat.{zero-add, add-zero}
 use native.Mathlib.Omega.{arith}
 use lib.Dec.{eqb}
 use lib.ListN.{length}
 use borrow.Author.Tests.{eqb-true}
 use Rattle.sheet.specs.Words.{kind, payload}
-use Rattle.sheet.specs.Blocks.{Block, All, GoodBlock, InGrammar}
-use Rattle.sheet.specs.Sheet.{SheetLayer, layer, cauchy, keeps, tunes, SheetSurface, Sheet, Pattern, GoodLayer, GoodSurface, WellFormed, kind_word, block, layer_block, surface_block, tuned_blocks, layers_blocks, surfaces_blocks, end_block, blocks}
+use Rattle.sheet.specs.Blocks.{Block, All, GoodBlock}
+use Rattle.sheet.specs.Sheet.{SheetLayer, layer, cauchy, keeps, tunes, SheetSurface, Sheet, Pattern, GoodLayer, GoodSurface, WellFormed, kind_word, block, surface_block, layers_blocks, surfaces_blocks, end_block, blocks}
 use Rattle.sheet.specs.Read.{floats_after, Standing, at_open, at_beam, among, at_surface, ended, layers_after, may, after, may_end, sheet_grammar}
-use Rattle.sheet.proofs.KindWords.{Made, made_of, either, surface_facts, Comes, comes_surface, comes_layer, comes_cauchy, comes_tuning, comes_end, comes, after_surface, after_layer, after_tuning, after_end}
+use Rattle.sheet.proofs.KindWords.{made_of, either, surface_facts, Comes, comes_surface, comes_layer, comes_cauchy, comes_tuning, comes_end, comes, after_surface, after_layer, after_tuning, after_end}
 use Rattle.sheet.proofs.Forward.{In, small_edition}
 
 -- ---- what stands after BEAM, a SURFACE or a layer; and after a kind 7

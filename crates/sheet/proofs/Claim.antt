@@ -1,23 +1,22 @@
 -- The claim of the grammar, from the reader of any grammar and from sheets as blocks. Assumes nothing.
 use mathlib.Core.Path.{◌≡◌, refl, sym, ap, ◌∙◌, subst}
-use mathlib.Core.Bool.{true, false}
-use mathlib.Core.Logic.{◌⊎◌, inl, inr}
+use mathlib.Core.Logic.{inl, inr}
 use mathlib.Core.List.{List, [], ◌∷◌, ◌++◌, Memᴰ, append_assoc}
-use Prim.Native.Nat.{ℕ, zero, suc, ◌+◌, ◌*◌, ◌≤◌, ◌<◌}
+use Prim.Native.Nat.{ℕ, zero, suc, ◌+◌, ◌≤◌, ◌<◌}
 use native.Mathlib.Omega.{arith}
 use lib.Dec.{T}
 use lib.ListN.{length, get_or, length-append}
 use lib.Seq.{get_or_at}
 use Rattle.sheet.specs.Sheet.{bytes}
-use Rattle.sheet.specs.Words.{word, count, words_of}
-use Rattle.sheet.specs.Blocks.{Block, All, Word, InGrammar, flat, starts, Result, read, fault, mapped, blocks_from}
-use Rattle.sheet.specs.Sheet.{Sheet, WellFormed, blocks, words, encode, places}
-use Rattle.sheet.specs.Read.{Standing, at_open, sheet_grammar, sheet_of, decode, no_block}
+use Rattle.sheet.specs.Words.{count, words_of}
+use Rattle.sheet.specs.Blocks.{Block, flat, starts, Result, read, fault, mapped}
+use Rattle.sheet.specs.Sheet.{Sheet, WellFormed, blocks, words, encode}
+use Rattle.sheet.specs.Read.{at_open, sheet_grammar, sheet_of, decode, no_block}
 use Rattle.sheet.specs.Claim.{Bytes, length_fits, Agrees, OutOfGrammar, CutOff, Fault, GrammarClaim}
-use Rattle.sheet.proofs.Lists.{Same, starts_length}
+use Rattle.sheet.proofs.Lists.{starts_length}
 use Rattle.sheet.proofs.AnyGrammar.{Agree, Out, Cut, Outcome, whole, out, cut, walk, complete, starts_same}
 use Rattle.sheet.proofs.Forward.{In, sheet_in, Live, live_after, finish, sheet_of_blocks}
-use Rattle.sheet.proofs.Back.{Formed, formed}
+use Rattle.sheet.proofs.Back.{formed}
 use Rattle.sheet.proofs.Longest.{longest_one, longest_two}
 use Rattle.sheet.proofs.Measure.{words_of_length, words_of_at, words_of_good, words_of_bytes, bytes_words_of, flat_good, fits_count, encode_fits}
 

@@ -1,17 +1,16 @@
 -- The blocks of a well-formed sheet are in the grammar, and gathered again they are that sheet. Every standing that is reached can be brought to an end.
-use mathlib.Core.Path.{◌≡◌, refl, sym, ap, ◌∙◌, subst}
-use mathlib.Core.Bool.{Bool, true, false, cond}
-use mathlib.Core.Logic.{◌⊎◌, inl, inr, ⊎_elim}
+use mathlib.Core.Path.{◌≡◌, refl, sym, ◌∙◌, subst}
+use mathlib.Core.Bool.{true}
+use mathlib.Core.Logic.{◌⊎◌, inl, ⊎_elim}
 use mathlib.Core.List.{List, [], ◌∷◌}
-use Prim.Native.Nat.{ℕ, zero, suc, ◌+◌, ◌-◌, ◌*◌, ◌/◌, ◌^◌, ◌≤◌, ◌<◌}
+use Prim.Native.Nat.{ℕ, suc, ◌+◌, ◌-◌, ◌/◌, ◌^◌, ◌≤◌, ◌<◌}
 use native.Mathlib.Omega.{arith}
-use lib.Dec.{eqb}
 use lib.ListN.{length}
 use borrow.Author.Tests.{lt-ltb, eq-eqb}
-use Rattle.sheet.specs.Words.{kind, payload}
+use Rattle.sheet.specs.Words.{payload}
 use Rattle.sheet.specs.Blocks.{Block, All, InGrammar}
-use Rattle.sheet.specs.Sheet.{SheetLayer, layer, cauchy, Tuning, keeps, tunes, SheetSurface, no_surface, Sheet, GoodLayer, GoodTuning, GoodSurface, WellFormed, kind_word, block, layer_block, surface_block, tuned_blocks, layers_blocks, surfaces_blocks, end_block, blocks}
-use Rattle.sheet.specs.Read.{floats_after, raws, Standing, at_open, at_beam, among, at_surface, ended, layers_after, may, after, may_end, sheet_grammar, numbers, Rest, put, gathered, sheet_of}
+use Rattle.sheet.specs.Sheet.{SheetLayer, layer, cauchy, Tuning, keeps, tunes, SheetSurface, no_surface, Sheet, GoodLayer, GoodTuning, GoodSurface, WellFormed, kind_word, block, surface_block, tuned_blocks, layers_blocks, surfaces_blocks, end_block, blocks}
+use Rattle.sheet.specs.Read.{floats_after, Standing, at_open, at_beam, among, at_surface, ended, layers_after, may, after, may_end, sheet_grammar, Rest, put, gathered, sheet_of}
 use Rattle.sheet.proofs.KindWords.{numbers_raw, kind_of, payload_of, made_good, Comes, comes_surface, comes_layer, comes_cauchy, comes_tuning, comes_end, comes, after_surface, after_layer, after_tuning, after_end, may_surface, may_end_word}
 
 abbrev pub In : Standing → List Block → Type 0

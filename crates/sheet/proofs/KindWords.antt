@@ -3,15 +3,15 @@ use mathlib.Core.Path.{◌≡◌, refl, sym, ap, ◌∙◌}
 use mathlib.Core.Bool.{Bool, true, false, ◌&&◌, ◌||◌}
 use mathlib.Core.Logic.{◌⊎◌, inl, inr, ⊎_elim}
 use mathlib.Core.List.{List, [], ◌∷◌}
-use Prim.Native.Nat.{ℕ, zero, suc, ◌+◌, ◌-◌, ◌*◌, ◌/◌, ◌%◌, ◌^◌, ◌≤◌, ◌<◌}
+use Prim.Native.Nat.{ℕ, suc, ◌+◌, ◌-◌, ◌*◌, ◌/◌, ◌%◌, ◌^◌, ◌≤◌, ◌<◌}
 use native.Mathlib.Omega.{arith}
-use lib.Dec.{eqb, leb, ltb}
+use lib.Dec.{eqb, ltb}
 use lib.ListN.{length}
 use borrow.Author.Tests.{eqb-true, ltb-true, leb-true, lt-ltb, le-leb, eq-eqb, ne_eqb}
 use Rattle.sheet.specs.Words.{kind, payload}
 use Rattle.sheet.specs.Blocks.{Block, All, Word, GoodBlock}
 use Rattle.sheet.specs.Sheet.{Pattern, kind_word, raw_words, block}
-use Rattle.sheet.specs.Read.{floats_after, raws, Standing, among, at_surface, ended, layers_after, layer_kind, is_surface, is_layer, is_tuning, is_end, may, after, sheet_grammar, numbers}
+use Rattle.sheet.specs.Read.{floats_after, raws, among, at_surface, ended, layers_after, layer_kind, is_surface, is_layer, is_tuning, is_end, may, after, sheet_grammar, numbers}
 
 -- ---- floats and raw words
 pub numbers_raw : (fs : List ℕ) → numbers (raw_words fs) ≡ fs

@@ -3,10 +3,10 @@ use mathlib.Core.Path.{◌≡◌, refl}
 use mathlib.Core.Logic.{⊎_elim}
 use mathlib.Core.List.Memᴰ
 use mathlib.Core.List.{List, [], ◌∷◌, ◌++◌, Memᴰ}
-use Prim.Native.Nat.{ℕ, zero, suc, ◌+◌, ◌-◌, ◌≤◌, ◌<◌}
+use Prim.Native.Nat.{ℕ, zero, suc, ◌+◌, ◌≤◌, ◌<◌}
 use native.Mathlib.Omega.{arith}
 use lib.ListN.{length, get_or, take, drop, replicate}
-use Rattle.sheet.specs.Blocks.{Block, All, Word, flat, starts}
+use Rattle.sheet.specs.Blocks.{Block, All, Word, starts}
 
 abbrev pub Same : List ℕ → List ℕ → ℕ → Type 0
 Same xs ys n = (i : ℕ) → i < n → get_or xs i 0 ≡ get_or ys i 0

@@ -1,17 +1,17 @@
 -- The words of some bytes as a list, and how long a well-formed sheet is. Assumes nothing.
-use mathlib.Core.Path.{◌≡◌, refl, sym, ap, ◌∙◌}
+use mathlib.Core.Path.{◌≡◌, refl, sym, ◌∙◌}
 use mathlib.Core.Bool.{Bool, true, false, ◌&&◌, cond}
-use mathlib.Core.Logic.{◌⊎◌, inl, inr, ⊎_elim}
-use mathlib.Core.List.{List, [], ◌∷◌, ◌++◌}
-use Prim.Native.Nat.{ℕ, zero, suc, ◌+◌, ◌*◌, ◌/◌, ◌%◌, ◌^◌, ◌≤◌, ◌<◌}
+use mathlib.Core.Logic.{◌⊎◌, inl, inr}
+use mathlib.Core.List.{List, [], ◌∷◌}
+use Prim.Native.Nat.{ℕ, zero, suc, ◌+◌, ◌*◌, ◌/◌, ◌%◌, ◌^◌, ◌≤◌}
 use native.Mathlib.Omega.{arith}
-use lib.Dec.{T, eqb, leb, eqb→eq, leb→le}
+use lib.Dec.{T, eqb, leb, eqb→eq}
 use lib.ListN.{length, get_or, length-append}
 use borrow.Author.Tests.{le-ltb, eq-eqb, le-leb}
 use Rattle.sheet.specs.Sheet.{bytes}
 use Rattle.sheet.specs.Words.{word, count, big_endian, words_of}
-use Rattle.sheet.proofs.WordBytes.{Byte, word_first, word_next, length_bytes, bytes_bytes, word_bytes, bytes_of}
-use Rattle.sheet.specs.Blocks.{Block, All, Word, GoodBlock, InGrammar, flat}
+use Rattle.sheet.proofs.WordBytes.{word_first, word_next, length_bytes, bytes_bytes, word_bytes, bytes_of}
+use Rattle.sheet.specs.Blocks.{Block, All, Word, flat}
 use Rattle.sheet.specs.Sheet.{SheetLayer, layer, cauchy, Tuning, keeps, tunes, SheetSurface, Sheet, GoodLayer, GoodTuning, GoodSurface, WellFormed, kind_word, raw_words, layer_block, surface_block, tuned_blocks, layers_blocks, surfaces_blocks, end_block, blocks, words, encode}
 use Rattle.sheet.specs.Read.{Standing, at_open, sheet_grammar}
 use Rattle.sheet.specs.Claim.{Bytes, longest, length_fits}

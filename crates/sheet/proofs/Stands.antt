@@ -1,10 +1,10 @@
 -- Blocks that stand in some bytes from a place on: the one law that every walk over a sheet cites. Assumes nothing.
 use mathlib.Core.Path.{◌≡◌, refl, sym, ap, ◌∙◌, subst}
-use mathlib.Core.Bool.{Bool, true, false, cond}
+use mathlib.Core.Bool.{true, false}
 use mathlib.Core.List.{List, [], ◌∷◌, ◌++◌}
-use Prim.Native.Nat.{ℕ, zero, suc, ◌+◌, ◌-◌, ◌*◌, ◌/◌, ◌%◌, ◌^◌, ◌≤◌, ◌<◌}
+use Prim.Native.Nat.{ℕ, zero, suc, ◌+◌, ◌*◌, ◌^◌, ◌≤◌, ◌<◌}
 use native.Mathlib.Omega.{arith}
-use lib.Dec.{T, eqb, ltb}
+use lib.Dec.{T}
 use mir.Syntax.{w8}
 use mir.Val.{Fits}
 use lib.ListN.{length, get_or, drop, length-append, length-drop, get_or-append}
@@ -16,7 +16,7 @@ use Rattle.sheet.specs.Blocks.{Block, All, flat, read}
 use Rattle.sheet.specs.Sheet.{SheetLayer, layer, cauchy, Tuning, keeps, tunes, SheetSurface, no_surface, nth, Sheet, GoodSurface, WellFormed, raw_words, block, layer_block, surface_block, tuned_blocks, layers_blocks, surfaces_blocks, end_block, blocks, words, encode}
 use Rattle.sheet.specs.Read.{floats_after, raws, layer_kind, numbers, number, decode, at_open}
 use Rattle.sheet.specs.Claim.{Bytes, length_fits}
-use Rattle.sheet.specs.Internal.{next_place, place_on, layer_follows, or_none, layer_run, layer_at, tuning_at, surface_at, layers_at, onto, begin, place}
+use Rattle.sheet.specs.Internal.{next_place, place_on, layer_run, layer_at, tuning_at, surface_at, layers_at, onto, begin, place}
 use Rattle.sheet.proofs.KindWords.{numbers_raw, kind_of, payload_of, raw_length}
 use Rattle.sheet.proofs.Forward.{small_edition, sheet_in}
 use Rattle.sheet.proofs.Measure.{words_of_length, words_of_at, words_of_bytes, flat_good}

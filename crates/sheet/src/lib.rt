@@ -457,15 +457,13 @@ fn run_of(src: &[u8], at: usize, w: u32, size: usize, most: u32) -> u32
     ensures { result ≡ run_of w size most src.now at }
 {
     let mut place = at;
-    let mut n = 0;
-    while n < most {
+    for n in 0..most {
         if !stands_whole(src, place, w, size) {
             return n;
         }
         place = place + size;
-        n += 1;
     }
-    n
+    most
 }
 
 // One more where the kind word is a SURFACE's.
@@ -524,10 +522,8 @@ pub fn place_on(src: &[u8], at: usize, n: usize) -> usize
     ensures { result ≡ place_on src.now at n }
 {
     let mut place = at;
-    let mut i = 0;
-    while i < n {
+    for _ in 0..n {
         place = next_place(src, place);
-        i += 1;
     }
     place
 }
@@ -550,15 +546,14 @@ fn layer_follows(src: &[u8], at: usize) -> bool
 pub fn layers_on(src: &[u8], at: usize) -> LayerRun
     ensures { result ≡ layers_on src.now at }
 {
-    let mut n = 0;
     let mut place = next_place(src, at);
     if !layer_follows(src, at) {
         return LayerRun {
-            count: n,
+            count: 0,
             next: place,
         };
     }
-    while n < 16 {
+    for n in 0..16 {
         if !layer_kind(2, kind_at(src, place)) {
             return LayerRun {
                 count: n,
@@ -566,10 +561,9 @@ pub fn layers_on(src: &[u8], at: usize) -> LayerRun
             };
         }
         place = next_place(src, place);
-        n += 1;
     }
     LayerRun {
-        count: n,
+        count: 16,
         next: place,
     }
 }
@@ -605,10 +599,8 @@ pub fn begin_of(src: &[u8], n: u32) -> usize
     ensures { result ≡ begin src.now n }
 {
     let mut at = place_on(src, 0, 2);
-    let mut i = 0;
-    while i < n {
+    for _ in 0..n {
         at = after_layers(src, onto(src, at));
-        i += 1;
     }
     at
 }

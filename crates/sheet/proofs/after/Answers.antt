@@ -1,6 +1,5 @@
 -- `sheet::after` meets its contract. Assumes nothing.
 use native.Mathlib.Omega.{arith}
-use borrow.Author.Rules.{rules}
 use Rattle.sheet.proofs.Standings.{after_open, after_beam, under_64, one_may, after_three, after_seven, after_five, after_other, onto_64, after_onto, after_ended}
 use Rattle.sheet.proofs.after.Goals as goal
 

@@ -7,7 +7,6 @@ use borrow.Author.Tests.{le-ltb}
 use lib.Ieee.{Float, binary64, of_bits}
 use Rattle.ieee.specs.Functions.{of_words}
 use Rattle.sheet.specs.Words.{word, count, float}
-use borrow.Author.Rules.{rules}
 use Rattle.sheet.proofs.float_from.Goals as goal
 
 inside : (src : List ℕ) (at h l : ℕ) → h ≡ word src at → l ≡ word src (at + 1) → (r : Float) → r ≡ of_words h l → r ≡ of_bits binary64 (float src at)

@@ -3,7 +3,6 @@ use mathlib.Core.Path.{◌≡◌}
 use mathlib.Core.List.{List}
 use Prim.Native.Nat.{ℕ, ◌+◌, ◌≤◌}
 use native.Mathlib.Omega.{arith}
-use borrow.Author.Rules.{rules}
 use borrow.Author.Tests.{le-ltb}
 use lib.Ieee.{binary64, of_bits}
 use Rattle.sheet.specs.Words.{word, count, float}
@@ -18,21 +17,6 @@ past src at h = λ i. record { first = of_bits binary64 (none 1 i); second = of_
 
     none : (i : ℕ) → 0 ≡ float src (at + i)
     none i = unfold float word in simp (le-ltb (at + i) (count src) (omega arith), le-ltb (at + i + 1) (count src) (omega arith))
-
-pub float_in-requires : goal.float_in-requires
-float_in-requires c = omega arith
-
-pub float_in-requires-then-at-total : goal.float_in-requires-then-at-total
-float_in-requires-then-at-total c = omega arith
-
-pub float_in-requires-then-at-total-2 : goal.float_in-requires-then-at-total-2
-float_in-requires-then-at-total-2 c = omega arith
-
-pub returns-then-total-at-lt7 : goal.returns-then-total-at-lt7
-returns-then-total-at-lt7 c = c.floats_near_end.ensures
-
-pub returns-then-at-total : goal.returns-then-at-total
-returns-then-at-total c = cc
 
 pub returns : goal.returns
 returns c = past _ _ c.if-at-total.false

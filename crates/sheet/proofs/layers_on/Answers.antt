@@ -2,11 +2,10 @@
 use mathlib.Core.Path.{◌≡◌, refl, sym, ap, ◌∙◌}
 use mathlib.Core.Bool.{Bool, true, false, not}
 use mathlib.Core.List.{List}
-use Prim.Native.Nat.{ℕ, zero, suc, ◌+◌, ◌-◌, ◌≤◌, ◌<◌}
+use Prim.Native.Nat.{ℕ, zero, suc, ◌+◌, ◌-◌, ◌<◌}
 use native.Mathlib.Nat.{add-zero, zero-add}
 use native.Mathlib.Numerals.{add-one}
 use native.Mathlib.Omega.{arith}
-use borrow.Author.Rules.{rules}
 use borrow.Author.Tests.{not-true, not-false}
 use Rattle.sheet.specs.Words.{word, kind}
 use Rattle.sheet.specs.Read.{layer_kind}
@@ -22,11 +21,11 @@ further src (suc n) at = further src n (next_place src at)
 
 none_yet : (src : List ℕ) (at place : ℕ) → place ≡ next_place src at → Passed src at 0 place
 unfolding place_on
-none_yet src at place e = record { most = omega arith; there = e; run = zero-add _ }
+none_yet src at place e = record { there = e; run = zero-add _ }
 
 module _ (src : List ℕ) (at n place : ℕ) (p : Passed src at n place) where
-  ends : n ≡ layer_run 16 src at → record { count = n; next = place } ≡ layers_on src at
-  ends e = λ i. record { count = e i; next = (p.there ∙ ap (λ (k : ℕ). place_on src at (suc k)) e) i }
+  ends : (count : ℕ) → count ≡ n → n ≡ layer_run 16 src at → record { count = count; next = place } ≡ layers_on src at
+  ends count here e = λ i. record { count = (here ∙ e) i; next = (p.there ∙ ap (λ (k : ℕ). place_on src at (suc k)) e) i }
 
   module _ (lt : n < 16) (k : ℕ) (is : k ≡ kind (word src place)) (t : Bool) (can : t ≡ layer_kind 2 k) where
     fewer : 16 - n ≡ suc (16 - (n + 1))
@@ -38,7 +37,6 @@ module _ (src : List ℕ) (at n place : ℕ) (p : Passed src at n place) where
     more : not t ≡ false → (q : ℕ) → q ≡ next_place src place → Passed src at (n + 1) q
     unfolding layer_run
     more e q q-is = record {
-      most = omega arith;
       there = q-is ∙ ap (next_place src) p.there ∙ further src (suc n) at ∙ ap (λ (m : ℕ). place_on src at (suc m)) (sym (add-one n));
       run =
           ap (λ (m : ℕ). n + 1 + layer_run (16 - (n + 1)) src m) (ap (place_on src at) (add-one n) ∙ sym (further src n at))
@@ -53,9 +51,9 @@ module _ (src : List ℕ) (at n place : ℕ) (p : Passed src at n place) where
     unfolding layer_run
     last e = sym (add-zero n) ∙ (rw (fewer, follows, not-true t e) at p.run)
 
-  whole : 16 ≤ n → n ≡ layer_run 16 src at
+  whole : n ≡ 16 → n ≡ layer_run 16 src at
   unfolding layer_run
-  whole le = sym (add-zero n) ∙ ap (λ (m : ℕ). n + layer_run m src (place_on src at n)) (sym gone) ∙ p.run
+  whole e = sym (add-zero n) ∙ ap (λ (m : ℕ). n + layer_run m src (place_on src at n)) (sym gone) ∙ p.run
     where
       gone : 16 - n ≡ 0
       gone = omega arith
@@ -66,19 +64,16 @@ unfolding layer_run
 no_layer src at t can e = sym (rw (sym can ∙ not-true t e))
 
 pub returns-then-not-layer_follows : goal.returns-then-not-layer_follows
-returns-then-not-layer_follows c = ends _ _ _ _ (none_yet _ _ _ c.next_place-place.ensures) (no_layer _ _ _ c.layer_follows.ensures (ap not c.if-not-layer_follows.true))
+returns-then-not-layer_follows c = ends _ _ _ _ (none_yet _ _ _ c.next_place-place.ensures) _ refl (no_layer _ _ _ c.layer_follows.ensures (ap not c.if-not-layer_follows.true))
 
 pub loop-n-init : goal.loop-n-init
 loop-n-init c = none_yet _ _ _ c.next_place-place.ensures
 
 pub returns-then-not-layer_kind : goal.returns-then-not-layer_kind
-returns-then-not-layer_kind c = ends _ _ _ _ c.loop-n.invariant (last _ _ _ _ c.loop-n.invariant c.loop-n-test.true _ c.kind_at.ensures _ c.layer_kind.ensures (ap not c.if-not-layer_kind.true))
-
-pub loop-n-smaller : goal.loop-n-smaller
-loop-n-smaller c = omega arith
+returns-then-not-layer_kind c = ends _ _ _ _ c.loop-n.invariant _ refl (last _ _ _ _ c.loop-n.invariant c.loop-n-test.true _ c.kind_at.ensures _ c.layer_kind.ensures (ap not c.if-not-layer_kind.true))
 
 pub loop-n-preserved : goal.loop-n-preserved
 loop-n-preserved c = more _ _ _ _ c.loop-n.invariant c.loop-n-test.true _ c.kind_at.ensures _ c.layer_kind.ensures (ap not c.if-not-layer_kind.false) _ c.next_place-place-in-loop-n.ensures
 
 pub returns : goal.returns
-returns c = ends _ _ _ _ c.loop-n.invariant (whole _ _ _ _ c.loop-n.invariant c.loop-n-test.false)
+returns c = let e : c.loop-n.n ≡ 16 = omega arith in ends _ _ _ _ c.loop-n.invariant _ (sym e) (whole _ _ _ _ c.loop-n.invariant e)

@@ -1,6 +1,5 @@
 -- `sheet::may` meets its contract. Assumes nothing.
 use mathlib.Core.Path.{sym, ◌∙◌}
-use borrow.Author.Rules.{rules}
 use Rattle.sheet.proofs.Standings.{open_one, open_two, beam, may_one, may_two, may_three, may_four, may_onto, may_none}
 use Rattle.sheet.proofs.may.Goals as goal
 

@@ -2,8 +2,6 @@
 use mathlib.Core.Path.{◌≡◌}
 use mathlib.Core.List.{List}
 use Prim.Native.Nat.{ℕ, ◌≤◌}
-use native.Mathlib.Omega.{arith}
-use borrow.Author.Rules.{rules}
 use borrow.Author.Tests.{le-ltb}
 use Rattle.sheet.specs.Words.{count}
 use Rattle.sheet.specs.Internal.{next_place}
@@ -16,9 +14,6 @@ past src at le = rw (le-ltb at (count src) le)
 
 pub returns-then-at-src : goal.returns-then-at-src
 returns-then-at-src c = past _ _ c.if-at-src.true
-
-pub place_after-requires : goal.place_after-requires
-place_after-requires c = omega (arith, c.if-at-src.false)
 
 pub returns : goal.returns
 returns c = after_kind _ _ _ c.if-at-src.false c.kind_at.ensures _ c.place_after.ensures

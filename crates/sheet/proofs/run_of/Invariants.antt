@@ -1,24 +1,14 @@
 -- `sheet::run_of` meets its contract. The loop's invariant: the blocks passed, with those from here on, are all of them. Assumes nothing.
-use mathlib.Core.Path.{◌≡◌, refl, sym, ap, ◌∙◌}
-use mathlib.Core.Bool.{Bool, true, false, not}
+use mathlib.Core.Path.{◌≡◌}
 use mathlib.Core.List.{List}
-use Prim.Native.Nat.{ℕ, zero, suc, ◌+◌, ◌-◌, ◌≤◌, ◌<◌}
-use native.Mathlib.Nat.{add-zero, zero-add}
-use native.Mathlib.Omega.{arith}
-use borrow.Author.Rules.{rules}
-use borrow.Author.Tests.{not-true, not-false}
+use Prim.Native.Nat.{ℕ, ◌+◌, ◌-◌, ◌≤◌}
 use Rattle.sheet.specs.Words.{count}
-use Rattle.sheet.specs.Internal.{stands_whole, run_of}
-use Rattle.sheet.proofs.Whole.{whole}
+use Rattle.sheet.specs.Internal.{run_of}
 use Rattle.sheet.proofs.run_of.Given as goal
 
 pub record Passed (w size : ℕ) (src : List ℕ) (at most n place : ℕ) : Type 0 where
-  pub fewer : n ≤ most
   pub inside : place ≤ count src
   pub run : n + run_of w size (most - n) src place ≡ run_of w size most src at
 
 abbrev pub invariant-loop-n : goal.invariant-loop-n
 invariant-loop-n l = Passed l.w l.size l.src l.at l.most l.n l.place
-
-abbrev pub decreases-loop-n : goal.decreases-loop-n
-decreases-loop-n l = l.most - l.n

@@ -1,6 +1,5 @@
 -- `sheet::stands_whole` meets its contract. Assumes nothing.
 use native.Mathlib.Omega.{arith}
-use borrow.Author.Rules.{rules}
 use Rattle.sheet.proofs.Whole.{no_room, room}
 use Rattle.sheet.proofs.stands_whole.Goals as goal
 

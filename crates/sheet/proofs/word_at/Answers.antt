@@ -5,7 +5,6 @@ use Prim.Native.Nat.{ℕ, ◌+◌, ◌*◌, ◌≤◌, ◌<◌}
 use borrow.Author.Tests.{lt-ltb, le-ltb}
 use lib.ListN.{get_or}
 use Rattle.sheet.specs.Words.{count, big_endian, word}
-use borrow.Author.Rules.{rules}
 use Rattle.sheet.proofs.word_at.Goals as goal
 
 inside : (src : List ℕ) (i : ℕ) → i < count src → big_endian (get_or src (4 * i) 0) (get_or src (4 * i + 1) 0) (get_or src (4 * i + 2) 0) (get_or src (4 * i + 3) 0) ≡ word src i
