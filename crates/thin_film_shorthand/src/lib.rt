@@ -73,10 +73,8 @@ fn layers(
     ensures { result ≡ layers_in (map (layer n_h n_l n_m design_wavelength_nm) (take count films)) }
 {
     let mut items = thin_film_presets::no_layers();
-    let mut i = 0;
-    while i < count {
+    for i in 0..count {
         items[i] = layer(films[i], n_h, n_l, n_m, design_wavelength_nm);
-        i += 1;
     }
     Layers { items, count }
 }

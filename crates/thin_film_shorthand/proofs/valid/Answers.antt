@@ -1,10 +1,7 @@
 -- `thin_film_shorthand::valid` meets its contract. Assumes nothing.
-use mathlib.Core.Path.{◌≡◌, refl, sym, ap, ◌∙◌}
-use native.Mathlib.Omega.{arith}
+use mathlib.Core.Path.{◌≡◌, sym, ◌∙◌}
 use mathlib.Core.Bool.{Bool, true, false, ◌&&◌}
-use borrow.Author.Tests.{not-true, not-false}
 use Rattle.thin_film_shorthand.specs.Stack.{valid}
-use borrow.Author.Rules.{rules}
 use Rattle.thin_film_shorthand.proofs.valid.Goals as goal
 
 module _ (p q f w : Bool) where
@@ -20,29 +17,17 @@ module _ (p q f w : Bool) where
   last : p ≡ true → q ≡ true → f ≡ true → w ≡ p && q && f && w
   last a e g = simp (a, e, g)
 
-pub finite_positive-requires : goal.finite_positive-requires
-finite_positive-requires c = search rules
-
 pub returns-then-not-finite_positive : goal.returns-then-not-finite_positive
 unfolding valid
 returns-then-not-finite_positive c = first _ _ _ _ (sym c.finite_positive.ensures ∙ c.if-not-finite_positive.true)
-
-pub finite_positive-requires-2 : goal.finite_positive-requires-2
-finite_positive-requires-2 c = search rules
 
 pub returns-then-not-finite_positive-2 : goal.returns-then-not-finite_positive-2
 unfolding valid
 returns-then-not-finite_positive-2 c = second _ _ _ _ (sym c.finite_positive.ensures ∙ c.if-not-finite_positive.false) (sym c.finite_positive-2.ensures ∙ c.if-not-finite_positive-2.true)
 
-pub finite_positive-requires-3 : goal.finite_positive-requires-3
-finite_positive-requires-3 c = search rules
-
 pub returns-then-not-finite_positive-3 : goal.returns-then-not-finite_positive-3
 unfolding valid
 returns-then-not-finite_positive-3 c = third _ _ _ _ (sym c.finite_positive.ensures ∙ c.if-not-finite_positive.false) (sym c.finite_positive-2.ensures ∙ c.if-not-finite_positive-2.false) (sym c.finite_positive-3.ensures ∙ c.if-not-finite_positive-3.true)
-
-pub finite_positive-requires-4 : goal.finite_positive-requires-4
-finite_positive-requires-4 c = search rules
 
 pub returns : goal.returns
 unfolding valid
