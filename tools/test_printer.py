@@ -216,7 +216,7 @@ class Kept(unittest.TestCase):
         self.refused("Seq", {"Call": [{"Method": [{"Given": 0}, 1, {"types": [], "dicts": []}]}, [], at(0)]}, "Return")
         self.refused("Return", types=({"Int": 64}, {"Param": 0}))
         self.refused("Return", types=({"Float": 32}, {"Float": 32}))
-        self.refused("Return", bounds=[{"of": "core::ops::Fn"}])
+        self.assertEqual(self.printed(["std::f", self.code([self.U64], 0, "Return", bounds=[{"of": "core::ops::Fn"}])]), "")
 
 
 class Environment(unittest.TestCase):
@@ -224,24 +224,27 @@ class Environment(unittest.TestCase):
 
     def unit(self, operation):
         slots = listed([f"(local {t} valueLocal)" for t in (F64, F64)])
-        inner = f'(fn-def "std::inner" (fnItem 0 lnil 1 {slots} {seq(assign("0", operation), "return")}))'
-        call = f'(call (direct (fnRef "std::inner")) {listed([copy(1)])} {var(0)})'
-        outer = f'(fn-def "std::outer" (fnItem 0 lnil 1 {slots} {seq(call, "return")}))'
-        text = f'program {listed([inner, outer])} (fnRef "std::outer")'
-        return files.Unit(text, {}, {}, lambda functions: ["std::outer"])
+        inner = f'(fn-def "a::inner" (fnItem 0 lnil 1 {slots} {seq(assign("0", operation), "return")}))'
+        call = f'(call (direct (fnRef "a::inner")) {listed([copy(1)])} {var(0)})'
+        outer = f'(fn-def "a::outer" (fnItem 0 lnil 1 {slots} {seq(call, "return")}))'
+        text = f'program {listed([inner, outer])} (fnRef "a::outer")'
+        items = {name: source.Item([]) for name in ("a::inner", "a::outer")}
+        for item in items.values():
+            item.parameters = ["a"]
+        return files.Unit(text, items, {}, lambda functions: ["a::outer"])
 
     def test_reached_through_another_function(self):
         unit = self.unit(op2("floatMul", copy(1), copy(1)))
-        self.assertEqual(environment.working(unit.functions, files.called), {"std::inner", "std::outer"})
-        c = unit.print(emit.Types(unit.named, {}), lambda name: name == "std::outer")
-        self.assertIn("static double std_outer_body(double a) {", c)
-        self.assertIn("\ndouble std_outer(double a) {\n    double (*LOOKED_UP body)(double) = std_outer_body;\n    environment caller = environment_enter();", c)
+        self.assertEqual(environment.working(unit.functions, files.called), {"a::inner", "a::outer"})
+        c = unit.print(emit.Types(unit.named, {}), lambda name: name == "a::outer")
+        self.assertIn("static double a_outer_body(double a) {", c)
+        self.assertIn("\ndouble a_outer(double a) {\n    double (*LOOKED_UP body)(double) = a_outer_body;\n    environment caller = environment_enter();", c)
         self.assertIn("    double returned = body(a);\n    environment_leave(caller);\n    return returned;\n}", c)
 
     def test_none_is_reached(self):
         unit = self.unit(f"(rvOpd {copy(1)})")
         self.assertEqual(environment.working(unit.functions, files.called), set())
-        self.assertIn("\ndouble std_outer(double a) {\n    return std_inner(a);", unit.print(emit.Types(unit.named, {}), lambda name: name == "std::outer"))
+        self.assertIn("\ndouble a_outer(double a) {\n    return a_inner(a);", unit.print(emit.Types(unit.named, {}), lambda name: name == "a::outer"))
 
     def test_which_calls_set_none(self):
         c = (ROOT / "c" / "dihkelu.c").read_text()

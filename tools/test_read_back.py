@@ -361,7 +361,7 @@ typedef struct { double at[4]; } f64_x4;
 
 def same(rust, c):
     """Whether the functions of a source and of a C text are the same program."""
-    sources = lower.Sources([(("dihkelu",), rust)])
+    sources = lower.Sources([(("dihkelu",), rust), *lower.library()])
     printed = c_text.Program(c_text.parsed(c_text.prelude() + C_TYPES + c))
     try:
         for name, function in sources.reached().items():
@@ -379,6 +379,7 @@ class Forms(unittest.TestCase):
         self.assertEqual(rattle.read(text, "x"), [])
         item = rattle.read(text + "\n#[derive(Clone, Copy)]\npub struct A {\n    pub n: u64,\n}\n", "x")
         self.assertEqual(item, rattle.read("#[derive(Drop)]\nstruct A { n: u64 }", "x"))
+        self.assertEqual(item, rattle.read("#[derive(Debug, PartialEq, Eq)]\nstruct A { n: u64 }", "x"))
         self.assertEqual(rattle.read("use a::{B, c};\nuse d::E;\n", "x"), [("use", [["a", "B"], ["a", "c"]]), ("use", [["d", "E"]])])
         bare = rattle.read("fn f(a: u64) -> u64 { a }", "x")[0][:-1]
         clauses = "\n    requires low { a ≤ 9 }\n    ensures* { result ≡ a }\n    ensures { (λ r. {r}) }\n"
@@ -390,10 +391,127 @@ class Forms(unittest.TestCase):
             self.assertEqual(rattle.read(text, "x")[0][5], exported, text)
 
     def test_refused(self):
-        for text in ["#[derive(Debug)] struct A { n: u64 }", "#[derive(Drop)] fn f() { }", "#[no_mangle] fn f() { }", "#[unsafe(naked)] fn f() { }", "#![no_std]",
+        for text in ["#[derive(Hash)] struct A { n: u64 }", "#[derive(PartialOrd)] struct A { n: u64 }", "fn f(a: u64) -> u64 { (|x| x)(a) }", "#[derive(Drop)] fn f() { }", "#[no_mangle] fn f() { }", "#[unsafe(naked)] fn f() { }", "#![no_std]",
                      "#[derive(Drop)] #![tactic(auto)] struct A { n: u64 }", 'pub extern "C" fn f() { }', "#[test] fn f() { }", "trait A { }"]:
             with self.assertRaises(rattle.Unread, msg=text):
                 rattle.read(text, "x")
+
+
+RESULT = """typedef struct { enum { result_u32_dihkelu_E_Ok, result_u32_dihkelu_E_Err, } tag; union { uint32_t Ok; dihkelu_E Err; } as; } result_u32_dihkelu_E;
+static result_u32_dihkelu_E dihkelu_g(uint32_t a) { return (result_u32_dihkelu_E){.tag = result_u32_dihkelu_E_Ok, .as.Ok = a}; }
+"""
+C_E = "typedef enum { dihkelu_E_Low, dihkelu_E_High, } dihkelu_E;\n"
+RUST_E = "\nenum E { Low, High }\nfn g(a: u32) -> Result<u32, E> { Ok(a) }\n"
+OPTION = "typedef struct { enum { option_u64_None, option_u64_Some, } tag; union { uint64_t Some; } as; } option_u64;\n"
+
+
+class Today(unittest.TestCase):
+    """Loops with for, Option, Result, '?' and what a derive gives: what they are in C, and what they are not."""
+    HEAD = "pub fn dihkelu_f"
+
+    def both(self, rust, c, *wrong):
+        """The C is the source's program; with each of some edits it is not."""
+        self.assertTrue(same(self.HEAD + rust, c), c)
+        for was, put in wrong:
+            self.assertIn(was, c)
+            with self.subTest(put=put):
+                self.assertFalse(same(self.HEAD + rust, c.replace(was, put, 1)))
+
+    def test_for_over_numbers(self):
+        self.both("(n: u64) -> u64 { let mut s = 0; for i in 2..n { if i == 7 { continue; } if s > 9 { break; } s += i; } s }",
+                  "uint64_t dihkelu_f(uint64_t n) { uint64_t s = 0; uint64_t i = 2; while (i < n) { if (i == 7) { i = i + 1; continue; }"
+                  "if (9 < s) { break; } s = s + i; i = i + 1; } return s; }",
+                  ("{ i = i + 1; continue; }", "{ continue; }"), ("i = 2", "i = 1"), ("i < n", "i <= n"), ("s + i; i = i + 1", "s + i; i = i + 2"),
+                  ("s = s + i; i = i + 1;", "i = i + 1; s = s + i;"), ("break", "continue"))
+
+    def test_for_backwards(self):
+        self.both("(n: u64) -> u64 { for i in (3..n).rev() { if i % 5 == 0 { return i; } } n }",
+                  "uint64_t dihkelu_f(uint64_t n) { uint64_t i = n; while (3 < i) { i = i - 1; if (i % 5 == 0) { return i; } } return n; }",
+                  ("3 < i", "3 <= i"), ("i = n", "i = n - 1"), ("{ i = i - 1; if (i % 5 == 0) { return i; } }", "{ if (i % 5 == 0) { return i; } i = i - 1; }"))
+
+    def test_for_without_a_name(self):
+        self.both("(n: u64) -> u64 { let mut s = n; for _ in 0..5 { s = s / 2; } s }",
+                  "uint64_t dihkelu_f(uint64_t n) { uint64_t s = n; uint32_t k = 0; while (k < 5) { s = s / 2; k = k + 1; } return s; }",
+                  ("k < 5", "k < 6"), ("k = 0", "k = 1"), ("s / 2", "s / 3"))
+
+    def test_for_over_a_list(self):
+        c = ("double dihkelu_f(const double *a_at, size_t a_count) { slice_f64 a = {a_at, a_count}; double s = 0.0; uint64_t x_index = 0;"
+             "while (x_index < a.count) { double x = a.at[x_index]; s = s + x; x_index = x_index + 1; } return s; }")
+        wrong = (("x_index = 0", "x_index = 1"), ("x_index < a.count", "x_index < a.count - 1"), ("a.at[x_index]", "a.at[0]"), ("s + x", "x + s"),
+                 ("x_index + 1", "x_index + 2"))
+        for rust in ["for x in a { s += *x; }", "for &x in a { s += x; }", "for x in a.iter() { s += *x; }", "for (_, x) in a.iter().enumerate() { s += *x; }",
+                     "for (i, _) in a.iter().enumerate() { s += a[i]; }", "for i in 0..a.len() { s += a[i]; }"]:
+            self.both(f"(a: &[f64]) -> f64 {{ let mut s = 0.0; {rust} s }}", c, *wrong)
+
+    def test_for_over_an_array(self):
+        self.both("(b: f64) -> f64 { let a = [b; 4]; let mut s = 0.0; for x in &a { s += *x; } s }",
+                  "double dihkelu_f(double b) { f64_x4 a; for (size_t each = 0; each < 4; each++) { a.at[each] = b; } double s = 0.0; uint64_t i = 0;"
+                  "while (i < 4) { double x = a.at[i]; s = s + x; i = i + 1; } return s; }", ("i < 4", "i < 3"), ("i < 4", "i < 5"))
+
+    def test_for_over_places_and_elements(self):
+        self.both("(a: &[u64]) -> usize { for (i, x) in a.iter().enumerate() { if *x == 7 { return i; } } a.len() }",
+                  "typedef struct { const uint64_t *at; uint64_t count; } slice_u64;\n"
+                  "uint64_t dihkelu_f(const uint64_t *a_at, size_t a_count) { slice_u64 a = {a_at, a_count}; uint64_t i = 0;"
+                  "while (i < a.count) { uint64_t x = a.at[i]; if (x == 7) { return i; } i = i + 1; } return a.count; }",
+                  ("return i;", "return x;"), ("x == 7", "i == 7"))
+
+    def test_result(self):
+        rust = "(a: u32) -> u32 { match h(a) { Ok(x) => x, Err(E::Low) => 1, Err(E::High) => 2 } }\nfn h(a: u32) -> Result<u32, E> { let x = g(a)?; if x < 3 { return Err(E::Low); } g(x + 1) }" + RUST_E
+        c = C_E + RESULT + (
+            "static result_u32_dihkelu_E dihkelu_h(uint32_t a) { result_u32_dihkelu_E value = dihkelu_g(a);"
+            "if (value.tag == result_u32_dihkelu_E_Err) { return (result_u32_dihkelu_E){.tag = result_u32_dihkelu_E_Err, .as.Err = value.as.Err}; }"
+            "uint32_t x = value.as.Ok; if (x < 3) { return (result_u32_dihkelu_E){.tag = result_u32_dihkelu_E_Err, .as.Err = dihkelu_E_Low}; }"
+            "return dihkelu_g(x + 1); }"
+            "uint32_t dihkelu_f(uint32_t a) { result_u32_dihkelu_E value = dihkelu_h(a); if (value.tag == result_u32_dihkelu_E_Ok) { return value.as.Ok; }"
+            "if (value.as.Err == dihkelu_E_Low) { return 1; } return 2; }")
+        self.both(rust, c, (".as.Err = value.as.Err", ".as.Err = dihkelu_E_Low"), ("if (value.tag == result_u32_dihkelu_E_Err)", "if (value.tag == result_u32_dihkelu_E_Ok)"),
+                  (".tag = result_u32_dihkelu_E_Err, .as.Err = dihkelu_E_Low", ".tag = result_u32_dihkelu_E_Ok, .as.Ok = 0"), ("== dihkelu_E_Low", "== dihkelu_E_High"),
+                  ("return value.as.Ok;", "return a;"), ("dihkelu_g(x + 1)", "dihkelu_g(x)"), (".as.Err = dihkelu_E_Low", ".as.Err = dihkelu_E_High"))
+
+    def test_result_of_another_type(self):
+        c = C_E + RESULT + "uint32_t dihkelu_f(uint32_t a) { return dihkelu_g(a).as.Ok; }"
+        rust = "(a: u32) -> u32 { match g(a) { Ok(x) => x, Err(_) => 1 } }" + RUST_E
+        self.assertFalse(same(self.HEAD + rust, c))
+        for question in ["-> Option<u32> { Some(g(a)?) }", "-> u32 { g(a)? }", "-> Result<u32, u64> { Ok(g(a)?) }"]:
+            with self.assertRaises(rattle.Unread):
+                lower.Sources([(("dihkelu",), f"pub fn dihkelu_f(a: u32) {question}{RUST_E}"), *lower.library()]).reached()
+
+    def test_option(self):
+        find = "\nfn find(a: u64) -> Option<u64> { if a < 5 { return None; } Some(a) }\n"
+        c_find = OPTION + ("static option_u64 dihkelu_find(uint64_t a) { if (a < 5) { return (option_u64){.tag = option_u64_None}; }"
+                           "return (option_u64){.tag = option_u64_Some, .as.Some = a}; }\n")
+        left = "option_u64 value = dihkelu_find(a); if (value.tag == option_u64_None) { return 3; } uint64_t x = value.as.Some; return x; }"
+        for body, c, wrong in [
+            ("let Some(x) = find(a) else { return 3; }; x", left, (("return 3", "return 4"), ("== option_u64_None", "!= option_u64_None"), ("value.as.Some", "a"))),
+            ("if let Some(x) = find(a) { x } else { 3 }", left, (("return x", "return 3"),)),
+            ("find(a).unwrap_or(3)", left, (("return 3", "return 2"),)),
+            ("if find(a).is_none() { return 3; } a", "if (dihkelu_find(a).tag == option_u64_None) { return 3; } return a; }", (("_None", "_Some"), ("== ", "!= "))),
+            ("if matches!(find(a), Some(_)) { return 3; } a", "if (dihkelu_find(a).tag != option_u64_None) { return 3; } return a; }", (("!= ", "== "),)),
+            ("while let Some(x) = find(a) { return x; } 3", "while (true) { option_u64 value = dihkelu_find(a); if (value.tag == option_u64_None) { break; } "
+             "return value.as.Some; } return 3; }", (("break", "continue"), ("return value.as.Some", "return 3"))),
+            ("if next(a).is_some() { 1 } else { 2 }\n}\nfn next(a: u64) -> Option<u64> { let x = find(a)?; Some(x)", (
+                "if (dihkelu_next(a).tag == option_u64_Some) { return 1; } return 2; }"), ()),
+        ]:
+            c_next = ""
+            if "dihkelu_next" in c:
+                c_next = ("static option_u64 dihkelu_next(uint64_t a) { option_u64 value = dihkelu_find(a); if (value.tag == option_u64_None) {"
+                          "return (option_u64){.tag = option_u64_None}; } return (option_u64){.tag = option_u64_Some, .as.Some = value.as.Some}; }\n")
+            self.both("(a: u64) -> u64 { " + body + " }" + find, c_find + c_next + "uint64_t dihkelu_f(uint64_t a) { " + c, *wrong, ("a < 5", "a < 6"))
+
+    def test_equality(self):
+        rust = "(a: u64, b: u64) -> bool { let x = P { n: a, m: b }; x == P { n: b, m: a } }\n#[derive(PartialEq)] struct P { n: u64, m: u64 }"
+        c = ("typedef struct { uint64_t n; uint64_t m; } dihkelu_P;\nbool dihkelu_f(uint64_t a, uint64_t b) { dihkelu_P x = {.n = a, .m = b}; "
+             "return x.n == b && x.m == a; }")
+        self.both(rust, c, ("&& x.m == a", ""), ("&&", "||"), ("x.n == b", "x.n == a"), ("x.n == b && x.m == a", "x.m == a && x.n == b"))
+
+    def test_instances(self):
+        rust = ("(a: f64) -> f64 { let x = [a; 4]; last(&x, 2.0) }\n"
+                "fn last<T: Copy, const N: usize>(xs: &[T; N], other: T) -> T { let mut found = other; for i in 0..N { found = xs[i]; } found }")
+        c = ("static double dihkelu_last_f64_4(const f64_x4 *xs, double other) { double found = other; uint64_t i = 0;"
+             "while (i < 4) { found = xs->at[i]; i = i + 1; } return found; }\n"
+             "double dihkelu_f(double a) { f64_x4 x; for (size_t each = 0; each < 4; each++) { x.at[each] = a; } return dihkelu_last_f64_4(&x, 2.0); }")
+        self.both(rust, c, ("i < 4", "i < 3"), ("found = other", "found = 0.0"))
+        self.assertFalse(same(self.HEAD + rust, c.replace("last_f64_4", "last_f64_5")))
 
 
 class Small(unittest.TestCase):

@@ -1,7 +1,7 @@
 """C from functions of statements and expressions."""
 import struct
 
-from . import environment, fold
+from . import environment, fold, program, source, steady
 from .program import Unknown
 
 KEYWORDS = set(
@@ -21,11 +21,30 @@ BITWISE = {"shl", "shr", "and", "xor", "or"}
 UNARY, AND, OR = 14, 4, 3
 
 
+LIBRARY = {"std::option::Option": "option", "std::result::Result": "result", "(,)": "pair"}
+
+
 def identifier(name):
+    """C's name of a function or a type; that of an instance ends in its types and counts."""
+    name, _, rest = name.partition("<")
     parts = name.split("::")
     if parts[0] == "dihkelu" and parts[-1].startswith("dihkelu_"):
         return parts[-1]
-    return "_".join(parts)
+    return "_".join([LIBRARY.get(name) or "_".join(parts)] + [argument(a) for a in source.pieces(rest[:-1])])
+
+
+def argument(text):
+    """What an instance's name has for a type or a count."""
+    for begin, word in (("&mut [", "slice_mut_"), ("&[", "slice_"), ("&mut ", "ref_mut_"), ("&", "ref_"), ("[", "")):
+        if text.startswith(begin):
+            inner = text[len(begin) :]
+            if not begin.endswith("["):
+                return word + argument(inner)
+            if ";" not in inner[inner.rfind("]", 0, -1) + 1 :]:
+                return word + argument(inner[:-1])
+            kind, count = inner[:-1].rsplit(";", 1)
+            return f"{argument(kind)}_x{count}" if not word else f"{word}{argument(inner)}"
+    return "unit" if text == "()" else identifier(text)
 
 
 class Types:
@@ -38,10 +57,15 @@ class Types:
     def simple(self, name):
         """Whether a type is a plain enumeration: variants without anything in them."""
         kind, lists = self.named[name]
-        return kind == "variants" and not any(lists)
+        return kind == "variants" and not any(x != ("unit",) for types in lists for x in types)
+
+    def item(self, name):
+        """What the sources, or the language, say of a type."""
+        base = name.split("<")[0]
+        return self.items.get(base) or source.LIBRARY.get(base)
 
     def fields(self, name):
-        item = self.items.get(name)
+        item = self.item(name)
         kind, types = self.named[name]
         if item is None or len(item.names) != len(types):
             raise Unknown(f"the sources do not have the type {name} with {len(types)} parts")
@@ -81,8 +105,12 @@ class Types:
             text = ["typedef struct {", f"    {self.name(t[1])} at[{t[2] or 1}];", f"}} {name};"]
         elif kind == "named":
             name = identifier(t[1])
-            text = list(self.items[t[1]].comment)
             what, types = self.named[t[1]]
+            if self.item(t[1]) is None:
+                raise Unknown(f"the sources do not have the type {t[1]}")
+            text = list(self.item(t[1]).comment)
+            if name in self.names.values():
+                raise Unknown(f"two types are called {name}")
             if what == "fields":
                 text += ["typedef struct {"] + [f"    {self.declared(x, n)};" for x, n in zip(types, self.fields(t[1]))] + [f"}} {name};"]
             elif self.simple(t[1]):
@@ -90,6 +118,8 @@ class Types:
             else:
                 text += ["typedef struct {", "    enum {"] + [f"        {self.tag(t[1], i)}," for i in range(len(types))] + ["    } tag;", "    union {"]
                 for (label, names), parts in zip(self.fields(t[1]), types):
+                    if parts == [("unit",)]:
+                        continue
                     if len(parts) == 1:
                         text.append(f"        {self.declared(parts[0], label)};")
                     elif parts:
@@ -106,25 +136,6 @@ class Types:
         kind = self.name(t)
         return kind + name if kind.endswith("*") else f"{kind} {name}"
 
-    def size(self, t):
-        """Bytes and alignment, as both the checked program and C lay a type out."""
-        kind = t[0]
-        if kind == "int":
-            return t[1] // 8, t[1] // 8
-        if kind in ("float", "bool"):
-            return (8, 8) if kind == "float" else (1, 1)
-        if kind == "array":
-            size, align = self.size(t[1])
-            return size * t[2], align
-        if kind == "named" and self.named[t[1]][0] == "fields":
-            at, most = 0, 1
-            for x in self.named[t[1]][1]:
-                size, align = self.size(x)
-                at = (at + align - 1) // align * align + size
-                most = max(most, align)
-            return (at + most - 1) // most * most, most
-        raise Unknown(f"the size of {t}")
-
 
 class Printer:
     """One function."""
@@ -134,11 +145,15 @@ class Printer:
         if item is None and not f.name.startswith("std::") or item and len(item.parameters) != f.count:
             raise Unknown(f"the sources do not have the function {f.name} with {f.count} parameters")
         self.names = self.named_variables()
+        self.read_values()
         self.alias_arguments()
-        first = f.count + 1
-        kept = set(range(1, first)) | f.memory | self.bound
-        temporaries = {n for n in range(len(f.types)) if n not in kept}
-        self.body = fold.Folder(f, temporaries, writers).fold(f.body, set(), (set(), set()))
+        self.body, plain = f.body, {None}
+        while plain:
+            kept = set(range(1, f.count + 1)) | f.memory | self.bound
+            temporaries = {n for n in range(len(f.types)) if n not in kept}
+            self.body = fold.Folder(f, temporaries, writers).fold(steady.replaced(f, self.body, temporaries), set(), (set(), set()))
+            plain = (f.inlined & f.memory) - addressed(self.body)
+            f.memory = f.memory - plain
 
     # ---- names
 
@@ -166,30 +181,64 @@ class Printer:
                 break
         if item and item.first_is_constant and leading:
             n = leading.pop()
+        leading = [m for m in leading if f.types[m][0] == "array"]
         for m in leading:
             give(m, "text")
         self.bound = set(leading)
         for name in item.bindings if item else []:
+            if name is source.LIST:
+                n += n < len(f.types) and f.types[n] != ("int", 64)
+                continue
             if n >= len(f.types):
                 break
-            give(n, name)
-            self.bound.add(n)
+            if name is not source.HIDDEN:
+                give(n, name)
+                self.bound.add(n)
             n += 1
         self.give = give
         return names
 
+    def read_values(self):
+        """A variable that refers to a number, which is only read, is that number: nothing writes there while it is lent."""
+        f = self.f
+        for n in self.bound:
+            t = f.types[n]
+            if t[0] != "ref" or t[1] or t[2][0] not in ("int", "float", "bool"):
+                continue
+            here = ("deref", t[2], ("var", n))
+            sets = [s for s in everything(f.body) if s[0] == "set" and s[1] == ("var", n)]
+            if not sets or any(s[2][0] != "addr" or f.type_of(s[2][1]) != t[2] for s in sets):
+                continue
+            uses = sum(fold.count(h, n) for s in everything(f.body) for h in fold.heads(s))
+            if uses != sum(times(h, here) for s in everything(f.body) for h in fold.heads(s)):
+                continue
+
+            def change(e, n=n, here=here):
+                return ("var", n) if e == here else None
+
+            f.body = [fold.statement_mapped(s, change) for s in f.body]
+            for s in everything(f.body):
+                if s[0] == "set" and s[1] == ("var", n):
+                    s[2] = s[2][1]
+            f.types[n] = t[2]
+
     def alias_arguments(self):
         """An argument that is copied to memory at the start, and read nowhere else, is that memory."""
         f = self.f
-        for s in list(f.body):
+        at, aliased = 0, False
+        while at < len(f.body):
+            s = f.body[at]
             if s[0] != "set" or s[1][0] != "var" or s[1][1] not in f.memory or s[2][0] != "var" or not 0 < s[2][1] <= f.count:
                 break
             slot, argument = s[1][1], s[2][1]
-            others = [t for t in f.body if t is not s]
-            if any(argument in mentions(t) for t in others):
+            others = f.body[:at] + f.body[at + 1 :]
+            if any(argument in mentions(t) for t in others) or aliased and slot not in f.inlined:
+                at += 1
                 continue
+            aliased = True
             f.body = [replaced_everywhere(t, slot, argument) for t in others]
             f.memory = f.memory | {argument}
+            f.inlined |= {argument} if slot in f.inlined else set()
 
     # ---- expressions
 
@@ -215,9 +264,16 @@ class Printer:
             return f"{self.text(e[1], 15)}.{name}", 15
         if kind == "tag":
             of = self.f.type_of(e[1])
-            return (self.text(e[1], 15), 15) if self.types.simple(of[1]) else (f"{self.text(e[1], 15)}.tag", 15)
+            if self.types.simple(of[1]):
+                return self.text(e[1], 15), 15
+            if e[1][0] == "deref" and e[1][2][0] == "var":
+                return f"{self.text(e[1][2], 15)}->tag", 15
+            return f"{self.text(e[1], 15)}.tag", 15
         if kind == "payload":
-            return f"{self.text(e[1], 15)}.{self.types.payload(self.f.type_of(e[1])[1], e[2], e[3])}", 15
+            part = self.types.payload(self.f.type_of(e[1])[1], e[2], e[3])
+            if e[1][0] == "deref" and e[1][2][0] == "var":
+                return f"{self.text(e[1][2], 15)}->{part}", 15
+            return f"{self.text(e[1], 15)}.{part}", 15
         if kind == "index":
             return f"{self.text(e[1], 15)}.at[{self.text(e[2])}]", 15
         if kind == "deref":
@@ -232,6 +288,8 @@ class Printer:
             return " && ".join(self.text(x, AND) for x in e[1:]), AND
         if kind == "or":
             return " || ".join(self.text(x, UNARY if x[0] == "and" else OR) for x in e[1:]), OR
+        if kind == "is":
+            return self.variant_test(e, "=="), 8
         if kind in ("aggregate", "repeat"):
             return self.made_aggregate(e)
         if kind == "call":
@@ -251,8 +309,13 @@ class Printer:
             digits = hex(value)
         return digits if value < 2**31 else digits + "u"
 
+    def variant_test(self, e, sign):
+        return f"{self.made(('tag', e[1]))[0]} {sign} {self.types.tag(self.f.type_of(e[1])[1], e[2])}"
+
     def unary(self, e):
         op, x, t = e[1], e[2], e[3]
+        if op == "not" and x[0] == "is":
+            return self.variant_test(x, "!="), 8
         if op == "floatNeg":
             return f"-{self.text(x, UNARY + 1)}", UNARY
         if op == "not" and t == ("bool",):
@@ -290,15 +353,15 @@ class Printer:
 
     def index_of(self, t, offset):
         """How many elements an offset in bytes is."""
-        size, _ = self.types.size(t)
+        size, _ = program.size(t, self.types.named)
         if offset[0] == "lit" and offset[2] % size == 0:
             return ("lit", ("int", 64), offset[2] // size)
-        if size == 1:
-            return offset
         if offset[0] == "bin" and offset[1] == "mul":
             for x, y in ((offset[2], offset[3]), (offset[3], offset[2])):
                 if y == ("lit", ("int", 64), size):
                     return x
+        if size == 1:
+            return offset
         raise Unknown(f"an offset into elements of {size} bytes: {offset}")
 
     def elements(self, t, pointer):
@@ -366,7 +429,7 @@ class Printer:
         tag = self.types.tag(t[1], variant)
         if self.types.simple(t[1]):
             raise Unknown(e)
-        rest = "".join(f", .{self.types.payload(t[1], variant, i)} = {self.inner(x)}" for i, x in enumerate(given[1:]))
+        rest = "".join(f", .{self.types.payload(t[1], variant, i)} = {self.inner(x)}" for i, x in enumerate(given[1:]) if x != ("unit",))
         return "{.tag = " + tag + rest + "}"
 
     def inner(self, x):
@@ -456,7 +519,7 @@ class Printer:
             left = self.types.declared(self.f.types[s[1][1]], self.names[s[1][1]]) if fresh else self.text(s[1])
             if fresh and s[2][0] in ("aggregate", "repeat") and not self.plain(s[2]):
                 return wrapped(f"{pad}{left} = {self.braces(s[2])};")
-            return wrapped(f"{pad}{left} = {self.text(s[2])};")
+            return wrapped(f"{pad}{left} = {self.element(s) or self.text(s[2])};")
         if kind == "do":
             return wrapped(f"{pad}{self.text(s[1])};")
         if kind == "return":
@@ -474,6 +537,13 @@ class Printer:
         if kind == "switch":
             return self.switch(s, depth, declare)
         raise Unknown(s)
+
+    def element(self, s):
+        """The address of an element that a variable keeps, or None."""
+        t, e = self.f.type_of(s[1]), s[2]
+        if t[0] == "ref" and e[0] == "addr" and e[1][:2] == ("deref", t[2]) and e[1][2][0] == "offset":
+            return f"&{self.text(e[1], UNARY)}"
+        return None
 
     def made_aggregate(self, e):
         t = e[1]
@@ -601,6 +671,34 @@ class Printer:
 def breaks(statements):
     """Whether a list has a break of the loop around it."""
     return any(s[0] == "break" or s[0] in ("if", "switch") and any(breaks(inner) for inner in fold.lists(s)) for s in statements)
+
+
+def everything(statements):
+    """All statements within a list."""
+    for s in statements:
+        yield s
+        for inner in fold.lists(s):
+            yield from everything(inner)
+
+
+def times(e, wanted):
+    return 1 if e == wanted else sum(times(p, wanted) for p in fold.parts(e))
+
+
+def addressed(statements):
+    """The variables whose address is taken."""
+    found = set()
+
+    def look(e):
+        if e[0] == "addr":
+            found.add(fold.root(e[1])[0])
+        for p in fold.parts(e):
+            look(p)
+
+    for s in everything(statements):
+        for h in fold.heads(s):
+            look(h)
+    return found
 
 
 def mentions(s):

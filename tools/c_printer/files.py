@@ -1,7 +1,7 @@
 """The files of the release that are made."""
 import pathlib
 
-from . import emit, environment, fold, header as headers, program, source
+from . import emit, environment, fold, header as headers, inline, program, source
 
 BANNER = """// Made by tools/c_source from the checked program; a change is made in crates/ and this file written anew.
 // SPDX-License-Identifier: MIT OR Apache-2.0
@@ -102,6 +102,10 @@ class Unit:
 
     def __init__(self, text, items, heads, entries, known=()):
         functions, self.named = program.program(text)
+        writers = {n for n, f in functions.items() if any(t[0] in ("ref", "slice") and t[1] for t in f.types[1 : f.count + 1])}
+        inliner = inline.Inliner(functions, writers)
+        for f in functions.values():
+            inliner.within(f)
         crates = {c: i for i, c in enumerate(heads)}
         place = {name: i for i, name in enumerate(items)}
         reached, order, known = set(), [], set(known)
@@ -131,7 +135,7 @@ class Unit:
         self.functions = {n: functions[n] for n in order}
         self.entries = entries
         self.items, self.heads = items, heads
-        self.writers = {n for n, f in functions.items() if any(t[0] in ("ref", "slice") and t[1] for t in f.types[1 : f.count + 1])}
+        self.writers = writers
 
     def print(self, types, exported):
         out, crate, names = [], None, set()
@@ -142,7 +146,7 @@ class Unit:
                 raise program.Unknown(f"two functions are called {c}")
             names.add(c)
             guarded = exported(name) and name in working
-            text = emit.Printer(f, types, self.items.get(name), exported(name), self.writers, guarded).printed()
+            text = emit.Printer(f, types, self.items.get(name.split("<")[0]), exported(name), self.writers, guarded).printed()
             if name.split("::")[0] != crate:
                 crate = name.split("::")[0]
                 out.append("\n".join([f"// ==== {crate}", "//"] + self.heads[crate]) if self.heads.get(crate) else f"// ==== {crate}")

@@ -15,7 +15,7 @@ def parts(e):
     kind = e[0]
     if kind in ("lit", "true", "false", "unit", "var"):
         return ()
-    if kind in ("field", "tag", "payload", "addr", "repeat", "un"):
+    if kind in ("field", "tag", "payload", "addr", "repeat", "un", "is"):
         return (e[2],) if kind in ("repeat", "un") else (e[1],)
     if kind == "deref":
         return (e[2],)
@@ -33,7 +33,7 @@ def rebuilt(e, new):
     kind = e[0]
     if not new:
         return e
-    if kind in ("field", "tag", "payload", "addr"):
+    if kind in ("field", "tag", "payload", "addr", "is"):
         return (kind, new[0]) + e[2:]
     if kind in ("repeat", "un"):
         return (kind, e[1], new[0]) + e[3:]
@@ -84,6 +84,26 @@ def lists(s):
     if s[0] == "switch":
         return [b for _, b in s[2]] + ([s[3]] if s[3] is not None else [])
     return [s[-1]] if s[0] in ("loop", "while") else []
+
+
+def with_lists(s, new):
+    """The same statement over other lists of statements."""
+    if s[0] == "if":
+        return s[:2] + new
+    if s[0] == "switch":
+        arms = [(values, body) for (values, _), body in zip(s[2], new)]
+        return ["switch", s[1], arms, new[-1] if s[3] is not None else None]
+    return s[:-1] + new if s[0] in ("loop", "while") else s
+
+
+def statement_mapped(s, change):
+    """The same statement with its expressions and places changed."""
+    s = with_lists(s, [[statement_mapped(t, change) for t in body] for body in lists(s)])
+    if s[0] == "set":
+        return ["set", mapped(s[1], change), mapped(s[2], change)]
+    if s[0] in ("do", "if", "switch", "while") or s[0] == "return" and s[1] is not None:
+        return [s[0], mapped(s[1], change)] + s[2:]
+    return s
 
 
 def on_the_way(place):
@@ -185,16 +205,42 @@ class Folder:
         """One list, its inner lists first, until nothing more moves."""
         while True:
             before = repr(statements)
+            statements = [statement_mapped(s, self.simple) for s in statements]
             statements = self.inner(statements, after, left)
             statements = self.forward(statements, after, left)
             statements = self.joined(statements, after, left)
             if repr(statements) == before:
                 return statements
 
+    def simple(self, e):
+        """A part of a value that stands there whole, and what an address is of."""
+        inner = [self.simple(p) or p for p in parts(e)]
+        new = rebuilt(e, inner) if any(x is not y for x, y in zip(inner, parts(e))) else e
+        of, kind = new[1] if len(new) > 1 else None, new[0]
+        if kind == "deref" and new[2][0] == "addr" and self.f.type_of(new[2][1]) == new[1]:
+            return new[2][1]
+        if isinstance(of, tuple) and of and of[0] == "aggregate" and of[1][0] == "named":
+            if kind == "field" and self.f.named[of[1][1]][0] == "fields":
+                return of[2][new[2]]
+            if kind == "tag":
+                return of[2][0]
+            if kind == "payload" and of[2][0][2] == new[2]:
+                return of[2][1 + new[3]]
+            if kind == "is":
+                return ("true",) if of[2][0][2] == new[2] else ("false",)
+        if kind == "bin" and new[1] in ("eq", "ne") and new[2][0] == "tag" and new[3][0] == "lit":
+            test = ("is", new[2][1], new[3][2], len(self.f.named[self.f.type_of(new[2][1])[1]][1]))
+            return test if new[1] == "eq" else negated(test)
+        if kind in ("and", "or") and new[1] in (("true",), ("false",)):
+            return new[2] if new[1] == (("true",) if kind == "and" else ("false",)) else new[1]
+        return new if new is not e else None
+
     def inner(self, statements, after, left):
         new = []
         for s in reversed(statements):
             kind = s[0]
+            if kind == "set" and s[1][0] == "var" and s[1][1] in self.temporaries and s[1][1] not in after and not has(s[2], ("call",)):
+                continue  # what is set is never read
             if kind == "set" and s[1][0] == "var" and s[2][0] == "call" and s[1][1] not in after | self.f.memory:
                 s = ["do", s[2]]  # what is returned is never read
             elif kind == "if":
@@ -287,6 +333,10 @@ class Folder:
             if joint is not None:
                 rest[0] = joint
                 continue
+            if nxt is not None and self.known(s, nxt, self.live(rest[1:], after, left)):
+                n = nxt[1][1][1]
+                rest[0] = self.pushed(s, n, lambda e, nxt=nxt, n=n: [["set", ("var", n), e], *nxt[2 if e[2][0][2] == nxt[1][2] else 3]])
+                continue
             as_value = self.as_value(s)
             if as_value is not None:
                 rest.insert(0, as_value)
@@ -294,9 +344,9 @@ class Folder:
             if s[0] in ("if", "switch") and nxt is not None:
                 to = None
                 if nxt[0] == "return" and nxt[1] is not None and nxt[1][0] == "var":
-                    n, to = nxt[1][1], lambda e: ["return", e]
+                    n, to = nxt[1][1], lambda e: [["return", e]]
                 elif nxt[0] == "set" and nxt[1][0] == "var" and nxt[2][0] == "var":
-                    n, to = nxt[2][1], lambda e, place=nxt[1]: ["set", place, e]
+                    n, to = nxt[2][1], lambda e, place=nxt[1]: [["set", place, e]]
                 if to is not None and n in self.temporaries and self.ends(s, n):
                     if nxt[0] == "return" or n not in self.live(rest[1:], after, left):
                         rest[0] = self.pushed(s, n, to)
@@ -335,8 +385,23 @@ class Folder:
             return ["set", x, ("or", s[2], nxt[2][0][2])]
         return None
 
+    def known(self, s, nxt, after):
+        """Whether a branch sets the value by whose variant the next statement branches, in each way to another variant."""
+        if s[0] not in ("if", "switch") or nxt[0] != "if" or nxt[1][0] != "is" or nxt[1][1][0] != "var":
+            return False
+        n = nxt[1][1][1]
+        if n not in self.temporaries or n in after or not self.ends(s, n):
+            return False
+        values = list(ends_in(s, n))
+        if any(e[0] != "aggregate" for e in values):
+            return False
+        ways = [e[2][0][2] == nxt[1][2] for e in values]
+        return all(ways.count(way) <= 1 or not nxt[2 if way else 3] for way in (True, False))
+
     def as_value(self, s):
         """A branch that only says whether: && and ||."""
+        if s[0] == "switch":
+            return self.variant_as_value(s)
         if s[0] != "if" or len(s[2]) != 1 or len(s[3]) != 1:
             return None
         (a, b), c = (s[2][0], s[3][0]), s[1]
@@ -345,7 +410,9 @@ class Folder:
         x, y = a[-1], b[-1]
         if x is None or y is None or self.impure(x) or self.impure(y) or self.f.type_of(x) != ("bool",):
             return None
-        if y == ("false",):
+        if (x, y) in ((("true",), ("false",)), (("false",), ("true",))):
+            e = c if x == ("true",) else negated(c)
+        elif y == ("false",):
             e = ("and", c, x)
         elif x == ("true",):
             e = ("or", c, y)
@@ -356,6 +423,22 @@ class Folder:
         else:
             return None
         return a[:-1] + [e]
+
+    def variant_as_value(self, s):
+        """A choice by variants that only says whether the value is one of them."""
+        ways = s[2]
+        if s[1][0] != "tag" or s[3] is not None or len(ways) != 2 or any(len(body) != 1 or body[0][0] != "set" for _, body in ways):
+            return None
+        places = {body[0][1] for _, body in ways}
+        if len(places) != 1 or any(body[0][2] not in (("true",), ("false",)) for _, body in ways):
+            return None
+        yes = [v for values, body in ways if body[0][2] == ("true",) for v in values]
+        no = [v for values, body in ways if body[0][2] == ("false",) for v in values]
+        some = no if len(no) == 1 and len(yes) > 1 else yes
+        if len(some) != 1:
+            return None
+        e = ("is", s[1][1], some[0], len(yes) + len(no))
+        return ["set", places.pop(), negated(e) if some is no else e]
 
     def ends(self, s, n):
         """Whether each way through a branch ends by setting a variable, or leaves."""
@@ -379,12 +462,22 @@ class Folder:
             if last[0] in LEAVING:
                 return inner
             if last[0] == "set":
-                return inner[:-1] + [to(last[2])]
+                return inner[:-1] + to(last[2])
             return inner[:-1] + [self.pushed(last, n, to)]
 
         if s[0] == "if":
             return ["if", s[1], push(s[2]), push(s[3])]
         return ["switch", s[1], [(v, push(b)) for v, b in s[2]], s[3] if s[3] is None else push(s[3])]
+
+
+def ends_in(s, n):
+    """What a variable is set to where the ways through a branch end."""
+    for inner in lists(s):
+        last = inner[-1]
+        if last[0] == "set":
+            yield last[2]
+        elif last[0] not in LEAVING:
+            yield from ends_in(last, n)
 
 
 def zeros(e):
@@ -412,4 +505,8 @@ def leaves(statements):
 
 
 def negated(e):
+    if e[0] == "is" and e[3] == 2:
+        return ("is", e[1], 1 - e[2], 2)
+    if e[0] == "bin" and e[1] in ("eq", "ne") and e[2][0] == e[3][0] == "tag":
+        return ("bin", "ne" if e[1] == "eq" else "eq", *e[2:])
     return e[2] if e[0] == "un" and e[1] == "not" else ("un", "not", e, ("bool",))

@@ -7,7 +7,7 @@ Expressions are tuples, each with what it takes:
     ('lit', type, value)  ('true',)  ('false',)  ('unit',)
     ('var', number)  ('field', e, i)  ('tag', e)  ('payload', e, variant, i)  ('index', e, i)
     ('deref', type, pointer)  ('addr', place)  ('offset', pointer, bytes)
-    ('un', op, e, type)  ('bin', op, a, b, type)
+    ('un', op, e, type)  ('bin', op, a, b, type)  ('is', e, variant, count): whether a value is that one of so many variants
     ('aggregate', type, [e..])  ('repeat', type, e, count)  ('call', function, [e..])
     ('and', a, b)  ('or', a, b): made by fold.py alone
 
@@ -71,6 +71,26 @@ def a_type(t):
     raise Unknown(t)
 
 
+def size(t, named):
+    """Bytes and alignment, as both the checked program and C lay a type out."""
+    kind = t[0]
+    if kind == "int":
+        return t[1] // 8, t[1] // 8
+    if kind in ("float", "bool"):
+        return (8, 8) if kind == "float" else (1, 1)
+    if kind == "array":
+        each, align = size(t[1], named)
+        return each * t[2], align
+    if kind == "named" and named[t[1]][0] == "fields":
+        at, most = 0, 1
+        for x in named[t[1]][1]:
+            each, align = size(x, named)
+            at = (at + align - 1) // align * align + each
+            most = max(most, align)
+        return (at + most - 1) // most * most, most
+    raise Unknown(f"the size of {t}")
+
+
 class Function:
     def __init__(self, name, node, named):
         self.name = name
@@ -79,6 +99,7 @@ class Function:
         slots = items(node[4])
         self.types = [a_type(s[1]) for s in slots]
         self.memory = {i for i, s in enumerate(slots) if s[2] == "memorySlot"}
+        self.inlined = set()  # the variables that inline.py has made, or could make plain
         self.body = self.statements(node[5], [])
 
     # ---- types of expressions
@@ -87,7 +108,7 @@ class Function:
         kind = e[0]
         if kind == "lit":
             return e[1]
-        if kind in ("true", "false", "and", "or"):
+        if kind in ("true", "false", "and", "or", "is"):
             return ("bool",)
         if kind == "unit":
             return ("unit",)
@@ -150,6 +171,8 @@ class Function:
             return ("lit", ("int", int(o[1])), int(o[2]))
         if o[0] == "float" and o[1] == "64":
             return ("lit", ("float",), int(o[2]))
+        if o[0] == "sizeOf":
+            return ("lit", ("int", 64), size(a_type(o[1]), self.named)[0])
         raise Unknown(o)
 
     def value(self, v, to):
@@ -159,7 +182,7 @@ class Function:
         if kind == "addrOf":
             return ("addr", self.place(v[1]))
         if kind == "aggregate":
-            return ("aggregate", to, tuple(self.operand(o) for o in items(v[1])))
+            return ("aggregate", to, self.parts(items(v[1]), to))
         if kind == "repeat":
             return ("repeat", to, self.operand(v[1]), int(v[2]))
         if kind == "op1":
@@ -175,7 +198,25 @@ class Function:
             return ("offset", a, b) if op == "offset" else ("bin", op, a, b, to)
         raise Unknown(v)
 
+    def parts(self, given, to):
+        """The parts of a value, some of which may be values of parts themselves."""
+        if all(isinstance(o, str) or o[0] != "aggregate" for o in given):
+            return tuple(self.operand(o) for o in given)
+        if to[0] != "named":
+            raise Unknown(given)
+        what, types = self.named[to[1]]
+        types = types if what == "fields" else [("int", 8), *types[int(given[0][2])]]
+        return tuple(self.value(o, t) if o[0] == "aggregate" else self.operand(o) for o, t in zip(given, types, strict=True))
+
     # ---- statements
+
+    def choice(self, e, arms, last):
+        """A choice; one of the two variants of a type of the library is a test of the first."""
+        if e[0] == "tag" and "<" in self.type_of(e[1])[1] and len(self.named[self.type_of(e[1])[1]][1]) == 2:
+            ways = [(values[0], body) for values, body in arms if len(values) == 1] + ([(None, last)] if last is not None else [])
+            if len(ways) == 2 and len(arms) + (last is not None) == 2:
+                return ["if", ("is", e[1], ways[0][0], 2), ways[0][1], ways[1][1]]
+        return ["switch", e, arms, last]
 
     def statements(self, x, around):
         found = []
@@ -205,16 +246,18 @@ class Function:
                 arms.append((tuple(int(v) for v in items(rest[1])), self.statements(rest[2], around)))
                 rest = rest[3]
             last = None if rest == "noDefault" else self.statements(rest[1], around)
-            found.append(["switch", self.operand(x[1]), arms, last])
+            found.append(self.choice(self.operand(x[1]), arms, last))
         elif kind == "block":
-            # a block holds one loop: what leaves the block is a break of that loop, what leaves the round alone a continue
+            # what leaves the block around a loop is a break of that loop, what leaves the round alone a continue; any other block is a scope
             if isinstance(x[1], str) or x[1][0] != "loop":
-                raise Unknown(x)
+                return found + self.statements(x[1], ["scope"] + around)
             found.append(["loop", self.statements(x[1][1], ["loop", "block"] + around)])
         elif kind == "exit":
-            if x[1] not in ("0", "1") or around[:2] != ["loop", "block"]:
+            inner = int(x[1])
+            loop = around.index("loop") if "loop" in around else len(around)
+            if inner not in (loop, loop + 1) or inner >= len(around):
                 raise Unknown(x)
-            found.append(["break"] if x[1] == "1" else ["continue"])
+            found.append(["continue"] if inner == loop else ["break"])
         else:
             raise Unknown(x)
         return found

@@ -42,17 +42,60 @@ def comment_above(lines, i):
     return found[::-1]
 
 
+HIDDEN, LIST = object(), object()  # a variable without a name; the list of a loop, which may have one
+
+
+def names_in(pattern):
+    """The names that a pattern binds."""
+    pattern = re.sub(r"\b\w+\s*::\s*|\b\w+\s*:(?!:)|\b(?:mut|ref|true|false)\b", " ", pattern)
+    return re.findall(r"(?<![\w'])[a-z]\w*\b(?!\s*[({])", pattern)
+
+
 def bindings(body):
-    """The names that a body binds, in its order: by let, and by the patterns of match."""
+    """The variables that a body binds, in its order: by let, by the patterns of match and by for; each '?' binds two that have no name."""
+    body = re.sub(r"b?\"(?:[^\"\\]|\\.)*\"|b?'(?:[^'\\]|\\.[^']*)'", '""', body)
+    path = r"(?:\w+(?:\s*::\s*\w+)+|[A-Z]\w*)"
+    inside = r"(?:\((?:[^(){}]|\([^()]*\))*\)|\{[^{}]*\})"
+    pattern = re.compile(
+        rf"\blet\s+(?:mut\s+)?(?P<let>[a-z_]\w*)\b(?!\s*::)|\blet\s+(?P<parts>\([^()]*\))|(?P<question>\?)"
+        rf"|\bfor\s+(?P<each>[^{{]*?)\s+in\b(?P<over>[^{{]*)\{{|{path}\s*(?P<variant>{inside})(?=\s*(?:=>|=[^=]|\|)|[ ]if\b)|(?P<arm>\b[a-z]\w*)\s*=>"
+    )
     found = []
-    pattern = re.compile(r"\blet\s+(?:mut\s+)?(\w+)\b(?!\s*::)|\b\w+(?:::\w+)+\s*(?:\(([^()]*)\)|\{([^{}]*)\})\s*(?:=>|=[^=])")
     for m in pattern.finditer(body):
-        if m.group(1):
-            found.append(m.group(1))
+        if m["let"]:
+            found += [m["let"]] if re.match("[a-z]", m["let"]) else []
+        elif m["question"]:
+            found += [HIDDEN, HIDDEN]
+        elif m["each"]:
+            found += of_a_loop(m["each"], m["over"])
+        elif m["arm"]:
+            found += [] if m["arm"] in ("true", "false") else [m["arm"]]
         else:
-            for p in pieces(m.group(2) if m.group(2) is not None else m.group(3)):
-                found.append(p.split(":")[-1].strip())
-    return [f for f in found if re.fullmatch(r"[a-z]\w*", f)]
+            found += names_in(m["variant"] or m["parts"])
+    return found
+
+
+def of_a_loop(pattern, over):
+    """The variables of a for: its index, and the element."""
+    names = names_in(pattern)
+    if ".." in re.sub(r"\[[^\]]*\]", "", over):
+        return names
+    if ".enumerate()" in over:
+        return [LIST, *(names if len(names) == 2 else [HIDDEN, *names])]
+    return [LIST, f"{names[0]}_index" if names else HIDDEN, *names]
+
+
+def of_the_language(text, names):
+    item = Item([f"// {text}"])
+    item.names = names
+    return item
+
+
+LIBRARY = {
+    "std::option::Option": of_the_language("A value, or none.", [("None", []), ("Some", [])]),
+    "std::result::Result": of_the_language("What was asked for, or why it is refused.", [("Ok", []), ("Err", [])]),
+    "(,)": of_the_language("Two values.", ["part0", "part1"]),
+}
 
 
 def read_file(path, prefix, items):

@@ -704,9 +704,9 @@ class Reading:
         return want, self.converted(e, a, kind, want), self.converted(e, b, other, want)
 
     def by_tag(self, e, a, kind, b, other):
-        if b[0] != "variant" or b[3] or kind[1] != other[1]:
+        if kind[1] != other[1] or b[0] == "variant" and b[3]:
             self.fail(e, "a test of a tag by what is no variant of it")
-        code = ("tag_is", a, b[2])
+        code = ("tag_is", a, b[2]) if b[0] == "variant" else ("tags_same", a, b)
         return (code if e.op == "==" else ("not", code)), "bool"
 
     def of_TernaryOp(self, e):

@@ -145,10 +145,11 @@ def same_function(source, printed, program):
 
 def same_type(name, sources, printed):
     """A struct or an enumeration has the same fields or variants, in the same order and of the same types."""
-    path = sources.paths.get(name)
-    if path is None or sources.items[path][0] == "fn":
+    if name not in sources.instances and name in sources.paths and sources.items[sources.paths[name]][0] != "fn":
+        sources.named(sources.paths[name])
+    if name not in sources.instances:
         raise Differs("a type of the C that the sources do not have")
-    kind, _ = sources.named(path)
+    kind = sources.instances[name][0]
     if name not in (printed.structs if kind == "struct" else printed.enums):
         raise Differs(f"a {kind} of the sources, and another kind of type in the C")
     if kind == "struct":

@@ -7,6 +7,8 @@ A program here has functions of expressions, tuples whose first entry names the 
     ('call', function, [e..]) ('pure', name, type, [e..]) ('ref', place)
     ('let', name, type, e or None) ('set', place, e) ('block', [e..], e or None) ('if', c, a, b)
     ('match', e, type, {k: ([(name, i, type)..], e)}) ('switch', e, [([value..], e)..], e) ('while', c, e)
+    ('cases', e, [(pattern, e)..]) ('tag_is', e, k) ('same', type, a, b) ('unit',)
+A pattern is ('any',), ('name', name, type), ('variant', k, [pattern..], [type..]) or ('either', [pattern..]).
     ('return', e or None) ('break',) ('continue',)
 A shared reference is the value that it refers to: while it lives, nothing writes there (the language's borrow rule). A reference
 that can be written through is ('ref', place).
@@ -36,7 +38,37 @@ def known(kind):
         kind = kind.link
     if isinstance(kind, tuple) and kind[0] in ("ref", "array", "slice"):
         return tuple(known(k) if isinstance(k, (Open, tuple)) else k for k in kind)
+    if isinstance(kind, tuple) and kind[0] == "made":
+        return kind[:3] + (tuple(map(known, kind[3])),)
     return kind
+
+
+def is_open(kind):
+    """Whether a type, or one in it, is not known."""
+    kind = known(kind)
+    return isinstance(kind, Open) or isinstance(kind, tuple) and any(map(is_open, kind))
+
+
+LIBRARY = {("std", "types", "Option"): "option", ("std", "types", "Result"): "result"}
+VARIANTS = {"None": "Option", "Some": "Option", "Ok": "Result", "Err": "Result"}
+
+
+def short(kind):
+    """What the name of an instance in C has for a type or a count."""
+    if not isinstance(kind, tuple):
+        return str(kind)
+    if kind[0] == "array":
+        return f"{short(kind[1])}_x{kind[2]}"
+    if kind[0] == "ref":
+        mutable = "mut_" if kind[1] else ""
+        return f"slice_{mutable}{short(kind[2][1])}" if kind[2][0] == "slice" else f"ref_{mutable}{short(kind[2])}"
+    return kind[1]
+
+
+class Instance:
+    """A function that is called with types and counts that are known later."""
+    def __init__(self, path, given):
+        self.path, self.given = path, given
 
 
 class Function:
@@ -51,7 +83,7 @@ class Sources:
     def __init__(self, files):
         """`files`: pairs of a path (crate, module..) and the text of its file."""
         self.items, self.uses, self.structs, self.enums, self.functions = {}, {}, {}, {}, {}
-        self.texts = dict(files)
+        self.texts, self.instances = dict(files), {}
         for path, text in files:
             self.add(path, rattle.read(text, "/".join(path)))
         self.paths = {}
@@ -86,77 +118,131 @@ class Sources:
             return module + tuple(path)
         if path[0] in self.uses[module] and self.uses[module][path[0]] != path:
             return self.find(module, self.uses[module][path[0]]) + tuple(path[1:])
+        if path[0] in ("Option", "Result"):
+            return ("std", "types", *path)
         return tuple(path)
 
-    def struct_of(self, path):
-        """The fields of a struct, by its path."""
-        name = "_".join(path)
-        if name not in self.structs:
-            self.structs[name] = None
-            self.structs[name] = [(f, self.type_of(path[:-1], kind)) for f, kind in self.items[path][2]]
-        return self.structs[name]
+    def parts_of(self, path, given=()):
+        """The fields of a struct, or the variants of an enumeration with their parts, with types and counts for its parameters. A part
+        without a value is none."""
+        item = self.items[path]
+        if len(item[3]) != len(given):
+            raise Unread(f"{'::'.join(path)} with another count of types")
+        names = dict(zip((name for name, _ in item[3]), given))
 
-    def enum_of(self, path):
-        name = "_".join(path)
-        if name not in self.enums:
-            self.enums[name] = None
-            self.enums[name] = [(v, [(f, self.type_of(path[:-1], kind)) for f, kind in parts])
-                                for v, parts in self.items[path][2]]
-        return self.enums[name]
+        def typed(parts):
+            kinds = [(f, self.type_of(path[:-1], kind, None, names)) for f, kind in parts]
+            return [(f, kind) for f, kind in kinds if kind != "unit"]
 
-    def type_of(self, module, kind, owner=None):
-        if kind == "unit":
+        return typed(item[2]) if item[0] == "struct" else [(v, typed(parts)) for v, parts in item[2]]
+
+    def named(self, path, given=()):
+        """The type of an item."""
+        item = self.items.get(path)
+        if item is None or item[0] not in ("struct", "enum"):
+            raise Unread(f"{'::'.join(path)} is no type that is known")
+        if given:
+            return ("made", item[0], path, tuple(given))
+        return self.kept(item[0], path, ())
+
+    def kept(self, what, path, given):
+        """A type that is known whole, by its name in C."""
+        name = "_".join([LIBRARY.get(path) or "_".join(path), *map(short, given)])
+        table = self.structs if what == "struct" else self.enums
+        if self.instances.setdefault(name, (what, path, given)) != (what, path, given):
+            raise Unread(f"{path} and {self.instances[name][1]} have one name in C: rename one")
+        if name not in table:
+            table[name] = None
+            table[name] = [(f, self.whole(kind)) if what == "struct" else (f, [(n, self.whole(k)) for n, k in kind]) for f, kind in self.parts_of(path, given)]
+        return (what, name)
+
+    def whole(self, kind):
+        """The same type, each that is made of others by its name in C."""
+        kind = known(kind)
+        if isinstance(kind, tuple) and kind[0] == "made":
+            return self.kept(kind[1], kind[2], tuple(map(self.whole, kind[3])))
+        return tuple(map(self.whole, kind)) if isinstance(kind, tuple) else kind
+
+    def variants(self, kind):
+        """The variants of an enumeration whose types may not be known yet."""
+        return self.enums[kind[1]] if kind[0] == "enum" else self.parts_of(kind[2], kind[3])
+
+    def fields(self, kind):
+        return self.structs[kind[1]] if kind[0] == "struct" else self.parts_of(kind[2], kind[3])
+
+    def type_of(self, module, kind, owner=None, names={}):
+        """A type of the sources; `names` are the types and counts that stand for parameters."""
+        def inner(kind):
+            return self.type_of(module, kind, owner, names)
+
+        if kind == "unit" or isinstance(kind, int):
             return kind
         if kind[0] == "ref":
-            return ("ref", kind[1], self.type_of(module, kind[2], owner))
+            return ("ref", kind[1], inner(kind[2]))
         if kind[0] == "slice":
-            return ("slice", self.type_of(module, kind[1], owner))
+            return ("slice", inner(kind[1]))
         if kind[0] == "array":
-            return ("array", self.type_of(module, kind[1], owner), kind[2])
-        path = kind[1]
+            count = kind[2]
+            if isinstance(count, str):
+                count = names[count] if count in names else self.constant(module, count)
+            return ("array", inner(kind[1]), count)
+        if kind[0] == "tuple":
+            raise Unread(f"{module}: a tuple as a type")
+        _, path, given = kind
         if path == ["Self"]:
             return self.named(owner)
+        if len(path) == 1 and path[0] in names and not given:
+            return names[path[0]]
         if len(path) == 1 and path[0] in INTEGERS:
             return INTEGERS[path[0]]
         if path in (["f64"], ["bool"]):
             return path[0]
-        return self.named(self.find(module, path))
+        return self.named(self.find(module, path), tuple(map(inner, given)))
 
-    def named(self, path):
-        item = self.items.get(path)
-        if item is None or item[0] not in ("struct", "enum"):
-            raise Unread(f"{'::'.join(path)} is no type that is known")
-        if item[0] == "struct":
-            self.struct_of(path)
-        else:
-            self.enum_of(path)
-        return (item[0], "_".join(path))
+    def constant(self, module, name):
+        """A named count."""
+        item = self.items.get(self.find(module, [name]))
+        if item is None or item[0] != "const" or item[3][0] != "int":
+            raise Unread(f"{module}: a count {name} that is no number")
+        return item[3][1]
 
-    def function(self, path):
-        """A function in the common form."""
-        if path not in self.functions:
-            item = self.items[path]
-            owner = path[:-1] if self.items.get(path[:-1], ("",))[0] in ("struct", "enum") else None
-            module = path[:-2] if owner else path[:-1]
-            self.functions[path] = Lowering(self, module, owner, path, item).function
-        return self.functions[path]
+    def place_of(self, path):
+        """The module of a function, and the type that it is a method of, or None."""
+        owner = path[:-1] if self.items.get(path[:-1], ("",))[0] in ("struct", "enum") else None
+        return (path[:-2] if owner else path[:-1]), owner
+
+    def function(self, path, given=()):
+        """A function in the common form, with types and counts for its parameters."""
+        if (path, given) not in self.functions:
+            module, owner = self.place_of(path)
+            self.functions[path, given] = Lowering(self, module, owner, path, self.items[path], given).function
+        return self.functions[path, given]
 
     @functools.lru_cache(maxsize=None)
     def reached(self, also=()):
         """By its name in C, each function that an export of the crate dihkelu reaches, or one of the paths `also`."""
-        todo = [*also] + [path for path, item in self.items.items() if item[0] == "fn" and item[5] and path[0] == "dihkelu"]
-        found = {}
+        todo = [(path, ()) for path in also]
+        todo += [(path, ()) for path, item in self.items.items() if item[0] == "fn" and item[5] and path[0] == "dihkelu"]
+        found, done = {}, set()
         while todo:
-            path = todo.pop()
-            function = self.function(path)
-            if function.name not in found:
-                found[function.name] = function
-                todo.extend(sorted(function.calls))
+            path, given = todo.pop()
+            function = self.function(path, given)
+            if found.setdefault(function.name, function) is not function:
+                raise Unread(f"two functions are called {function.name} in C: rename one")
+            if function.name not in done:
+                done.add(function.name)
+                todo.extend(sorted(function.calls, key=repr))
         return found
 
 
 def mangled(path, item):
     return item[1] if item[0] == "fn" and item[5] else "_".join(path)
+
+
+def library():
+    """What the sources take from the language's own library."""
+    here = pathlib.Path(__file__).parent
+    return [(("std", name), (here / f"std_{name}.txt").read_text()) for name in ("num", "types")] + [(("std",), "pub mod num;\npub mod types;")]
 
 
 def load(root, wanted=("dihkelu", "train_text")):
@@ -169,7 +255,7 @@ def load(root, wanted=("dihkelu", "train_text")):
         if crate in needs and crate not in crates:
             crates.add(crate)
             todo += needs[crate]
-    files = [(("std", "num"), (pathlib.Path(__file__).parent / "std_num.txt").read_text()), (("std",), "pub mod num;")]
+    files = library()
     for crate in sorted(crates):
         for file in sorted((root / "crates" / crate / "src").glob("*.rt")):
             files.append(((crate,) if file.stem == "lib" else (crate, file.stem), file.read_text()))
@@ -179,18 +265,28 @@ def load(root, wanted=("dihkelu", "train_text")):
 class Lowering:
     """One function."""
 
-    def __init__(self, sources, module, owner, path, item):
+    def __init__(self, sources, module, owner, path, item, given):
         self.sources, self.module, self.owner = sources, module, owner
-        _, name, parameters, result, body, exported, line = item
-        self.function = Function(mangled(path, item), f"{'/'.join(module)}:{line}")
+        _, name, parameters, result, body, exported, generics, line = item
+        if len(generics) != len(given):
+            raise Unread(f"{'::'.join(path)}: another count of types")
+        self.given = dict(zip((name for name, _ in generics), given))
+        self.function = Function("_".join([mangled(path, item), *map(short, given)]), f"{'/'.join(module)}:{line}")
         self.function.exported = exported
-        self.count, self.scopes = 0, [{}]
+        self.count, self.scopes, self.steps, self.numbers = 0, [{}], [], []
         for parameter, kind in parameters:
-            kind = sources.type_of(module, kind, owner)
+            kind = sources.whole(self.type_of(kind))
             self.function.parameters.append((self.bind(parameter, kind), kind))
-        self.function.result = self.result = sources.type_of(module, result, owner)
+        self.function.result = self.result = sources.whole(self.type_of(result))
         code, kind = self.expression(body)
-        self.function.body = self.settled(self.fit(code, kind, self.result))
+        code = self.fit(code, kind, self.result)
+        for number in self.numbers:  # a range of numbers without a type is one of i32, none of which is below 0: u32 has them
+            if isinstance(known(number), Open):
+                self.unify(number, "u32")
+        self.function.body = self.settled(code)
+
+    def type_of(self, kind):
+        return self.sources.type_of(self.module, kind, self.owner, self.given)
 
     def fail(self, why):
         raise Unread(f"{self.function.origin}: {self.function.name}: {why}: teach tools/read_back_parts/lower.py this form")
@@ -214,6 +310,10 @@ class Lowering:
             a.link = b
             return b
         if isinstance(a, tuple) and isinstance(b, tuple) and a[0] == b[0] and a[0] in ("ref", "array", "slice"):
+            if a[0] == "array" and a[2] != b[2] and (isinstance(a[2], Open) or isinstance(b[2], Open)):
+                one, other = (a[2], b[2]) if isinstance(a[2], Open) else (b[2], a[2])
+                one.link = other
+                a, b = known(a), known(b)
             if a[0] == "ref" and a[1] == b[1] or a[0] == "array" and a[2] == b[2]:
                 inner = 2 if a[0] == "ref" else 1
                 self.unify(a[inner], b[inner])
@@ -221,9 +321,27 @@ class Lowering:
             if a[0] == "slice":
                 self.unify(a[1], b[1])
                 return a
+        if isinstance(a, tuple) and isinstance(b, tuple) and "made" in (a[0], b[0]):
+            first, second = self.opened_type(a), self.opened_type(b)
+            if first[:3] == second[:3]:
+                for x, y in zip(first[3], second[3]):
+                    self.unify(x, y)
+                return a
         if a != b:
             self.fail(f"types {a} and {b} where one is wanted")
         return a
+
+    def opened_type(self, kind):
+        """A type by its item and the types that it is made of."""
+        return kind if kind[0] == "made" else ("made", *self.sources.instances.get(kind[1], (kind[0], kind[1], ())))
+
+    def solid(self, kind):
+        """A type whose item is known; what it is made of may not be."""
+        kind = known(kind)
+        return kind if is_open(kind) else self.sources.whole(kind)
+
+    def is_enum(self, kind):
+        return isinstance(kind, tuple) and (kind[0] == "enum" or kind[:2] == ("made", "enum"))
 
     def fit(self, code, kind, want):
         """An expression where a type is wanted: lists and references are lent on."""
@@ -244,6 +362,12 @@ class Lowering:
             if isinstance(found, Open):
                 self.fail("the type of a number is not known")
             return self.settled(found)
+        if isinstance(code, Instance):
+            given = tuple(self.sources.whole(self.settled(kind)) for kind in code.given)
+            self.function.calls.add((code.path, given))
+            return "_".join([mangled(code.path, self.sources.items[code.path]), *map(short, given)])
+        if isinstance(code, tuple) and code[:1] == ("made",):
+            return self.sources.whole(tuple(self.settled(c) for c in code))
         if isinstance(code, tuple):
             return tuple(self.settled(c) for c in code)
         if isinstance(code, list):
@@ -273,15 +397,20 @@ class Lowering:
             self.scopes.pop()
 
     def variant_of(self, path):
-        """The enum, the index and the parts of a variant, or None."""
-        if len(path) < 2:
+        """The enum, with types that are open, the index and the parts of a variant, or None."""
+        if len(path) < 2 and path[0] not in VARIANTS:
             return None
-        owner = self.owner if path[-2] == "Self" else self.sources.find(self.module, path[:-1])
-        if self.sources.items.get(owner, ("",))[0] != "enum":
+        if len(path) == 1:
+            owner = ("std", "types", VARIANTS[path[0]])
+        else:
+            owner = self.owner if path[-2] == "Self" else self.sources.find(self.module, path[:-1])
+        item = self.sources.items.get(owner, ("",))
+        if item[0] != "enum":
             return None
-        for k, (name, parts) in enumerate(self.sources.enum_of(owner)):
+        kind = self.sources.named(owner, tuple(Open(False) for _ in item[3]))
+        for k, (name, parts) in enumerate(self.sources.variants(kind)):
             if name == path[-1]:
-                return ("enum", "_".join(owner)), k, parts
+                return kind, k, parts
         return None
 
     def full(self, path):
@@ -321,6 +450,8 @@ class Lowering:
             if unit[2]:
                 self.fail(f"{path} without its parts")
             return ("variant", unit[0], unit[1], []), unit[0]
+        if len(path) == 1 and isinstance(self.given.get(path[0]), int):
+            return ("lit", "u64", self.given[path[0]]), "u64"
         full = self.full(path)
         item = self.sources.items.get(full)
         if item is None or item[0] != "const":
@@ -330,9 +461,10 @@ class Lowering:
     def of_constant(self, full, item):
         """A named constant is its value, worked out where it is used."""
         module, self.module, scopes, self.scopes = self.module, full[:-1], self.scopes, [{}]
+        owner, self.owner, given, self.given = self.owner, None, self.given, {}
         kind = self.sources.type_of(self.module, item[2])
         code, found = self.expression(item[3])
-        self.module, self.scopes = module, scopes
+        self.module, self.scopes, self.owner, self.given = module, scopes, owner, given
         return self.fit(code, found, kind), kind
 
     def arguments(self, given, kinds):
@@ -359,47 +491,72 @@ class Lowering:
         if item is None:
             self.fail(f"a call of {path}, which is not known")
         if item[0] == "struct":
-            fields = self.sources.struct_of(full)
-            kind = ("struct", "_".join(full))
-            return ("struct", kind, list(enumerate(self.arguments(given, [k for _, k in fields])))), kind
+            kind = self.sources.named(full, tuple(Open(False) for _ in item[3]))
+            return ("struct", kind, list(enumerate(self.arguments(given, [k for _, k in self.sources.fields(kind)])))), kind
         return self.called(full, given)
 
-    def signature(self, full):
-        item = self.sources.items[full]
-        owner = full[:-1] if self.sources.items.get(full[:-1], ("",))[0] in ("struct", "enum") else None
-        module = full[:-2] if owner else full[:-1]
-        kinds = [self.sources.type_of(module, kind, owner) for _, kind in item[2]]
-        return mangled(full, item), kinds, self.sources.type_of(module, item[3], owner)
-
     def called(self, full, given):
-        name, kinds, result = self.signature(full)
-        self.function.calls.add(full)
-        return ("call", name, self.arguments(given, kinds), kinds, result), result
+        """A call; one with parameters is of an instance that the arguments tell."""
+        item = self.sources.items[full]
+        module, owner = self.sources.place_of(full)
+        opens = tuple(Open(False) for _ in item[6])
+        names = dict(zip((name for name, _ in item[6]), opens))
+        kinds = [self.sources.type_of(module, kind, owner, names) for _, kind in item[2]]
+        result = self.sources.type_of(module, item[3], owner, names)
+        return ("call", Instance(full, opens), self.arguments(given, kinds), kinds, result), result
 
     def of_method(self, e):
         _, subject, name, given = e
         code, kind = self.expression(subject)
-        kind = known(kind)
-        inner = kind[2] if kind[0] == "ref" else kind
+        kind = self.solid(kind)
+        inner = self.solid(kind[2]) if kind[0] == "ref" else kind
         if name == "len" and inner[0] in ("array", "slice"):
             return ("len", code), "u64"
-        if kind[0] not in ("struct", "enum"):
+        if isinstance(inner, tuple) and self.opened_type(inner)[2:3] in ((path,) for path in LIBRARY):
+            return self.of_library(code, kind, name, given)
+        if inner[0] not in ("struct", "enum"):
             self.fail(f"the method {name} of {kind}")
-        return self.called(self.sources.paths[kind[1]] + (name,), [subject] + given)
+        _, path, _ = self.sources.instances[inner[1]]
+        full = path + (name,)
+        if full not in self.sources.items:
+            self.fail(f"the method {name} of {kind}, which is not known")
+        takes = self.sources.items[full][2][0][1]
+        if takes[0] == "ref" and kind[0] != "ref":
+            subject = ("ref", takes[1], subject)
+        elif takes[0] != "ref" and kind[0] == "ref":
+            subject = ("unary", "*", subject)
+        return self.called(full, [subject] + given)
+
+    def of_library(self, code, kind, name, given):
+        """Option's and Result's own methods, each by what it is said to do."""
+        code, kind = self.opened(code, kind)
+        variants = [v for v, _ in self.sources.variants(kind)]
+        asked = {"is_some": "Some", "is_none": "None", "is_ok": "Ok", "is_err": "Err"}.get(name)
+        if asked in variants and not given:
+            return ("tag_is", code, variants.index(asked)), "bool"
+        if name == "unwrap_or" and len(given) == 1:
+            good = "Some" if "Some" in variants else "Ok"
+            k = variants.index(good)
+            want = self.sources.variants(kind)[k][1][0][1]
+            whole, other, value = (self.bind(" " + n, w) for n, w in (("whole", kind), ("other", want), ("value", want)))
+            second = self.fit(*self.expression(given[0]), want)
+            cases = [(("variant", k, [("name", value, want)], [want]), ("var", value)), (("any",), ("var", other))]
+            return ("block", [("let", whole, kind, code), ("let", other, want, second)], ("cases", ("var", whole), cases)), want
+        return self.fail(f"the method {name} of {variants}")
 
     def opened(self, code, kind):
         """What a reference refers to."""
-        kind = known(kind)
-        return (("deref", code), kind[2]) if kind[0] == "ref" else (code, kind)
+        kind = self.solid(kind)
+        return (("deref", code), self.solid(kind[2])) if kind[0] == "ref" else (code, kind)
 
     def of_field(self, e):
         code, kind = self.opened(*self.expression(e[1]))
-        if kind[0] != "struct":
+        if kind[0] != "struct" and kind[:2] != ("made", "struct"):
             self.fail(f"a field of {kind}")
-        fields = self.sources.structs[kind[1]]
+        fields = self.sources.fields(kind)
         i = next((i for i, (f, _) in enumerate(fields) if f == e[2]), None)
         if i is None:
-            self.fail(f"{kind[1]} has no field {e[2]}")
+            self.fail(f"{kind} has no field {e[2]}")
         return ("field", code, i, fields[i][1]), fields[i][1]
 
     def of_index(self, e):
@@ -433,12 +590,26 @@ class Lowering:
             if isinstance(known(other), Open):
                 self.unify(other, "u32")
             return ("bin", op, kind, a, b), kind
+        if op in ("==", "!=") and (self.parted(kind) or self.parted(other)):
+            return self.compared(op, *self.opened(a, kind), *self.opened(b, other))
         kind = self.unify(kind, other)
         return ("bin", op, kind, a, b), "bool" if op in ("==", "!=", "<", "<=", ">", ">=") else kind
 
+    def parted(self, kind):
+        """Whether a type is a struct or an enumeration, or a reference to one."""
+        kind = known(kind)
+        kind = known(kind[2]) if isinstance(kind, tuple) and kind[0] == "ref" else kind
+        return isinstance(kind, tuple) and kind[0] in ("struct", "enum", "made")
+
+    def compared(self, op, a, kind, b, other):
+        """Equality as a derive gives it: the same variant, and all parts equal in their order."""
+        kind = self.unify(kind, other)
+        same = ("same", kind, a, b)
+        return (same if op == "==" else ("not", same)), "bool"
+
     def of_as(self, e):
         code, kind = self.expression(e[1])
-        want = self.sources.type_of(self.module, e[2])
+        want = self.type_of(e[2])
         if isinstance(known(kind), Open):
             self.unify(kind, want)
         return ("cast", want, code), want
@@ -454,7 +625,8 @@ class Lowering:
                 self.fail("other parts than the variant has")
             return ("variant", kind, k, self.arguments([values[f] for f in order], [t for _, t in parts])), kind
         full = self.owner if path == ["Self"] else self.full(path)
-        fields = self.sources.struct_of(full)
+        kind = self.sources.named(full, tuple(Open(False) for _ in self.sources.items[full][3]))
+        fields = self.sources.fields(kind)
         order = [f for f, _ in fields]
         if sorted(order) != sorted(f for f, _ in given):
             self.fail("other fields than the struct has")
@@ -462,7 +634,6 @@ class Lowering:
         for name, value in given:
             i = order.index(name)
             out.append((i, self.fit(*self.expression(value), fields[i][1])))
-        kind = ("struct", "_".join(full))
         return ("struct", kind, out), kind
 
     def of_array(self, e):
@@ -476,7 +647,10 @@ class Lowering:
 
     def of_repeat(self, e):
         code, kind = self.expression(e[1])
-        kind = ("array", kind, e[2])
+        count = e[2]
+        if isinstance(count, str):
+            count = self.given[count] if count in self.given else self.sources.constant(self.module, count)
+        kind = ("array", kind, count)
         return ("repeat", kind, code), kind
 
     # ---- statements
@@ -501,7 +675,7 @@ class Lowering:
 
     def of_let(self, e):
         _, name, kind, value = e
-        kind = self.sources.type_of(self.module, kind, self.owner) if kind else Open(False)
+        kind = self.type_of(kind) if kind else Open(False)
         code = None
         if value is not None:
             code, found = self.expression(value)
@@ -523,15 +697,107 @@ class Lowering:
         code = None if e[1] is None else self.fit(*self.expression(e[1]), self.result)
         return ("return", code), NEVER
 
+    def of_unit(self, e):
+        return e, "unit"
+
     def of_break(self, e):
         return e, NEVER
 
     def of_continue(self, e):
-        return e, NEVER
+        """The next round; that of a for begins with its step."""
+        step = self.steps[-1] if self.steps else None
+        return (("block", [step, e], None) if step else e), NEVER
+
+    def round(self, step, work):
+        """What `work` gives, within a loop of this step."""
+        self.steps.append(step)
+        found = work()
+        self.steps.pop()
+        return found
 
     def of_while(self, e):
         condition = self.fit(*self.expression(e[1]), "bool")
-        return ("while", condition, self.expression(e[2])[0]), "unit"
+        return ("while", condition, self.round(None, lambda: self.expression(e[2])[0])), "unit"
+
+    def of_for(self, e):
+        return self.scoped(lambda: self.counted(*e[1:]))
+
+    def counted(self, pattern, over, body):
+        """A for is a while over an index, which is counted up by one at the end of a round and where the next one begins. Backwards it is
+        counted down at the beginning of a round."""
+        back = over[0] == "method" and over[2] == "rev" and over[1][0] == "span"
+        if over[0] == "span" or back:
+            return self.over_numbers(pattern, over[1] if back else over, back, body)
+        pair = over[0] == "method" and over[2] == "enumerate"
+        over = over[1] if pair else over
+        if over[0] == "method" and over[2] in ("iter", "iter_mut") and not over[3]:
+            over = over[1]
+        code, kind = self.expression(over)
+        kind = self.solid(kind)
+        mutable = kind[0] == "ref" and kind[1] or over[0] == "method"
+        whole = self.solid(kind[2]) if kind[0] == "ref" else kind
+        if whole[0] not in ("array", "slice") or mutable:
+            self.fail(f"a loop over {kind}")
+        if pair and (pattern[0] != "parts" or len(pattern[1]) != 2 or pattern[1][0][0] not in ("bind", "any")):
+            self.fail("a loop over places and elements without a name for each")
+        place, element = pattern[1] if pair else (("any",), pattern)
+        if element[0] == "lent":
+            element = element[1]
+        if element[0] not in ("bind", "any"):
+            self.fail("a pattern of an element")
+        listed, at = self.bind(" list", kind), self.bind(place[1] if place[0] == "bind" else " at", "u64")
+        here = ("index", ("var", listed), ("var", at), whole[1])
+        step = ("set", ("var", at), ("bin", "+", "u64", ("var", at), ("lit", "u64", 1)))
+        first = [("let", self.bind(element[1], self.each(kind, pattern, whole[1])), whole[1], here)] if element[0] == "bind" else []
+        inner = self.round(step, lambda: self.expression(body)[0])
+        test = ("bin", "<", "u64", ("var", at), ("len", ("var", listed)))
+        loop = ("while", test, ("block", [*first, inner, step], None))
+        return ("block", [("let", listed, kind, code), ("let", at, "u64", ("lit", "u64", 0)), loop], None), "unit"
+
+    def each(self, kind, pattern, inner):
+        """The type of an element's name: of a list that is lent a reference, which the pattern may open."""
+        element = pattern[1][1] if pattern[0] == "parts" else pattern
+        return ("ref", False, inner) if kind[0] == "ref" and element[0] != "lent" else inner
+
+    def over_numbers(self, pattern, span, back, body):
+        _, low, high, whole = span
+        if pattern[0] not in ("bind", "any") or whole and (back or high[0] != "int"):
+            self.fail("a range that is not known")
+        first, kind = self.expression(low)
+        last, other = self.expression(high)
+        kind = self.unify(kind, other)
+        if isinstance(known(kind), Open):
+            self.numbers.append(kind)
+        at, end = self.bind(" at", kind), self.bind(" end", kind)
+        self.scopes[-1][pattern[1] if pattern[0] == "bind" else " at"] = (at, kind)
+        one = ("bin", "-" if back else "+", kind, ("var", at), ("lit", kind, 1))
+        step = ("set", ("var", at), one)
+        inner = self.round(None if back else step, lambda: self.expression(body)[0])
+        test = ("bin", "<", kind, ("var", end), ("var", at)) if back else ("bin", "<=" if whole else "<", kind, ("var", at), ("var", end))
+        start, stop = (last, first) if back else (first, last)
+        loop = ("while", test, ("block", [step, inner] if back else [inner, step], None))
+        lets = [("let", end, kind, stop), ("let", at, kind, start)] if back else [("let", at, kind, start), ("let", end, kind, stop)]
+        return ("block", [*lets, loop], None), "unit"
+
+    def of_question(self, e):
+        """The value, or a return of why there is none; why stays as it is."""
+        code, kind = self.expression(e[1])
+        kind, result = self.solid(kind), self.opened_type(self.result) if isinstance(self.result, tuple) else (None,)
+        if not self.is_enum(kind) or self.opened_type(kind)[2] not in LIBRARY or result[2:3] != self.opened_type(kind)[2:3]:
+            self.fail("'?' of what the function does not return")
+        variants = self.sources.variants(kind)
+        good, bad = (1, 0) if variants[0][0] == "None" else (0, 1)
+        out = {}
+        for k in (good, bad):
+            parts = [(self.bind(" part", kinds), i, kinds) for i, (_, kinds) in enumerate(variants[k][1])]
+            if k == good:
+                out[k] = parts, ("var", parts[0][0]) if parts else ("unit",)
+                value = parts[0][2] if parts else "unit"
+                continue
+            wanted = [kinds for _, kinds in self.sources.variants(self.result)[k][1]]
+            given = [self.fit(("var", name), kinds, want) for (name, _, kinds), want in zip(parts, wanted, strict=True)]
+            out[k] = parts, ("return", ("variant", self.result, k, given))
+        return ("match", code, kind, out), value
 
     def of_if(self, e):
         condition = self.fit(*self.expression(e[1]), "bool")
@@ -541,16 +807,87 @@ class Lowering:
         other, found = self.expression(e[3])
         return ("if", condition, then, other), self.unify(kind, found)
 
+    def of_if_let(self, e):
+        _, pattern, value, then, other = e
+        arms = [(pattern, None, then), (("any",), None, other or ("block", [], None))]
+        return self.cases(*self.expression(value), arms)
+
+    def of_while_let(self, e):
+        """A round for as long as the pattern fits."""
+        code, kind = self.expression(e[2])
+        inner, _ = self.round(None, lambda: self.cases(code, kind, [(e[1], None, e[3]), (("any",), None, ("break",))]))
+        return ("while", ("lit", "bool", True), inner), "unit"
+
+    def of_let_else(self, e):
+        """The names of a pattern, or a way that leaves."""
+        _, pattern, value, other = e
+        code, kind = self.expression(value)
+        kind = self.solid(kind)
+        if other is None:
+            self.fail("a pattern of 'let' that always fits")
+        left, found = self.expression(other)
+        if found != NEVER:
+            self.fail("an 'else' that goes on")
+        fits = self.fitting(pattern, kind)
+        return ("cases", code, [(fits, ("unit",)), (("any",), left)]), "unit"
+
+    def of_matches(self, e):
+        code, kind = self.expression(e[1])
+        return self.cases(code, kind, [(e[2], None, ("bool", True)), (("any",), None, ("bool", False))])
+
+    def cases(self, code, kind, arms):
+        """A choice by patterns, which are tried in their order."""
+        code, kind = self.opened(code, kind)
+        out, result = [], NEVER
+        for pattern, _, body in arms:
+            self.scopes.append({})
+            fits = self.fitting(pattern, kind)
+            inner, found = self.expression(body)
+            result = self.unify(result, found)
+            self.scopes.pop()
+            out.append((fits, inner))
+        return ("cases", code, out), result
+
+    def fitting(self, pattern, kind):
+        """A pattern in the common form; its names are bound."""
+        kind = self.solid(kind)
+        if pattern[0] == "or":
+            found = [self.fitting(p, kind) for p in pattern[1]]
+            if any("name" in repr(p) for p in found):
+                self.fail("a name in one of some patterns")
+            return ("either", found)
+        if pattern[0] == "bind":
+            return ("name", self.bind(pattern[1], kind), kind)
+        if pattern[0] != "variant":
+            if pattern[0] != "any":
+                self.fail(f"a pattern '{pattern[0]}' within a choice")
+            return pattern
+        found = self.variant_of(pattern[1])
+        if not found:
+            self.fail(f"a pattern {pattern[1]} that is no variant")
+        self.unify(found[0], kind)
+        _, k, _ = found
+        parts = self.sources.variants(self.solid(kind))[k][1]
+        inner = pattern[2] if pattern[3] is None else [pattern[3].get(f, ("any",)) for f, _ in parts]
+        if not parts and inner == [("any",)]:  # the part without a value
+            inner = []
+        if len(inner) != len(parts):
+            self.fail(f"another count of parts of {pattern[1]}")
+        return ("variant", k, [self.fitting(p, part) for p, (_, part) in zip(inner, parts)], [part for _, part in parts])
+
     def of_match(self, e):
         subject, kind = self.expression(e[1])
-        kind = known(kind)
         arms = [(p, body) for pattern, body in e[2] for p in (pattern[1] if pattern[0] == "or" else [pattern])]
-        if isinstance(kind, tuple) and kind[0] == "enum":
+        subject, kind = self.opened(subject, kind)
+        if self.is_enum(kind):
+            nested = any(p[0] == "variant" and any(q[0] not in ("bind", "any") for q in (p[2] or (p[3] or {}).values())) for p, _ in arms)
+            if nested:
+                return self.cases(subject, kind, [(p, None, body) for p, body in arms])
             return self.by_variant(subject, kind, arms)
         return self.by_number(subject, kind, arms)
 
     def by_variant(self, subject, kind, arms):
-        variants, out, result = self.sources.enums[kind[1]], {}, NEVER
+        variants, out, result = self.sources.variants(kind), {}, NEVER
         for k, (name, parts) in enumerate(variants):
             pattern, body = next((p, b) for p, b in arms if p[0] in ("any", "bind") or self.picks(p, kind, k))
             self.scopes.append({})
@@ -559,6 +896,8 @@ class Lowering:
                 self.fail("a name for the whole of what is matched")
             inner = [] if pattern[0] == "any" else pattern[2] if pattern[3] is None else [
                 pattern[3].get(f, ("any",)) for f, _ in parts]
+            if pattern[0] != "any" and len(inner) != len(parts) and (parts or inner != [("any",)]):
+                self.fail(f"another count of parts of {pattern[1]}")
             for i, p in enumerate(inner):
                 if p[0] == "bind":
                     bound.append((self.bind(p[1], parts[i][1]), i, parts[i][1]))
@@ -572,8 +911,9 @@ class Lowering:
 
     def picks(self, pattern, kind, k):
         found = self.variant_of(pattern[1])
-        if not found or found[0] != kind:
+        if not found:
             self.fail(f"a pattern {pattern[1]} of another type")
+        self.unify(found[0], kind)
         return found[1] == k
 
     def by_number(self, subject, kind, arms):

@@ -19,7 +19,7 @@ TOKEN = re.compile(r"""
     | (?P<float>[0-9][0-9_]*\.[0-9][0-9_]*(?:[eE][+-]?[0-9]+)?(?:f64)?|[0-9][0-9_]*[eE][+-]?[0-9]+|[0-9][0-9_]*f64)
     | (?P<int>0x[0-9a-fA-F_]+|[0-9][0-9_]*)(?P<suffix>u8|u16|u32|u64|usize)?
     | (?P<name>[A-Za-z_][A-Za-z0-9_]*)
-    | (?P<sign>->|=>|\.\.=|\.\.|::|<<=|>>=|<<|>>|<=|>=|==|!=|&&|\|\||[-+*/%&|^]=|[-+*/%&|^!<>=.,;:(){}\[\]\#])
+    | (?P<sign>->|=>|\.\.=|\.\.|::|<<=|>>=|<<|>>|<=|>=|==|!=|&&|\|\||[-+*/%&|^]=|[-+*/%&|^!<>=.,;:(){}\[\]\#?])
 """, re.X)
 ESCAPES = {"0": 0, "n": 10, "t": 9, "r": 13, "\\": 92, "'": 39, '"': 34}
 LEVELS = [["||"], ["&&"], ["==", "!=", "<", ">", "<=", ">="], ["|"], ["^"], ["&"], ["<<", ">>"], ["+", "-"], ["*", "/", "%"]]
@@ -135,7 +135,7 @@ class Parser:
             if self.take("derive"):
                 self.want("(")
                 derived = True
-                if set(self.listed(")", self.name)) - {"Drop", "Clone", "Copy"}:
+                if set(self.listed(")", self.name)) - {"Drop", "Clone", "Copy", "Debug", "PartialEq", "Eq"}:
                     self.fail("a derive that writes code")
             else:
                 self.exporting()
@@ -201,13 +201,25 @@ class Parser:
         self.want(";")
         return ("const", name, kind, value)
 
-    def lifetimes(self):
-        if self.take("<"):
-            while not self.take(">"):
-                if self.kind != "life":
-                    self.fail("a parameter that is no lifetime")
+    def generics(self):
+        """The parameters that are types or counts: each a name and whether it is a count. What a bound promises is the proof's."""
+        out = []
+        if not self.take("<"):
+            return out
+        while not self.take(">"):
+            if self.kind == "life":
                 self.step()
-                self.take(",")
+            else:
+                count = self.take("const")
+                out.append((self.name(), count))
+                if self.take(":"):
+                    self.type()
+                    while self.take("+"):
+                        self.type()
+            if not self.take(","):
+                self.want(">")
+                return out
+        return out
 
     def member(self):
         if self.take("pub") and self.take("("):
@@ -222,14 +234,13 @@ class Parser:
         return None, self.type()
 
     def struct(self):
-        name = self.name()
-        self.lifetimes()
+        name, generics = self.name(), self.generics()
         if self.take("("):
             parts = self.listed(")", self.unnamed)
             self.want(";")
-            return ("struct", name, [(f"part{i}", kind) for i, (_, kind) in enumerate(parts)], True)
+            return ("struct", name, [(f"part{i}", kind) for i, (_, kind) in enumerate(parts)], generics)
         self.want("{")
-        return ("struct", name, self.listed("}", self.member), False)
+        return ("struct", name, self.listed("}", self.member), generics)
 
     def one_variant(self):
         name = self.name()
@@ -240,9 +251,9 @@ class Parser:
         return name, []
 
     def enum(self):
-        name = self.name()
+        name, generics = self.name(), self.generics()
         self.want("{")
-        return ("enum", name, self.listed("}", self.one_variant))
+        return ("enum", name, self.listed("}", self.one_variant), generics)
 
     def methods(self):
         name = self.name()
@@ -250,10 +261,15 @@ class Parser:
         return ("impl", name, self.items("}"))
 
     def parameter(self):
+        if self.take("&"):
+            changed = self.take("mut")
+            if self.name() != "self":
+                self.fail("a parameter without a type")
+            return "self", ("ref", changed, ("name", ["Self"], []))
         changed = self.take("mut")
         name = self.name()
         if name == "self":
-            return name, ("name", ["Self"])
+            return name, ("name", ["Self"], [])
         self.want(":")
         if changed:
             self.fail("a parameter that is 'mut'")
@@ -261,14 +277,13 @@ class Parser:
 
     def function(self, exported, public):
         line = self.text.count("\n", 0, self.begin) + 1
-        name = self.name()
-        self.lifetimes()
+        name, generics = self.name(), self.generics()
         self.want("(")
         parameters = self.listed(")", self.parameter)
         result = self.type() if self.take("->") else "unit"
         while self.token in ("requires", "ensures"):
             self.skip_braces()
-        return ("fn", name, parameters, result, self.block(), exported or (public and name.startswith("dihkelu_")), line)
+        return ("fn", name, parameters, result, self.block(), exported or (public and name.startswith("dihkelu_")), generics, line)
 
     # ---- types
 
@@ -286,16 +301,39 @@ class Parser:
             count = self.count()
             self.want("]")
             return ("array", inner, count)
+        if self.take("("):
+            parts = self.listed(")", self.type)
+            return ("tuple", parts) if parts else "unit"
         path = [self.name()]
         while self.take("::"):
             path.append(self.name())
-        self.lifetimes()
-        return ("name", path)
+        return ("name", path, self.given_types())
+
+    def given_types(self):
+        """The types and counts that a name is given."""
+        out = []
+        if self.take("<"):
+            while not self.closed():
+                if self.kind == "life":
+                    self.step()
+                else:
+                    out.append(self.count() if self.kind == "int" else self.type())
+                if not self.take(","):
+                    if not self.closed():
+                        self.fail("'>' is wanted")
+                    break
+        return out
+
+    def closed(self):
+        """Whether '>' comes, of which '>>' is two."""
+        if self.token == ">>" and self.kind == "sign":
+            self.token, self.begin = ">", self.begin + 1
+            return True
+        return self.take(">")
 
     def count(self):
-        if self.kind != "int":
-            self.fail("a count that is no number")
-        return self.literal()[1]
+        """A number, or the name of one."""
+        return self.name() if self.kind == "name" else self.literal()[1]
 
     # ---- statements
 
@@ -315,13 +353,8 @@ class Parser:
 
     def statement(self):
         if self.take("let"):
-            self.take("mut")
-            name = self.name()
-            kind = self.type() if self.take(":") else None
-            value = self.expression() if self.take("=") else None
-            self.want(";")
-            return ("let", name, kind, value)
-        if self.token in ("if", "match", "while", "{"):
+            return self.let()
+        if self.token in ("if", "match", "while", "for", "{"):
             found = self.primary(True)
             return ("expr", found) if self.take(";") else ("tail", found)
         found = self.expression()
@@ -336,6 +369,23 @@ class Parser:
         if self.token != "}":
             self.fail("';' is wanted")
         return ("tail", found)
+
+    def let(self):
+        if self.token == "(" or self.token[:1].isupper():
+            pattern = self.pattern()
+            self.want("=")
+            value = self.expression()
+            other = self.block() if self.take("else") else None
+            self.want(";")
+            return ("let_else", pattern, value, other)
+        self.take("mut")
+        name = self.name()
+        if self.token == "::":
+            self.fail("a pattern of a path")
+        kind = self.type() if self.take(":") else None
+        value = self.expression() if self.take("=") else None
+        self.want(";")
+        return ("let", name, kind, value)
 
     # ---- expressions
 
@@ -377,8 +427,11 @@ class Parser:
     def postfix(self, bare):
         found = self.primary(bare)
         while True:
-            if found[0] in ("if", "match", "while", "block"):
+            if found[0] in ("if", "if_let", "match", "while", "while_let", "for", "block"):
                 return found
+            if self.take("?"):
+                found = ("question", found)
+                continue
             if self.take("."):
                 if self.kind == "int":
                     found = ("field", found, f"part{self.literal()[1]}")
@@ -417,9 +470,7 @@ class Parser:
         if self.kind in ("int", "float", "byte", "bytes"):
             return self.literal()
         if self.take("("):
-            found = self.expression()
-            self.want(")")
-            return found
+            return self.bracketed()
         if self.take("["):
             return self.array()
         if self.token == "{":
@@ -432,11 +483,24 @@ class Parser:
             self.want("{")
             return ("match", subject, self.arms())
         if word == "while":
+            if self.take("let"):
+                pattern = self.pattern()
+                self.want("=")
+                return ("while_let", pattern, self.expression(False), self.block())
             condition = self.expression(False)
             return ("while", condition, self.block())
+        if word == "for":
+            return self.loop()
+        if word == "matches" and self.take("!"):
+            self.want("(")
+            subject = self.expression()
+            self.want(",")
+            pattern = self.pattern()
+            self.want(")")
+            return ("matches", subject, pattern)
         if word in ("true", "false"):
             return ("bool", word == "true")
-        if word in ("loop", "for", "unsafe", "move", "let"):
+        if word in ("loop", "unsafe", "move", "let"):
             self.fail(f"'{word}' is not known")
         path = [word]
         while self.take("::"):
@@ -444,6 +508,30 @@ class Parser:
         if bare and self.take("{"):
             return ("struct", path, self.listed("}", self.given))
         return ("path", path)
+
+    def bracketed(self):
+        """What stands in round brackets: one expression, some of a tuple, or a range."""
+        if self.take(")"):
+            return ("unit",)
+        found = self.span()
+        if self.take(")"):
+            return found
+        self.want(",")
+        return ("tuple", [found] + self.listed(")", self.expression))
+
+    def span(self, bare=True):
+        """An expression, or a range of two."""
+        low = self.expression(bare)
+        for sign in ("..", "..="):
+            if self.take(sign):
+                return ("span", low, self.expression(bare), sign == "..=")
+        return low
+
+    def loop(self):
+        pattern = self.one_pattern()
+        if self.name() != "in":
+            self.fail("'in' is wanted")
+        return ("for", pattern, self.span(False), self.block())
 
     def given(self):
         name = self.name()
@@ -463,15 +551,15 @@ class Parser:
         return ("array", [first] + self.listed("]", self.expression))
 
     def choice(self):
-        if self.token == "let":
-            self.fail("'if let' is not known")
+        pattern = None
+        if self.take("let"):
+            pattern = self.pattern()
+            self.want("=")
         condition = self.expression(False)
-        then = self.block()
-        if not self.take("else"):
-            return ("if", condition, then, None)
-        if self.take("if"):
-            return ("if", condition, then, self.choice())
-        return ("if", condition, then, self.block())
+        then, other = self.block(), None
+        if self.take("else"):
+            other = self.choice() if self.take("if") else self.block()
+        return ("if", condition, then, other) if pattern is None else ("if_let", pattern, condition, then, other)
 
     def arms(self):
         out = []
@@ -480,7 +568,7 @@ class Parser:
             self.want("=>")
             body = self.expression()
             out.append((pattern, body))
-            if not self.take(",") and body[0] not in ("block", "if", "match"):
+            if not self.take(",") and body[0] not in ("block", "if", "if_let", "match"):
                 self.want("}")
                 break
         return out
@@ -494,6 +582,12 @@ class Parser:
     def one_pattern(self):
         if self.kind in ("int", "byte"):
             return self.literal()[:2]
+        if self.take("&"):
+            return ("lent", self.one_pattern())
+        if self.take("("):
+            parts = self.listed(")", self.one_pattern)
+            return ("parts", parts) if parts else ("any",)
+        self.take("mut")
         if self.token in ("true", "false"):
             return ("bool", self.name() == "true")
         path = [self.name()]
@@ -505,7 +599,7 @@ class Parser:
             return ("variant", path, self.listed(")", self.one_pattern), None)
         if self.take("{"):
             return ("variant", path, None, dict(self.listed("}", self.named_pattern)))
-        return ("bind", path[0]) if len(path) == 1 else ("variant", path, [], None)
+        return ("bind", path[0]) if len(path) == 1 and not path[0][0].isupper() else ("variant", path, [], None)
 
     def named_pattern(self):
         name = self.name()

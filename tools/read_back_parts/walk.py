@@ -262,7 +262,8 @@ class Walk:
         return nodes.record(e[1], tuple(parts[i] for i in sorted(parts)))
 
     def of_variant(self, e):
-        return nodes.variant(e[1], e[2], tuple(self.value(part) for part in e[3]))
+        parts = [self.value(part) for part in e[3]]
+        return nodes.variant(e[1], e[2], tuple(part for part in parts if part is not None))
 
     def of_array(self, e):
         return nodes.listed(e[1], tuple(self.value(part) for part in e[2]))
@@ -293,6 +294,54 @@ class Walk:
 
     def of_tag_is(self, e):
         return nodes.truth(self.variant(self.value(e[1])) == e[2])
+
+    def of_unit(self, e):
+        return None
+
+    def of_same(self, e):
+        """Whether two values are equal: the same variant, and each part equal, in their order."""
+        return self.equal(e[1], self.value(e[2]), self.value(e[3]))
+
+    def equal(self, kind, a, b):
+        if kind[0] == "enum":
+            k = self.variant(a)
+            if k != self.variant(b):
+                return nodes.FALSE
+            pairs = [(part, nodes.payload(a, k, i, part), nodes.payload(b, k, i, part)) for i, (_, part) in enumerate(self.program.enums[kind[1]][k][1])]
+        elif kind[0] == "struct":
+            pairs = [(part, nodes.field(a, i, part), nodes.field(b, i, part)) for i, (_, part) in enumerate(self.program.structs[kind[1]])]
+        elif kind in nodes.WIDTH or kind in ("f64", "bool"):
+            return nodes.binary("==", kind, a, b)
+        else:
+            raise Unread(f"an equality of {kind}")
+        for part, x, y in pairs[:-1]:
+            if not self.holds(self.equal(part, x, y)):
+                return nodes.FALSE
+        return self.equal(*pairs[-1]) if pairs else nodes.TRUE
+
+    def of_tags_same(self, e):
+        """Whether two values are the same variant."""
+        k = self.variant(self.value(e[1]))
+        return nodes.truth(k == self.variant(self.value(e[2])))
+
+    def of_cases(self, e):
+        """The body of the first pattern that fits, or nothing."""
+        x = self.value(e[1])
+        for pattern, body in e[2]:
+            if self.fits(pattern, x):
+                return self.value(body)
+        return None
+
+    def fits(self, pattern, x):
+        if pattern[0] == "any":
+            return True
+        if pattern[0] == "name":
+            self.kinds[pattern[1]], self.state[pattern[1]] = pattern[2], x
+            return True
+        if pattern[0] == "either":
+            return any(self.fits(p, x) for p in pattern[1])
+        _, k, inner, kinds = pattern
+        return self.variant(x) == k and all(self.fits(p, nodes.payload(x, k, i, kind)) for i, (p, kind) in enumerate(zip(inner, kinds)))
 
     # ---- statements
 
