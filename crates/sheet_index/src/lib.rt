@@ -22,8 +22,7 @@ fn gather(
     ensures { ((result ≡ begin src.now (i + n)) × (begins.new ≡ stored (begin src.now) i n begins.old)) × ((counts.new ≡ stored (layers_of src.now) i n counts.old) × (angles.new ≡ filled (λ k. angle_of src.now (i + k)) n angles.old)) }
 {
     let mut at = first;
-    let mut k = 0;
-    while k < n {
+    for k in 0..n {
         let surface = sheet::onto(src, at);
         let floats = sheet::floats_at(src, surface);
         let run = sheet::layers_on(src, surface);
@@ -31,7 +30,6 @@ fn gather(
         counts[i + k] = run.count;
         angles[k] = floats.third;
         at = run.next;
-        k += 1;
     }
     at
 }
@@ -48,11 +46,9 @@ fn put(
     requires { (n ≤ 16) × (i + n ≤ 64) }
     ensures { (sines.new ≡ stored (λ k. get_or sin.now (k - i) nan) i n sines.old) × (cosines.new ≡ stored (λ k. get_or cos.now (k - i) nan) i n cosines.old) }
 {
-    let mut k = 0;
-    while k < n {
+    for k in 0..n {
         sines[i + k] = sin[k];
         cosines[i + k] = cos[k];
-        k += 1;
     }
 }
 

@@ -1,5 +1,5 @@
 -- The values of the BEAM and of a SURFACE with its layers, where they stand in some bytes. Assumes nothing.
-use mathlib.Core.Path.{◌≡◌, refl, sym, ap, ◌∙◌}
+use mathlib.Core.Path.{◌≡◌, refl, ap, ◌∙◌}
 use mathlib.Core.List.{List, [], ◌∷◌}
 use Prim.Native.Nat.{ℕ, zero, suc, ◌+◌, ◌*◌, ◌<◌}
 use native.Mathlib.Omega.{arith}
@@ -7,10 +7,9 @@ use lib.ListN.{length, get_or}
 use lib.Ieee.{Float}
 use Rattle.sheet.specs.Words.{float}
 use Rattle.sheet.specs.Blocks.{Block}
-use Rattle.sheet.specs.Sheet.{SheetLayer, Tuning, SheetSurface, nth, Sheet}
+use Rattle.sheet.specs.Sheet.{SheetSurface, nth, Sheet}
 use Rattle.sheet.specs.Internal.{next_place, tuning_at, surface_at, layers_at, layer_run, begin}
 use Rattle.sheet.proofs.Stands.{Standing, SurfaceHere, beam_stands, made_float, tuning_i, begin_stands}
-use Rattle.sheet_values.specs.declared.Beam.{Beam}
 use Rattle.sheet_values.specs.Values.{value, beam_value, films, surface_value, met_with, met_at}
 use Rattle.sheet_values.specs.Internal.{beam_at, wavelength_at}
 

