@@ -2,22 +2,22 @@
 use mathlib.Core.Path.{◌≡◌, refl, sym, ap, ◌∙◌, subst}
 use mathlib.Core.Bool.{Bool, true, false, cond}
 use mathlib.Core.Logic.{◌⊎◌, inl, inr}
-use mathlib.Core.List.{List, [], ◌∷◌}
-use Prim.Native.Nat.{ℕ, zero, suc, ◌<◌}
+use mathlib.Core.List.{List}
+use Prim.Native.Nat.{ℕ}
 use native.Mathlib.Omega.{arith}
 use lib.Dec.{T}
-use lib.ListN.{length, get_or}
+use lib.ListN.{length}
 use lib.Ieee.Bits.{is_true}
 use Rattle.ieee.proofs.Signs.{of_true}
 use Rattle.refusal.specs.Outcome.{Outcome, answer, refusal}
 use Rattle.sheet.specs.Blocks.{Result, read, fault}
-use Rattle.sheet.specs.Sheet.{Sheet, WellFormed, blocks, encode, places}
+use Rattle.sheet.specs.Sheet.{Sheet, WellFormed, encode, places}
 use Rattle.sheet.specs.Read.{decode, graded}
 use Rattle.sheet.specs.Claim.{Bytes, length_fits, Fault}
 use Rattle.sheet.proofs.Claim.{grammar_claim}
-use Rattle.gate.specs.Gate.{verdicts, judged, within_limits, gated}
+use Rattle.gate.specs.Gate.{verdicts, within_limits, gated}
 use Rattle.gate.specs.Claim.{WithinLimits, FirstOutside, GateClaim}
-use Rattle.gate.proofs.Verdicts.{Passed, each, as_before, within_passed, passed_within, First, Judged, all_pass, one_fails, judging, passed_judged, first_judged}
+use Rattle.gate.proofs.Verdicts.{Passed, each, as_before, within_passed, passed_within, Judged, all_pass, one_fails, judging, passed_judged, first_judged}
 
 many : (x : Sheet) → length (verdicts x) ≡ length (places x)
 many x = each x ∙ sym (grammar_claim.placed x).0

@@ -2,8 +2,7 @@
 use mathlib.Core.Path.{◌≡◌, refl, sym, ap, ◌∙◌, subst}
 use mathlib.Core.Bool.{Bool, true, false, ◌&&◌, cond}
 use mathlib.Core.List.{List, [], ◌∷◌}
-use Prim.Native.Nat.{ℕ, zero, suc, ◌+◌, ◌-◌, ◌≤◌, ◌<◌}
-use native.Mathlib.Nat.{zero-add}
+use Prim.Native.Nat.{ℕ, zero, suc, ◌+◌, ◌-◌, ◌<◌}
 use native.Mathlib.Omega.{arith}
 use lib.Dec.{eqb}
 use lib.ListN.{length, drop, drop_of_length-le}
@@ -12,7 +11,7 @@ use lib.Ieee.{Float}
 use Rattle.gate_limits.specs.Limits.{wavelength_passes}
 use Rattle.sheet.specs.Words.{word, kind, float}
 use Rattle.sheet.specs.Blocks.{Block}
-use Rattle.sheet.specs.Sheet.{SheetLayer, Tuning, keeps, tunes, SheetSurface, no_surface, nth, Sheet, surfaces_blocks, end_block}
+use Rattle.sheet.specs.Sheet.{SheetLayer, keeps, tunes, SheetSurface, no_surface, nth, Sheet, surfaces_blocks, end_block}
 use Rattle.sheet.specs.Internal.{next_place, place_on, layer_run, tuning_at, layers_at, onto, begin}
 use Rattle.sheet.proofs.Stands.{Stands, Standing, SurfaceHere, tuning_i, surface_i, surface_on, begin_stands}
 use Rattle.gate.specs.Wavelength.{surface_admitted, unless_tuned, layers_hold, holds}

@@ -2,7 +2,7 @@
 use mathlib.Core.Path.{◌≡◌, refl, sym, ap, ◌∙◌, subst}
 use mathlib.Core.Bool.{Bool, true, false, not, ◌&&◌, ◌||◌, cond}
 use mathlib.Core.List.{List, [], ◌∷◌}
-use Prim.Native.Nat.{ℕ, zero, suc, ◌+◌, ◌≤◌, ◌<◌}
+use Prim.Native.Nat.{ℕ, suc, ◌+◌, ◌≤◌, ◌<◌}
 use native.Mathlib.Numerals.{add-one}
 use native.Mathlib.Omega.{arith}
 use lib.Dec.{T, eqb}
@@ -16,11 +16,11 @@ use Rattle.gate.specs.declared.Passage.{Passage}
 use Rattle.gate_limits.specs.Limits.{beam_passes, surface_passes}
 use Rattle.sheet.specs.Words.{word, kind, float}
 use Rattle.sheet.specs.Blocks.{Block, Result, read, fault, starts}
-use Rattle.sheet.specs.Sheet.{SheetLayer, Tuning, keeps, tunes, SheetSurface, no_surface, nth, Sheet, block, layer_block, surface_block, tuned_blocks, layers_blocks, surfaces_blocks, end_block, blocks, places}
+use Rattle.sheet.specs.Sheet.{SheetLayer, Tuning, keeps, tunes, SheetSurface, no_surface, nth, Sheet, layer_block, surface_block, tuned_blocks, layers_blocks, surfaces_blocks, end_block, blocks, places}
 use Rattle.sheet.specs.Read.{decode, graded, surfaces_of, grammar}
 use Rattle.sheet.specs.Claim.{length_fits}
-use Rattle.sheet.specs.Internal.{next_place, place_on, layer_run, tuning_at, layers_at, onto, begin, place}
-use Rattle.sheet.proofs.Stands.{Stands, Standing, SurfaceHere, standing, Known, bytes_from, next_is, next_stands, beam_stands, tuning_i, surface_i, placed, begin_stands}
+use Rattle.sheet.specs.Internal.{next_place, place_on, tuning_at, layers_at, onto, begin, place}
+use Rattle.sheet.proofs.Stands.{Stands, Standing, SurfaceHere, standing, Known, bytes_from, next_is, next_stands, beam_stands, tuning_i, placed, begin_stands}
 use Rattle.sheet_index.specs.Index.{layers_of}
 use Rattle.sheet_values.specs.declared.Beam.{Beam}
 use Rattle.sheet_values.specs.Values.{value, beam_value, surface_value, met_with}
@@ -30,7 +30,7 @@ use Rattle.gate.specs.Gate.{layer_admitted, metal_admitted, snell_of, verdicts, 
 use Rattle.gate.specs.Wavelength.{layers_admitted, surface_admitted}
 use Rattle.gate.specs.Internal.{fits, whole_at, tuning_passes, passage_at}
 use Rattle.gate.specs.Claim.{untuned}
-use Rattle.gate.proofs.Verdicts.{layers_verdicts, tuning_verdicts, surfaces_verdicts, of_data, verdicts_are}
+use Rattle.gate.proofs.Verdicts.{layers_verdicts, tuning_verdicts, surfaces_verdicts, verdicts_are}
 
 -- all layers pass exactly where none is the first that does not
 pub all_fit : (w b : Float) (src : List ℕ) (at : ℕ) (ls : List SheetLayer) → (fits w b src at ls).all ≡ layers_admitted w b ls

@@ -96,15 +96,13 @@ fn metal_layers(src: &[u8], at: usize, n: usize, wavelength_nm: f64) -> bool
 {
     let mut place = at;
     let mut sum = 0.0;
-    let mut i = 0;
-    while i < n {
+    for _ in 0..n {
         if !metal_layer(src, place, wavelength_nm) {
             return false;
         }
         let layer = sheet_values::layer_at(src, place, wavelength_nm);
         sum = sum + gate_limits::absorption(wavelength_nm, layer);
         place = sheet::next_place(src, place);
-        i += 1;
     }
     sum <= 16.0
 }
@@ -143,13 +141,11 @@ fn layers_fit(src: &[u8], at: usize, n: usize, wavelength_nm: f64, snell: f64) -
     ensures { result ≡ fits wavelength_nm snell src.now at (layers_at src.now at n) }
 {
     let mut place = at;
-    let mut i = 0;
-    while i < n {
+    for _ in 0..n {
         if !layer_passes(src, place, wavelength_nm, snell) {
             return Fit { all: false, place };
         }
         place = sheet::next_place(src, place);
-        i += 1;
     }
     Fit { all: true, place }
 }
@@ -240,8 +236,7 @@ fn limits(
     }
     let n = count as usize;
     let mut wavelength_nm = beam.wavelength_nm;
-    let mut i = 0;
-    while i < n {
+    for i in 0..n {
         let theta = SinCos {
             sin: sines[i],
             cos: cosines[i],
@@ -251,7 +246,6 @@ fn limits(
             return outside(passage.place);
         }
         wavelength_nm = passage.wavelength_nm;
-        i += 1;
     }
     Gated::Admitted(count)
 }
@@ -317,8 +311,7 @@ fn layers_hold(src: &[u8], at: usize, n: u32, wavelength_nm: f64) -> bool
     ensures { result ≡ layers_hold_at n src.now at wavelength_nm }
 {
     let mut place = at;
-    let mut i = 0;
-    while i < n {
+    for _ in 0..n {
         if sheet::kind_at(src, place) == 7 {
             return true;
         }
@@ -326,7 +319,6 @@ fn layers_hold(src: &[u8], at: usize, n: u32, wavelength_nm: f64) -> bool
             return false;
         }
         place = sheet::after_layers(src, place);
-        i += 1;
     }
     true
 }

@@ -1,6 +1,5 @@
 -- `gate::gate` meets its contract. Assumes nothing.
 use mathlib.Core.Path.{ap}
-use borrow.Author.Rules.{rules}
 use Rattle.gate.specs.Index.{Index, index}
 use Rattle.gate.proofs.gate.Goals as goal
 

@@ -4,10 +4,8 @@ use mathlib.Core.Bool.{true, false}
 use mathlib.Core.List.{List}
 use Prim.Native.Nat.{ℕ, ◌≤◌}
 use lib.ListN.{replicate}
-use lib.Ieee.{Float, of_bits}
+use lib.Ieee.{Float}
 use native.Mathlib.Omega.{arith}
-use borrow.Author.Rules.{rules}
-use borrow.Author.Tests.{not-true, not-false}
 use Rattle.refusal.specs.Outcome.{Outcome, answer, refusal, map}
 use Rattle.ieee.specs.Functions.{one}
 use Rattle.ieee.proofs.Signs.{of_true}

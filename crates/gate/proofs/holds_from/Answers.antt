@@ -4,7 +4,6 @@ use mathlib.Core.Bool.{Bool, true, false, ◌&&◌}
 use mathlib.Core.List.{List}
 use Prim.Native.Nat.{ℕ}
 use lib.Ieee.{Float}
-use borrow.Author.Rules.{rules}
 use Rattle.gate_limits.specs.Limits.{wavelength_passes}
 use Rattle.gate.specs.Internal.{layers_hold_at, holds_from}
 use Rattle.gate.proofs.holds_from.Goals as goal

@@ -5,7 +5,6 @@ use mathlib.Core.List.{List}
 use Prim.Native.Nat.{ℕ, suc, ◌+◌, ◌-◌, ◌≤◌, ◌<◌}
 use native.Mathlib.Omega.{arith}
 use lib.Ieee.{Float}
-use borrow.Author.Rules.{rules}
 use borrow.Author.Tests.{not-true, not-false}
 use Rattle.sheet.specs.Internal.{next_place, layer_at, layers_at}
 use Rattle.gate.specs.Gate.{layer_admitted}
@@ -35,26 +34,11 @@ module _ (src : List ℕ) (place n i : ℕ) (w b : Float) (o : Fit) (inv : fits 
       gone : n - i ≡ 0
       gone = omega arith
 
-whole : (src : List ℕ) (at n : ℕ) (w b : Float) → fits w b src at (layers_at src at (n - 0)) ≡ fits w b src at (layers_at src at n)
-whole src at n w b = ap (λ (k : ℕ). fits w b src at (layers_at src at k)) (sub-zero n)
-  where
-    sub-zero : (n : ℕ) → n - 0 ≡ n
-    sub-zero n = omega arith
-
-pub loop-i-init : goal.loop-i-init
-loop-i-init c = (omega arith, whole _ _ _ _ _)
-
 pub returns-then-not-layer_passes : goal.returns-then-not-layer_passes
-returns-then-not-layer_passes c = stops _ _ _ _ _ _ _ c.loop-i.invariant.1 c.loop-i-test.true _ c.layer_passes.ensures (ap not c.if-not-layer_passes.true)
+returns-then-not-layer_passes c = stops _ _ _ _ _ _ _ c.loop.invariant c.loop-test.true _ c.layer_passes.ensures (ap not c.if-not-layer_passes.true)
 
-pub overflow_add-i : goal.overflow_add-i
-overflow_add-i c = omega arith
-
-pub loop-i-smaller : goal.loop-i-smaller
-loop-i-smaller c = omega arith
-
-pub loop-i-preserved : goal.loop-i-preserved
-loop-i-preserved c = (omega arith, goes_on _ _ _ _ _ _ _ c.loop-i.invariant.1 c.loop-i-test.true _ c.layer_passes.ensures (ap not c.if-not-layer_passes.false) _ c.next_place-place.ensures)
+pub loop-preserved : goal.loop-preserved
+loop-preserved c = goes_on _ _ _ _ _ _ _ c.loop.invariant c.loop-test.true _ c.layer_passes.ensures (ap not c.if-not-layer_passes.false) _ c.next_place-place.ensures
 
 pub returns : goal.returns
-returns c = all_fit _ _ _ _ _ _ _ c.loop-i.invariant.1 c.loop-i-test.false
+returns c = all_fit _ _ _ _ _ _ _ c.loop.invariant c.loop-test.false

@@ -6,7 +6,6 @@ use Prim.Native.Nat.{ℕ, suc, ◌+◌, ◌-◌, ◌≤◌, ◌<◌}
 use native.Mathlib.Omega.{arith}
 use lib.Dec.{eqb}
 use lib.Ieee.{Float}
-use borrow.Author.Rules.{rules}
 use borrow.Author.Tests.{eq-eqb, ne_eqb, not-true, not-false}
 use Rattle.sheet.specs.Words.{word, kind}
 use Rattle.sheet.specs.Internal.{place_on, layer_run}
@@ -45,29 +44,14 @@ module _ (src : List ℕ) (place n i : ℕ) (w : Float) (o : Bool) (inv : layers
       gone : n - i ≡ 0
       gone = omega arith
 
-whole : (src : List ℕ) (at n : ℕ) (w : Float) → layers_hold_at (n - 0) src at w ≡ layers_hold_at n src at w
-whole src at n w = ap (λ (k : ℕ). layers_hold_at k src at w) (sub-zero n)
-  where
-    sub-zero : (n : ℕ) → n - 0 ≡ n
-    sub-zero n = omega arith
-
-pub loop-i-init : goal.loop-i-init
-loop-i-init c = (omega arith, whole _ _ _ _)
-
 pub returns-then-kind_at-eq7 : goal.returns-then-kind_at-eq7
-returns-then-kind_at-eq7 c = tuned _ _ _ _ _ _ c.loop-i.invariant.1 c.loop-i-test.true _ c.kind_at.ensures c.if-kind_at-eq7.true
+returns-then-kind_at-eq7 c = tuned _ _ _ _ _ _ c.loop.invariant c.loop-test.true _ c.kind_at.ensures c.if-kind_at-eq7.true
 
 pub returns-then-not-surface_holds : goal.returns-then-not-surface_holds
-returns-then-not-surface_holds c = stops _ _ _ _ _ _ c.loop-i.invariant.1 c.loop-i-test.true _ c.kind_at.ensures c.if-kind_at-eq7.false _ c.surface_holds.ensures (ap not c.if-not-surface_holds.true)
+returns-then-not-surface_holds c = stops _ _ _ _ _ _ c.loop.invariant c.loop-test.true _ c.kind_at.ensures c.if-kind_at-eq7.false _ c.surface_holds.ensures (ap not c.if-not-surface_holds.true)
 
-pub overflow_add-i : goal.overflow_add-i
-overflow_add-i c = omega arith
-
-pub loop-i-smaller : goal.loop-i-smaller
-loop-i-smaller c = omega arith
-
-pub loop-i-preserved : goal.loop-i-preserved
-loop-i-preserved c = (omega arith, goes_on _ _ _ _ _ _ c.loop-i.invariant.1 c.loop-i-test.true _ c.kind_at.ensures c.if-kind_at-eq7.false _ c.surface_holds.ensures (ap not c.if-not-surface_holds.false) _ c.after_layers-place.ensures)
+pub loop-preserved : goal.loop-preserved
+loop-preserved c = goes_on _ _ _ _ _ _ c.loop.invariant c.loop-test.true _ c.kind_at.ensures c.if-kind_at-eq7.false _ c.surface_holds.ensures (ap not c.if-not-surface_holds.false) _ c.after_layers-place.ensures
 
 pub returns : goal.returns
-returns c = all _ _ _ _ _ _ c.loop-i.invariant.1 c.loop-i-test.false
+returns c = all _ _ _ _ _ _ c.loop.invariant c.loop-test.false

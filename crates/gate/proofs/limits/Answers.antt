@@ -1,20 +1,16 @@
 -- `gate::limits` meets its contract. Assumes nothing.
-use mathlib.Core.Path.{◌≡◌, refl, sym, ap, ◌∙◌}
+use mathlib.Core.Path.{◌≡◌, sym, ap, ◌∙◌}
 use mathlib.Core.List.{List}
-use Prim.Native.Nat.{ℕ, ◌-◌, ◌≤◌, ◌<◌}
-use native.Mathlib.Omega.{arith}
-use borrow.Author.Rules.{rules}
+use Prim.Native.Nat.{ℕ, ◌<◌}
 use lib.Ieee.{Float, nan}
 use lib.ListN.{get_or}
 use Rattle.math_trig.specs.Trig.{sin_cos}
-use Rattle.refusal.specs.Outcome.{refusal, map}
-use Rattle.sheet.specs.Read.{decode, graded, surfaces_of}
-use Rattle.sheet.specs.Internal.{next_place, onto, begin}
+use Rattle.refusal.specs.Outcome.{refusal}
+use Rattle.sheet.specs.Internal.{onto, begin}
 use Rattle.sheet_index.specs.Internal.{Indexed}
 use Rattle.gate.specs.declared.Passage.{Passage}
-use Rattle.gate.specs.Gate.{within_limits}
 use Rattle.gate.specs.Internal.{angle_at, passage_at}
-use Rattle.gate.proofs.Surfaces.{Reached, beam_fails, beam_holds, one_fails, one_holds, all_hold}
+use Rattle.gate.proofs.Surfaces.{beam_fails, beam_holds, one_fails, one_holds, all_hold}
 use mathlib.Core.Bool.{not}
 use Rattle.gate.proofs.limits.Goals as goal
 
@@ -32,23 +28,19 @@ returns-then-not-beam_passes c =
 
 pub loop-i-init : goal.loop-i-init
 loop-i-init c =
-    (omega arith, beam_holds _ _ c.type_inv.src c.requires.0.0 c.requires.0.1 _ c.beam_of-beam.ensures _ c.beam_passes.ensures (ap not c.if-not-beam_passes.false))
-
-pub judge-passage-requires : goal.judge-passage-requires
-judge-passage-requires c =
-    angles _ _ _ _ _ _ c.requires.1 _ c.loop-i-test.true
+    beam_holds _ _ c.type_inv.src c.requires.0.0 c.requires.0.1 _ c.beam_of-beam.ensures _ c.beam_passes.ensures (ap not c.if-not-beam_passes.false)
 
 pub returns-then-not-passage : goal.returns-then-not-passage
 returns-then-not-passage c =
     let h = c.requires.1 in
     let lt = c.loop-i-test.true in
-    c.outside-then-not-passage.ensures ∙ one_fails _ _ _ _ _ c.loop-i.invariant.1 lt _ (h.counted _ lt) _ (here _ _ _ _ _ _ h _ lt _ _ c.judge-passage.ensures) c.if-not-passage.true
+    c.outside-then-not-passage.ensures ∙ one_fails _ _ _ _ _ c.loop-i.invariant lt _ (h.counted _ lt) _ (here _ _ _ _ _ _ h _ lt _ _ c.judge-passage.ensures) c.if-not-passage.true
 
 pub loop-i-preserved : goal.loop-i-preserved
 loop-i-preserved c =
     let h = c.requires.1 in
     let lt = c.loop-i-test.true in
-    (omega (arith, lt), one_holds _ _ _ _ _ c.loop-i.invariant.1 lt _ (h.counted _ lt) _ (here _ _ _ _ _ _ h _ lt _ _ c.judge-passage.ensures) c.if-not-passage.false)
+    one_holds _ _ _ _ _ c.loop-i.invariant lt _ (h.counted _ lt) _ (here _ _ _ _ _ _ h _ lt _ _ c.judge-passage.ensures) c.if-not-passage.false
 
 pub returns : goal.returns
-returns c = all_hold _ _ _ _ _ c.loop-i.invariant.1 c.loop-i-test.false
+returns c = all_hold _ _ _ _ _ c.loop-i.invariant c.loop-i-test.false

@@ -5,10 +5,8 @@ use mathlib.Core.List.{List}
 use Prim.Native.Nat.{ℕ, suc, ◌+◌, ◌-◌, ◌≤◌, ◌<◌}
 use native.Mathlib.Omega.{arith}
 use lib.Ieee.{Float, le}
-use borrow.Author.Rules.{rules}
 use borrow.Author.Tests.{not-true, not-false}
 use Rattle.ieee.specs.Operators.{◌⊕◌}
-use Rattle.ieee.specs.Functions.{zero_f}
 use Rattle.gate_limits.specs.Limits.{sixteen, absorption}
 use Rattle.thin_film_solver.specs.declared.ThinFilmLayer.{ThinFilmLayer}
 use Rattle.sheet.specs.Internal.{next_place, layer_at, layers_at}
@@ -41,27 +39,12 @@ module _ (src : List ℕ) (place n i : ℕ) (w sum : Float) (o : Bool) (inv : me
       gone : n - i ≡ 0
       gone = omega arith
 
-whole : (src : List ℕ) (at n : ℕ) (w : Float) → metal_layers w zero_f (layers_at src at (n - 0)) ≡ metal_layers w zero_f (layers_at src at n)
-whole src at n w = ap (λ (k : ℕ). metal_layers w zero_f (layers_at src at k)) (sub-zero n)
-  where
-    sub-zero : (n : ℕ) → n - 0 ≡ n
-    sub-zero n = omega arith
-
-pub loop-i-init : goal.loop-i-init
-loop-i-init c = (omega arith, whole _ _ _ _)
-
 pub returns-then-not-metal_layer : goal.returns-then-not-metal_layer
-returns-then-not-metal_layer c = stops _ _ _ _ _ _ _ c.loop-i.invariant.1 c.loop-i-test.true _ c.metal_layer.ensures (ap not c.if-not-metal_layer.true)
+returns-then-not-metal_layer c = stops _ _ _ _ _ _ _ c.loop.invariant c.loop-test.true _ c.metal_layer.ensures (ap not c.if-not-metal_layer.true)
 
-pub overflow_add-i : goal.overflow_add-i
-overflow_add-i c = omega arith
-
-pub loop-i-smaller : goal.loop-i-smaller
-loop-i-smaller c = omega arith
-
-pub loop-i-preserved : goal.loop-i-preserved
-loop-i-preserved c =
-    (omega arith, goes_on _ _ _ _ _ _ _ c.loop-i.invariant.1 c.loop-i-test.true _ c.metal_layer.ensures (ap not c.if-not-metal_layer.false) _ c.layer_at-layer.ensures _ c.absorption-sum.ensures _ c.next_place-place.ensures)
+pub loop-preserved : goal.loop-preserved
+loop-preserved c =
+    goes_on _ _ _ _ _ _ _ c.loop.invariant c.loop-test.true _ c.metal_layer.ensures (ap not c.if-not-metal_layer.false) _ c.layer_at-layer.ensures _ c.absorption-sum.ensures _ c.next_place-place.ensures
 
 pub returns : goal.returns
-returns c = all _ _ _ _ _ _ _ c.loop-i.invariant.1 c.loop-i-test.false
+returns c = all _ _ _ _ _ _ _ c.loop.invariant c.loop-test.false
