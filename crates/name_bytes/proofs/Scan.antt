@@ -34,8 +34,8 @@ module _ (test : ℕ → Bool) where
         let d : prefix test (drop i s) ≡ 0 = ap (prefix test) (drop-cons s i 0 h) ∙ fails (get_or s i 0) (drop (suc i) s) e in
         omega arith
 
-    pub prefix_end : length s ≤ i → i ≡ prefix test s
-    prefix_end h =
+    pub prefix_end : length s ≤ i → i ≤ length s → length s ≡ prefix test s
+    prefix_end h k =
         let d : prefix test (drop i s) ≡ 0 = ap (prefix test) (drop_of_length-le s h) ∙ none in
         omega arith
 
@@ -60,7 +60,7 @@ module _ (s : List ℕ) (e : ℕ) (h : 0 < e) (k : e ≤ length s) (so_far : Lef
       let d : prefix blank (reverse (take e s)) ≡ suc (prefix blank (reverse (take (e - 1) s))) = ap (prefix blank) (last s e h k) ∙ passes blank (get_or s (e - 1) 0) (reverse (take (e - 1) s)) t in
       omega arith
 
-  pub left_stop : blank (get_or s (e - 1) 0) ≡ false → e ≡ kept s
+  pub left_stop : blank (get_or s (e - 1) 0) ≡ false → e - 1 + 1 ≡ kept s
   unfolding kept
   left_stop t =
       let d : prefix blank (reverse (take e s)) ≡ 0 = ap (prefix blank) (last s e h k) ∙ fails blank (get_or s (e - 1) 0) (reverse (take (e - 1) s)) t in

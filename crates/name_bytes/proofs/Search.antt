@@ -1,7 +1,7 @@
 -- The tests of a search at one place and the next. Assumes nothing.
 use mathlib.Core.Path.{◌≡◌, refl, sym, ap, ◌∙◌}
 use Prim.Native.Nat.{ℕ, suc, ◌+◌, ◌-◌, ◌≤◌, ◌<◌}
-use native.Mathlib.Nat.{le_of_eq}
+use native.Mathlib.Nat.{le_refl, le_of_eq}
 use native.Mathlib.Numerals.{add-one}
 use mathlib.Core.Bool.{Bool, true, false}
 use mathlib.Core.List.{List, [], ◌∷◌}
@@ -55,8 +55,7 @@ module _ (s p : List ℕ) (k : ℕ) (r : Bool) (r_is : r ≡ begins (take (lengt
       go : begins (get_or s k 0 ∷ drop (suc k) s) p ≡ true → contains (get_or s k 0 ∷ drop (suc k) s) p ≡ true
       go f = unfold contains in simp f
 
-  pub contains_end : length s ≤ k → contains (drop k s) p ≡ r
-  contains_end h = ap (λ (l : List ℕ). contains l p) nothing ∙ contains_nil p ∙ ap (λ (l : List ℕ). begins l p) (sym nothing) ∙ sym at_part
-    where
-      nothing : drop k s ≡ []
-      nothing = drop_of_length-le s h
+pub contains_end : (s p : List ℕ) (k : ℕ) (r : Bool) → length s ≤ k → r ≡ begins (take (length s - length s) (drop (length s) s)) p → contains (drop k s) p ≡ r
+contains_end s p k r h r_is =
+    ap (λ (l : List ℕ). contains l p) (drop_of_length-le s h) ∙ contains_nil p
+    ∙ ap (λ (l : List ℕ). begins l p) (sym (drop_of_length-le s (le_refl (length s)))) ∙ sym (at_part s p (length s) r r_is)

@@ -32,26 +32,22 @@ fn blank(b: u8) -> bool
 fn leading(s: &[u8]) -> usize
     ensures { result ≡ prefix blank s.now }
 {
-    let mut i = 0;
-    while i < s.len() {
-        if !blank(s[i]) {
+    for (i, b) in s.iter().enumerate() {
+        if !blank(*b) {
             return i;
         }
-        i += 1;
     }
-    i
+    s.len()
 }
 
 // How many bytes are left without the blank ones at the end.
 fn kept(s: &[u8]) -> usize
     ensures { result ≡ kept s.now }
 {
-    let mut e = s.len();
-    while 0 < e {
-        if !blank(s[e - 1]) {
-            return e;
+    for i in (0..s.len()).rev() {
+        if !blank(s[i]) {
+            return i + 1;
         }
-        e -= 1;
     }
     0
 }
@@ -134,15 +130,13 @@ pub fn trim_numbers(name: &[u8]) -> Span
 fn begins(s: &[u8], p: &[u8]) -> bool
     ensures { result ≡ begins s.now p.now }
 {
-    let mut i = 0;
-    while i < p.len() {
+    for (i, b) in p.iter().enumerate() {
         if i >= s.len() {
             return false;
         }
-        if s[i] != p[i] {
+        if s[i] != *b {
             return false;
         }
-        i += 1;
     }
     true
 }
@@ -162,14 +156,12 @@ pub fn is(s: &[u8], p: &[u8]) -> bool
 pub fn contains(s: &[u8], p: &[u8]) -> bool
     ensures { result ≡ contains s.now p.now }
 {
-    let mut k = 0;
-    while k < s.len() {
+    for k in 0..s.len() {
         if begins(&s[k..], p) {
             return true;
         }
-        k += 1;
     }
-    begins(&s[k..], p)
+    begins(&s[s.len()..], p)
 }
 
 // ---- ASCII
@@ -191,12 +183,10 @@ pub fn upper_byte(b: u8) -> u8
 pub fn first_over(s: &[u8]) -> usize
     ensures { result ≡ first_over s.now }
 {
-    let mut i = 0;
-    while i < s.len() {
-        if s[i] > 127 {
+    for (i, b) in s.iter().enumerate() {
+        if *b > 127 {
             return i;
         }
-        i += 1;
     }
-    i
+    s.len()
 }

@@ -1,5 +1,4 @@
 -- `name_bytes::is` meets its contract. Assumes nothing.
-use borrow.Author.Rules.{rules}
 use borrow.Author.Tests.{eq-eqb, ne_eqb}
 use Rattle.name_bytes.specs.Search.{is}
 use Rattle.name_bytes.proofs.is.Goals as goal

@@ -1,6 +1,6 @@
 -- `name_bytes::trim_numbers` meets its contract. Assumes nothing.
-use mathlib.Core.Path.{◌≡◌, ◌∙◌}
-use Rattle.name_bytes.specs.Trim.{trimmed, span, span_of}
+use mathlib.Core.Path.{◌∙◌}
+use Rattle.name_bytes.specs.Trim.{span, span_of}
 use Rattle.name_bytes.proofs.trim_numbers.Goals as goal
 
 pub returns : goal.returns

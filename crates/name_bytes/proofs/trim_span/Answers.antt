@@ -5,7 +5,6 @@ use Prim.Native.Nat.{ℕ, ◌-◌, ◌<◌}
 use native.Mathlib.Nat.{le_of_eq}
 use lib.ListN.{length, take, drop, length-drop}
 use lib.Seq.{take_all}
-use borrow.Author.Rules.{rules}
 use Rattle.name_bytes.specs.declared.Span.{Span}
 use Rattle.name_bytes.specs.Trim.{blank, prefix, kept, span}
 use Rattle.name_bytes.proofs.Spans.{inside, outside}

@@ -5,7 +5,6 @@ use Prim.Native.Nat.{ℕ, ◌+◌, ◌-◌, ◌≤◌}
 use native.Mathlib.Nat.{add-sub_cancel_left}
 use native.Mathlib.Omega.{arith}
 use lib.ListN.{length, take, drop}
-use borrow.Author.Rules.{rules}
 use Rattle.name_bytes.specs.declared.Span.{Span}
 use Rattle.name_bytes.specs.Trim.{trimmed, span, part}
 use Rattle.name_bytes.proofs.Spans.{part_is, part_fits}
