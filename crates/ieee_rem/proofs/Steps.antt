@@ -56,10 +56,13 @@ unfolding pack
 pack_zero zero = refl
 pack_zero (suc j) = pack_zero j
 
-pub stop : (m k : ℕ) → 0 < k → 2 ^ 52 ≤ m → pack m k ≡ k * 2 ^ 52 + m
+pub stop : (m k : ℕ) → 0 < k → 2 ^ 52 ≤ m → pack m k ≡ (k - 1 + 1) * 2 ^ 52 + m
 unfolding pack
 stop m zero h g = absurd (lt_irrefl 0 h)
-stop m (suc k) h g = ap (λ (b : Bool). cond b (suc k * 2 ^ 52 + m) (pack (m * 2) k)) (le-leb (2 ^ 52) m g)
+stop m (suc k) h g = ap (λ (b : Bool). cond b (suc k * 2 ^ 52 + m) (pack (m * 2) k)) (le-leb (2 ^ 52) m g) ∙ ap (λ (n : ℕ). n * 2 ^ 52 + m) (before k)
+  where
+    before : (k : ℕ) → suc k ≡ suc k - 1 + 1
+    before k = omega arith
 
 pub again : (m k : ℕ) → 0 < k → m < 2 ^ 52 → pack (m * 2) (k - 1) ≡ pack m k
 unfolding pack

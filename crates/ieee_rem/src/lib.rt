@@ -52,13 +52,11 @@ fn pack(r: u64, j: u64) -> u64
     ensures { result ≡ pack r j }
 {
     let mut m = r;
-    let mut k = j;
-    while k > 0 {
+    for k in (0..j).rev() {
         if m >= HIDDEN {
-            return k * HIDDEN + m;
+            return (k + 1) * HIDDEN + m;
         }
-        m = m * 2;
-        k -= 1;
+        m *= 2;
     }
     m
 }

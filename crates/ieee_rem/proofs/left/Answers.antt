@@ -1,13 +1,9 @@
 -- `ieee_rem::left` meets its contract. The loop's invariant: r is m·2 ^ (d - k) % n. Assumes nothing.
-use mathlib.Core.Path.{◌≡◌}
-use Prim.Native.Nat.{◌-◌, ◌*◌, ◌%◌, ◌^◌, ◌≤◌, ◌<◌}
-use native.Mathlib.Nat.{mod-lt, le_refl}
+use Prim.Native.Nat.{◌*◌}
+use native.Mathlib.Nat.{mod-lt}
 use native.Mathlib.Omega.{arith}
-use Rattle.ieee_rem.proofs.Steps.{started, eleven, ended}
+use Rattle.ieee_rem.proofs.Steps.{eleven, ended}
 use Rattle.ieee_rem.proofs.left.Goals as goal
-
-pub loop-k-init : goal.loop-k-init
-loop-k-init c = (mod-lt c.args.m c.requires.0, le_refl c.args.d, started c.args.m c.args.n c.args.d)
 
 pub loop-k-preserved : goal.loop-k-preserved
 loop-k-preserved c = (

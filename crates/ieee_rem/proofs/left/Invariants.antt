@@ -1,9 +1,6 @@
 -- `ieee_rem::left` meets its contract. The loop's invariant: r is m·2 ^ (d - k) % n. Assumes nothing.
 use mathlib.Core.Path.{◌≡◌}
 use Prim.Native.Nat.{◌-◌, ◌*◌, ◌%◌, ◌^◌, ◌≤◌, ◌<◌}
-use native.Mathlib.Nat.{mod-lt, le_refl}
-use native.Mathlib.Omega.{arith}
-use Rattle.ieee_rem.proofs.Steps.{started, eleven, ended}
 use Rattle.ieee_rem.proofs.left.Given as goal
 
 abbrev pub invariant-loop-k : goal.invariant-loop-k

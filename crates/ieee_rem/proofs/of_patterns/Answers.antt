@@ -1,31 +1,16 @@
 -- `ieee_rem::of_patterns` meets its contract. Assumes nothing.
-use mathlib.Core.Path.{◌≡◌, sym, ap, ap₂, ◌∙◌, subst}
+use mathlib.Core.Path.{sym, ap, ap₂, ◌∙◌, subst}
 use Prim.Native.Nat.{ℕ, ◌+◌, ◌-◌, ◌*◌, ◌/◌, ◌%◌, ◌^◌, ◌≤◌, ◌<◌}
 use native.Mathlib.Nat.{add-zero}
 use native.Mathlib.Omega.{arith}
-use borrow.Author.Rules.{rules}
 use Rattle.ieee_rem.specs.Internal.{digits, place, pack, of_patterns}
 use Rattle.ieee_rem.proofs.Steps.{pack_zero}
-use Rattle.ieee_rem.proofs.Value.{digits_lt, digits_pos, packed}
+use Rattle.ieee_rem.proofs.Value.{packed}
 use Rattle.ieee_rem.proofs.Pattern.{place_most, rest_lt}
 use Rattle.ieee_rem.proofs.of_patterns.Goals as goal
 
 fits_sum : (a p : ℕ) → a < 2 ^ 64 → p < 0x7ff0_0000_0000_0000 → a / 2 ^ 63 * 2 ^ 63 + p < 2 ^ 64
 fits_sum a p h g = omega arith
-
-pub left-r-requires : goal.left-r-requires
-left-r-requires c =
-    let b = c.args.b in
-    let e = sym c.digits-2.ensures in
-    (subst (λ (n : ℕ). 0 < n) e (digits_pos b c.requires.0), subst (λ (n : ℕ). n < 2 ^ 53) e (digits_lt b))
-
-pub pack-requires : goal.pack-requires
-pack-requires c = (
-  (subst (λ (n : ℕ). n < 2 ^ 53) (sym ((c.left-r.ensures
-      ∙ ap₂ (λ (m n : ℕ). m * 2 ^ (c.place.result - c.place-2.result) % n) c.digits.ensures c.digits-2.ensures
-      ∙ ap₂ (λ (i j : ℕ). digits c.args.a * 2 ^ (i - j) % digits c.args.b) c.place.ensures c.place-2.ensures))) (rest_lt c.args.a c.args.b (place c.args.a - place c.args.b) c.requires.0)),
-  (subst (λ (n : ℕ). n ≤ 2045) (sym c.place-else-r-eq0.ensures) (place_most c.args.b c.requires.1)),
-)
 
 pub overflow_add-result : goal.overflow_add-result
 overflow_add-result c =

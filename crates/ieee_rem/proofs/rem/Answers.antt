@@ -4,7 +4,6 @@ use Prim.Native.Nat.{ℕ, ◌*◌, ◌%◌, ◌^◌, ◌≤◌, ◌<◌}
 use native.Mathlib.Nat.{le_of_lt}
 use native.Mathlib.Omega.{arith}
 use mathlib.Core.Bool.{Bool, not, ◌||◌}
-use borrow.Author.Rules.{rules}
 use lib.Dec.{T}
 use lib.Ieee.{Float, nan, binary64, is_nan, rem, to_bits, of_bits}
 use lib.Ieee.Bits.{of_bits-to_bits}
@@ -15,7 +14,7 @@ use Rattle.ieee.proofs.Patterns.{nan_is, no_nan}
 use Rattle.ieee.proofs.Fmod.{rem_is_fmod}
 use Rattle.ieee.proofs.Range.Falls.{or_l, or_r}
 use Rattle.ieee.proofs.Range.Round.{value_finite}
-use Rattle.ieee_rem.specs.Internal.{digits, place, of_patterns}
+use Rattle.ieee_rem.specs.Internal.{digits, place}
 use Rattle.ieee_rem.proofs.Value.{minus, value}
 use Rattle.ieee_rem.proofs.Pattern.{finite_pattern, patterns_rem, patterns_small, not_finite, infinite, zero_pattern}
 use Rattle.ieee_rem.proofs.rem.Goals as goal
