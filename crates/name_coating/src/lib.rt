@@ -30,12 +30,13 @@ fn upper(s: &[u8]) -> Clean
     ensures { result ≡ record { bytes = upper s.now ++ replicate (32 - length s.now) 0; len = length s.now } }
 {
     let mut bytes = [0u8; 32];
-    let mut i = 0;
-    while i < s.len() {
-        bytes[i] = name_bytes::upper_byte(s[i]);
-        i += 1;
+    for (i, b) in s.iter().enumerate() {
+        bytes[i] = name_bytes::upper_byte(*b);
     }
-    Clean { bytes, len: i }
+    Clean {
+        bytes,
+        len: s.len(),
+    }
 }
 
 fn names_none(clean: &[u8]) -> bool

@@ -2,7 +2,6 @@
 use mathlib.Core.Path.{ap, ◌∙◌}
 use mathlib.Core.List.{List}
 use Prim.Native.Nat.{ℕ}
-use borrow.Author.Rules.{rules}
 use Rattle.refusal.specs.Outcome.{answer}
 use Rattle.name_coating.specs.Name.{coating_of}
 use Rattle.name_coating.proofs.UpperCase.{clean_is, clean_fits, clean_size}

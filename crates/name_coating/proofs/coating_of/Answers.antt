@@ -1,7 +1,6 @@
 -- `name_coating::coating_of` meets its contract. Assumes nothing.
 use mathlib.Core.Path.{sym}
 use Rattle.name_coating.specs.Name.{coating_of}
-use borrow.Author.Rules.{rules}
 use Rattle.name_coating.proofs.coating_of.Goals as goal
 
 pub returns-then-names_none : goal.returns-then-names_none

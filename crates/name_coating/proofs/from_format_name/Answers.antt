@@ -5,7 +5,6 @@ use Prim.Native.Nat.{ℕ, ◌≤◌, ◌<◌}
 use native.Mathlib.Omega.{arith}
 use lib.ListN.{length}
 use borrow.Author.Tests.{lt-ltb, le-ltb}
-use borrow.Author.Rules.{rules}
 use Rattle.refusal.specs.Outcome.{answer, refusal}
 use Rattle.name_bytes.specs.Trim.{trimmed}
 use Rattle.name_coating.specs.Name.{upper, coating_of, from_format_name}

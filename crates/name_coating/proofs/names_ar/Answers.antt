@@ -1,7 +1,6 @@
 -- `name_coating::names_ar` meets its contract. Assumes nothing.
 use mathlib.Core.Path.{sym}
 use Rattle.name_coating.specs.Name.{names_ar}
-use borrow.Author.Rules.{rules}
 use Rattle.name_coating.proofs.names_ar.Goals as goal
 
 pub returns-then-is : goal.returns-then-is

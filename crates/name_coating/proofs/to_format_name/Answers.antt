@@ -1,5 +1,4 @@
 -- `name_coating::to_format_name` meets its contract. Assumes nothing.
-use borrow.Author.Rules.{rules}
 use Rattle.name_coating.proofs.to_format_name.Goals as goal
 
 pub returns-in-IdealAr : goal.returns-in-IdealAr

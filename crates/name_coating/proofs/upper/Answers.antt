@@ -7,19 +7,18 @@ use lib.ListN.{length, replicate}
 use Rattle.name_coating.specs.declared.Clean.{Clean}
 use Rattle.name_coating.specs.Name.{upper}
 use Rattle.name_coating.proofs.UpperCase.{filled, filled_none, filled_more, filled_all}
-use borrow.Author.Rules.{rules}
 use Rattle.name_coating.proofs.upper.Goals as goal
 
-whole : (s bytes : List ℕ) (i : ℕ) → i ≤ length s → length s ≤ i → bytes ≡ filled s i → ◌≡◌ {A = Clean} (record { bytes = bytes; len = i }) (record { bytes = upper s ++ replicate (32 - length s) 0; len = length s })
+whole : (s bytes : List ℕ) (i : ℕ) → i ≤ length s → length s ≤ i → bytes ≡ filled s i → ◌≡◌ {A = Clean} (record { bytes = bytes; len = length s }) (record { bytes = upper s ++ replicate (32 - length s) 0; len = length s })
 whole s bytes i h k e =
     let d : i ≡ length s = omega arith in
     simp (e, d, filled_all s)
 
 pub loop-i-init : goal.loop-i-init
-loop-i-init c = (omega arith, filled_none c.args.s.now)
+loop-i-init c = filled_none c.args.s.now
 
 pub loop-i-preserved : goal.loop-i-preserved
-loop-i-preserved c = (search rules, simp (c.loop-i.invariant.1, c.upper_byte.ensures) (filled_more _ _ c.loop-i-test.true c.requires))
+loop-i-preserved c = simp (c.loop-i.invariant, c.upper_byte.ensures) (filled_more _ _ c.loop-i-test.true c.requires)
 
 pub returns : goal.returns
-returns c = whole _ _ _ c.loop-i.invariant.0 c.loop-i-test.false c.loop-i.invariant.1
+returns c = whole _ _ _ c.loop-i.auto.i-end c.loop-i-test.false c.loop-i.invariant
