@@ -1,6 +1,6 @@
 -- Bytes behind bytes on a page. Assumes nothing.
 use mathlib.Core.Path.{◌≡◌, refl, sym, ap, ◌∙◌}
-use mathlib.Core.List.{List, [], ◌++◌, append_assoc}
+use mathlib.Core.List.{List, ◌++◌, append_assoc}
 use Prim.Native.Nat.{ℕ, ◌+◌, ◌≤◌, ◌<◌}
 use native.Mathlib.Numerals.{add-one}
 use native.Mathlib.Omega.{arith}
@@ -43,12 +43,12 @@ module _ (page₀ : List ℕ) (at : ℕ) (bytes : List ℕ) (room : at + length 
     pub pasted : page ≡ take at page₀ ++ bytes ++ drop (at + length bytes) page₀
     pasted = h.front ∙ ap (paste page₀ at bytes) all ∙ ap (λ (z : List ℕ). take at page₀ ++ z ++ drop (at + length bytes) page₀) (take-length bytes)
 
-    pub appended : Appended page₀ at bytes (at + i) page
+    pub appended : Appended page₀ at bytes (at + length bytes) page
     appended = record {
-      counts = ap (λ (k : ℕ). at + k) all;
+      counts = refl;
       long = h.long;
       front =
-          ap (take (at + i)) pasted
-          ∙ take_at (take at page₀ ++ bytes) (drop (at + length bytes) page₀) (at + i)
-          (length-append (take at page₀) bytes ∙ ap (λ (k : ℕ). k + length bytes) (length-take-le at page₀ (omega arith)) ∙ ap (λ (k : ℕ). at + k) (sym all));
+          ap (take (at + length bytes)) pasted
+          ∙ take_at (take at page₀ ++ bytes) (drop (at + length bytes) page₀) (at + length bytes)
+          (length-append (take at page₀) bytes ∙ ap (λ (k : ℕ). k + length bytes) (length-take-le at page₀ (omega arith)));
     }

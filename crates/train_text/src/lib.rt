@@ -40,9 +40,7 @@ fn hex(w: u64) -> [u8; 16]
 {
     let mut text = [48u8; 16];
     let mut rest = w;
-    let mut i = 16;
-    while i > 0 {
-        i -= 1;
+    for i in (0..16).rev() {
         text[i] = hex_digit(rest % 16);
         rest /= 16;
     }
@@ -78,12 +76,10 @@ fn append(page: &mut [u8], at: usize, bytes: &[u8]) -> usize
     requires { at + length bytes.now ≤ length page.old }
     ensures { Appended page.old at bytes.now result page.new }
 {
-    let mut i = 0;
-    while i < bytes.len() {
-        page[at + i] = bytes[i];
-        i += 1;
+    for (i, b) in bytes.iter().enumerate() {
+        page[at + i] = *b;
     }
-    at + i
+    at + bytes.len()
 }
 
 fn append_bits(page: &mut [u8], at: usize, x: f64) -> usize
@@ -177,12 +173,10 @@ fn lines(
     let mut s = first_s;
     let mut p = first_p;
     let mut at = 0;
-    let mut i = 0;
-    while i < count {
+    for i in 0..count {
         s = list[2 * i];
         p = list[2 * i + 1];
         at = surface_line(page, at, i as u64 + 1, reflects(src, i as u32), s, p);
-        i += 1;
     }
     sum_line(page, at, s, p)
 }
@@ -214,10 +208,8 @@ fn copy(bytes: &[u8], buffer: &mut [u8])
     requires { length bytes.now ≤ length buffer.old }
     ensures { buffer.new ≡ bytes.now ++ drop (length bytes.now) buffer.old }
 {
-    let mut i = 0;
-    while i < bytes.len() {
-        buffer[i] = bytes[i];
-        i += 1;
+    for (i, b) in bytes.iter().enumerate() {
+        buffer[i] = *b;
     }
 }
 

@@ -1,6 +1,5 @@
 -- `train_text::admitted` meets its contract. Assumes nothing.
 use mathlib.Core.Path.{sym, ap, ◌∙◌}
-use borrow.Author.Rules.{rules}
 use Rattle.train_steps.specs.Train.{outcome}
 use Rattle.train_text.proofs.Whole.{restart, not_refused}
 use Rattle.train_text.proofs.admitted.Goals as goal

@@ -1,8 +1,5 @@
 -- `train_text::append` meets its contract. Assumes nothing.
-use Prim.Native.Nat.{◌-◌}
-use lib.ListN.{length}
-use borrow.Author.Rules.{rules}
-use Rattle.train_text.proofs.Pages.{Half, begun, further, appended}
+use Rattle.train_text.proofs.Pages.{begun, further, appended}
 use Rattle.train_text.proofs.append.Goals as goal
 
 pub loop-i-init : goal.loop-i-init

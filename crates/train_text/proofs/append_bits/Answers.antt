@@ -1,7 +1,6 @@
 -- `train_text::append_bits` meets its contract. Assumes nothing.
 use native.Mathlib.Omega.{arith}
 use Rattle.train_text.proofs.Pieces.{bits_are}
-use borrow.Author.Rules.{rules}
 use Rattle.train_text.proofs.append_bits.Goals as goal
 
 pub returns : goal.returns

@@ -1,7 +1,6 @@
 -- `train_text::append_decimal` meets its contract. Assumes nothing.
 use native.Mathlib.Omega.{arith}
 use Rattle.train_text.proofs.Pieces.{decimal_is}
-use borrow.Author.Rules.{rules}
 use Rattle.train_text.proofs.append_decimal.Goals as goal
 
 pub slice_bounds-append-end : goal.slice_bounds-append-end

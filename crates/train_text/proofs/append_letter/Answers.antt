@@ -1,6 +1,5 @@
 -- `train_text::append_letter` meets its contract. Assumes nothing.
 use Rattle.train_text.proofs.Pieces.{letter_is, other_letter_is}
-use borrow.Author.Rules.{rules}
 use Rattle.train_text.proofs.append_letter.Goals as goal
 
 pub returns-then-reflected : goal.returns-then-reflected

@@ -1,5 +1,4 @@
 -- `train_text::hex_digit` meets its contract. Assumes nothing.
-use borrow.Author.Rules.{rules}
 use borrow.Author.Tests.{lt-ltb, le-ltb}
 use Rattle.train_text.proofs.hex_digit.Goals as goal
 

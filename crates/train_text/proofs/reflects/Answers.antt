@@ -1,6 +1,5 @@
 -- `train_text::reflects` meets its contract. Assumes nothing.
 use mathlib.Core.Path.{sym, ap, ◌∙◌}
-use borrow.Author.Rules.{rules}
 use Rattle.sheet_surfaces.specs.Surfaces.{surface_outcome}
 use Rattle.train_text.specs.Page.{reflects}
 use Rattle.train_text.proofs.reflects.Goals as goal

@@ -1,6 +1,5 @@
 -- `train_text::refused_line` meets its contract. Assumes nothing.
 use Rattle.train_text.proofs.Pieces.{refusal_is}
-use borrow.Author.Rules.{rules}
 use Rattle.train_text.proofs.refused_line.Goals as goal
 
 pub returns : goal.returns

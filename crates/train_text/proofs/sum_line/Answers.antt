@@ -1,6 +1,5 @@
 -- `train_text::sum_line` meets its contract. Assumes nothing.
 use Rattle.train_text.proofs.Pieces.{sum_is}
-use borrow.Author.Rules.{rules}
 use Rattle.train_text.proofs.sum_line.Goals as goal
 
 pub returns : goal.returns

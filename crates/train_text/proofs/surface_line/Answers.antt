@@ -1,6 +1,5 @@
 -- `train_text::surface_line` meets its contract. Assumes nothing.
 use Rattle.train_text.proofs.Pieces.{surface_is}
-use borrow.Author.Rules.{rules}
 use Rattle.train_text.proofs.surface_line.Goals as goal
 
 pub returns : goal.returns

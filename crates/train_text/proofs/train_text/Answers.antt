@@ -1,7 +1,6 @@
 -- `train_text::train_text` meets its contract. Assumes nothing.
 use native.Mathlib.Omega.{arith}
 use lib.ListN.{length-take}
-use borrow.Author.Rules.{rules}
 use Rattle.train_text.proofs.Whole.{too_short, fits}
 use Rattle.train_text.proofs.train_text.Goals as goal
 

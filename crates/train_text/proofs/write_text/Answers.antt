@@ -1,6 +1,5 @@
 -- `train_text::write_text` meets its contract. Assumes nothing.
 use mathlib.Core.Path.{refl, ap}
-use borrow.Author.Rules.{rules}
 use Rattle.gate.specs.Gate.{outcome}
 use Rattle.train_text.proofs.Pieces.{same_bytes}
 use Rattle.train_text.proofs.Whole.{had_room, ran_text, refused_text}
