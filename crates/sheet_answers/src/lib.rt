@@ -50,15 +50,13 @@ fn solve(
 {
     let mut ms = thin_film_matrix::identity();
     let mut mp = thin_film_matrix::identity();
-    let mut i = 0;
-    while i < n {
+    for i in 0..n {
         let j = thin_film_layers::nth_index(reversed, n, i);
         let terms = thin_film_solver::terms_of(light, layer_after(src, at, j, wavelength_nm));
         let next_s = thin_film_solver::step_s(ms, terms);
         let next_p = thin_film_solver::step_p(mp, terms);
         ms = next_s;
         mp = next_p;
-        i += 1;
     }
     thin_film_solver::finish(light, ms, mp)
 }

@@ -72,8 +72,7 @@ fn media_at(
 {
     let mut recent = surface_real::no_recent();
     let mut place = sheet::next_place(src, at);
-    let mut i = 0;
-    while i < count {
+    for i in 0..count {
         let reached = reach(src, place, wavelength_nm);
         let layer = reached.layer;
         recent = surface_real::turn(light, layer, recent);
@@ -83,7 +82,6 @@ fn media_at(
         eta_p[i] = medium.eta_p;
         delta[i] = medium.delta;
         place = reached.next;
-        i += 1;
     }
 }
 

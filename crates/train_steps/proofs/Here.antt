@@ -1,24 +1,19 @@
 -- The chosen powers of a surface within the limits, by the shorter way, are those of its answers. Assumes nothing.
 use mathlib.Core.Path.{◌≡◌, refl, sym, ap, ◌∙◌}
 use mathlib.Core.List.{List, [], ◌∷◌}
-use Prim.Native.Nat.{ℕ, suc, ◌+◌, ◌≤◌, ◌<◌}
-use native.Mathlib.Omega.{arith}
-use lib.Dec.{T}
+use Prim.Native.Nat.{ℕ, suc, ◌+◌, ◌<◌}
 use lib.ListN.{length, drop, get_or}
 use lib.Ieee.{Float, nan}
 use Rattle.ieee.specs.Operators.{◌⊗◌}
-use Rattle.refusal.specs.Outcome.{Outcome, answer, map}
+use Rattle.refusal.specs.Outcome.{map}
 use Rattle.surface.specs.declared.Answers.{Answers}
-use Rattle.surface.specs.declared.Powers.{Powers}
-use Rattle.surface.specs.Answers.{answers, powers}
 use Rattle.surface.specs.Finite.{Answered}
 use Rattle.surface.proofs.Alone.{powers_answered}
-use Rattle.sheet.specs.Blocks.{Block}
 use Rattle.sheet.specs.Sheet.{SheetSurface, nth, Sheet, surfaces_blocks, end_block}
 use Rattle.sheet.specs.Internal.{next_place, layer_run, tuning_at, surface_at, layers_at, onto, begin, place}
 use Rattle.sheet.proofs.Stands.{Standing, SurfaceHere, placed}
 use Rattle.sheet_values.specs.declared.Beam.{Beam}
-use Rattle.sheet_values.specs.Values.{value, beam_value, films, surface_value, met_with}
+use Rattle.sheet_values.specs.Values.{beam_value, films, surface_value, met_with}
 use Rattle.sheet_values.specs.Internal.{beam_at}
 use Rattle.sheet_values.proofs.Here.{beam_here, value_here, films_here, tuning_here}
 use Rattle.math_trig.specs.Trig.{sin_cos}

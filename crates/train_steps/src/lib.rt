@@ -231,8 +231,7 @@ fn write_each(
     let mut s = beam.s;
     let mut p = beam.p;
     let mut wavelength_nm = beam.wavelength_nm;
-    let mut i = 0;
-    while i < count {
+    for i in 0..count {
         let begin = begins[i];
         wavelength_nm = sheet_values::met_with(src, begin, wavelength_nm);
         let at = sheet::onto(src, begin);
@@ -245,7 +244,6 @@ fn write_each(
         p = p * c.p;
         list[2 * i] = s;
         list[2 * i + 1] = p;
-        i += 1;
     }
 }
 
@@ -261,14 +259,12 @@ pub fn run_at(src: &[u8], count: u32, wavelength_nm: f64) -> State
         wavelength_nm,
     };
     let mut begin = sheet::begin_of(src, 0);
-    let mut i = 0;
-    while i < count {
+    for _ in 0..count {
         let met_nm = sheet_values::met_with(src, begin, state.wavelength_nm);
         let at = sheet::onto(src, begin);
         let run = sheet::layers_on(src, at);
         state = moved_from(src, at, run.count, met_nm, state);
         begin = run.next;
-        i += 1;
     }
     state
 }

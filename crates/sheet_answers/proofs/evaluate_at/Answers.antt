@@ -3,7 +3,6 @@ use mathlib.Core.Path.{◌∙◌}
 use Rattle.thin_film_layers.proofs.Order.{answered, solves}
 use Rattle.thin_film.proofs.Own.{evaluates}
 use Rattle.sheet_answers.proofs.After.{many}
-use borrow.Author.Rules.{rules}
 use Rattle.sheet_answers.proofs.evaluate_at.Goals as goal
 
 pub returns-in-Answered : goal.returns-in-Answered

@@ -1,9 +1,8 @@
 -- `sheet_answers::layer_after` meets its contract. Assumes nothing.
-use mathlib.Core.Path.{◌≡◌, refl, ap, ◌∙◌}
+use mathlib.Core.Path.{◌≡◌, refl, ◌∙◌}
 use mathlib.Core.List.{List}
 use Prim.Native.Nat.{ℕ}
 use lib.Ieee.{Float}
-use borrow.Author.Rules.{rules}
 use Rattle.sheet.specs.Internal.{next_place, place_on, layer_at}
 use Rattle.sheet_values.specs.Values.{film}
 use Rattle.sheet_answers.proofs.layer_after.Goals as goal

@@ -3,7 +3,6 @@ use mathlib.Core.Path.{◌≡◌, sym, ap, ◌∙◌}
 use mathlib.Core.List.{List}
 use Prim.Native.Nat.{ℕ}
 use lib.Ieee.{Float}
-use borrow.Author.Rules.{rules}
 use Rattle.math_trig.specs.declared.SinCos.{SinCos}
 use Rattle.math_trig.specs.Trig.{cos, sin_cos}
 use Rattle.refusal.specs.Outcome.{answer, map}

@@ -1,5 +1,4 @@
 -- `train_steps::choose` meets its contract. Assumes nothing.
-use Prim.Native.Nat.{◌-◌}
 use Rattle.train_steps.proofs.choose.Goals as goal
 
 pub returns-then-reflected : goal.returns-then-reflected

@@ -1,5 +1,4 @@
 -- `train_steps::chosen_at` meets its contract. Assumes nothing.
-use borrow.Author.Rules.{rules}
 use Rattle.train_steps.proofs.Picked.{chosen_is}
 use Rattle.train_steps.proofs.chosen_at.Goals as goal
 

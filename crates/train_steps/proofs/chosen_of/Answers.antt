@@ -1,7 +1,6 @@
 -- `train_steps::chosen_of` meets its contract. Assumes nothing.
 use mathlib.Core.Path.{◌≡◌, sym, ap, ◌∙◌}
 use mathlib.Core.Bool.{Bool}
-use borrow.Author.Rules.{rules}
 use lib.Ieee.{Float, nan}
 use Rattle.ieee.proofs.Patterns.{nan_is}
 use Rattle.refusal.specs.declared.Refusal.{Refusal}

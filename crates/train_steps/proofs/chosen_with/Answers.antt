@@ -1,6 +1,5 @@
 -- `train_steps::chosen_with` meets its contract. Assumes nothing.
-use mathlib.Core.Path.{◌≡◌, sym, ap, ◌∙◌}
-use borrow.Author.Rules.{rules}
+use mathlib.Core.Path.{sym, ap, ◌∙◌}
 use Rattle.gate_limits.specs.declared.Surface.{Surface}
 use Rattle.math_trig.specs.Trig.{sin_cos}
 use Rattle.train_steps.proofs.Picked.{chosen_is}

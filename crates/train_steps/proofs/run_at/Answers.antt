@@ -4,7 +4,6 @@ use mathlib.Core.List.{List}
 use Prim.Native.Nat.{ℕ, suc, ◌+◌, ◌-◌, ◌≤◌, ◌<◌}
 use native.Mathlib.Nat.{sub-zero}
 use native.Mathlib.Omega.{arith}
-use borrow.Author.Rules.{rules}
 use lib.Ieee.{Float}
 use Rattle.sheet.specs.declared.LayerRun.{LayerRun}
 use Rattle.sheet.specs.Internal.{next_place, place_on, layer_run, tuning_at, onto, begin}
@@ -19,7 +18,6 @@ use Rattle.train_steps.proofs.run_at.Goals as goal
 begun : (src : List ℕ) (n : ℕ) (w : Float) (b : Beam) → b ≡ beam_at src (next_place src 0) → (at : ℕ) → at ≡ begin src 0 → Left src n w (record { done = 0; s = b.s; p = b.p; wavelength_nm = w }) at 0
 unfolding run_at
 begun src n w b e at q = record {
-  most = omega arith;
   counts = refl;
   leads = ap (λ (k : ℕ). moved_on k src at (record { done = 0; s = b.s; p = b.p; wavelength_nm = w })) (sub-zero n) ∙ (λ i. moved_on n src (q i) (record { done = 0; s = (e i).s; p = (e i).p; wavelength_nm = w }));
 }
@@ -31,7 +29,6 @@ module _ (src : List ℕ) (n : ℕ) (w : Float) (st : State) (at i : ℕ) (h : L
       let moved : next ≡ moved_at src at st = en ∙ ap (λ (m : ℕ). moved_from src o m v st) ek ∙ (λ z. moved_from src (eo z) (layer_run 16 src (eo z)) (ev z) st) in
       let there : q ≡ place_on src (onto src at) (suc (layer_run 16 src (onto src at))) = eq ∙ ap (λ (z : ℕ). place_on src z (suc (layer_run 16 src z))) eo in
       record {
-        most = omega arith;
         counts = ap (λ (z : State). z.done) en ∙ ap (λ (z : ℕ). z + 1) h.counts;
         leads = (λ z. moved_on (n - (i + 1)) src (there z) (moved z)) ∙ ap (λ (z : ℕ). moved_on z src at st) (one_less n i lt) ∙ h.leads;
       }
@@ -46,14 +43,14 @@ module _ (src : List ℕ) (n : ℕ) (w : Float) (st : State) (at i : ℕ) (h : L
       none : (n i : ℕ) → n ≤ i → 0 ≡ n - i
       none n i le = omega arith
 
-pub loop-i-init : goal.loop-i-init
-loop-i-init c = begun _ _ _ _ c.beam_of-beam.ensures _ c.begin_of-begin.ensures
+pub loop-init : goal.loop-init
+loop-init c = begun _ _ _ _ c.beam_of-beam.ensures _ c.begin_of-begin.ensures
 
 pub moved_from-state-requires : goal.moved_from-state-requires
-moved_from-state-requires c = omega (arith, c.loop-i-test.true, c.loop-i.invariant.counts)
+moved_from-state-requires c = omega (arith, c.loop-test.true, c.loop.invariant.counts)
 
-pub loop-i-preserved : goal.loop-i-preserved
-loop-i-preserved c = further _ _ _ _ _ _ c.loop-i.invariant c.loop-i-test.true _ c.met_with-met_nm.ensures _ c.onto-at.ensures _ (ap (λ (z : LayerRun). z.count) c.layers_on-run.ensures) _ c.moved_from-state.ensures _ (ap (λ (z : LayerRun). z.next) c.layers_on-run.ensures)
+pub loop-preserved : goal.loop-preserved
+loop-preserved c = further _ _ _ _ _ _ c.loop.invariant c.loop-test.true _ c.met_with-met_nm.ensures _ c.onto-at.ensures _ (ap (λ (z : LayerRun). z.count) c.layers_on-run.ensures) _ c.moved_from-state.ensures _ (ap (λ (z : LayerRun). z.next) c.layers_on-run.ensures)
 
 pub returns : goal.returns
-returns c = done _ _ _ _ _ _ c.loop-i.invariant c.loop-i-test.false
+returns c = done _ _ _ _ _ _ c.loop.invariant c.loop-test.false

@@ -1,10 +1,9 @@
 -- `train_steps::write_each` meets its contract. Assumes nothing.
-use mathlib.Core.Path.{◌≡◌, refl, sym, ap, ◌∙◌}
+use mathlib.Core.Path.{◌≡◌, refl, ap, ◌∙◌}
 use mathlib.Core.List.{List, ◌++◌}
-use Prim.Native.Nat.{ℕ, suc, ◌+◌, ◌-◌, ◌*◌, ◌≤◌, ◌<◌}
+use Prim.Native.Nat.{ℕ, suc, ◌+◌, ◌*◌, ◌≤◌, ◌<◌}
 use native.Mathlib.Numerals.{add-one}
 use native.Mathlib.Omega.{arith}
-use borrow.Author.Rules.{rules}
 use lib.Dec.{T}
 use lib.ListN.{length, set, drop, length-set}
 use lib.Ieee.{Float}
@@ -25,13 +24,12 @@ use Rattle.train_steps.specs.Train.{chosen_powers, fresh, after_each}
 use Rattle.train_steps.specs.Internal.{chosen_at}
 use Rattle.train_steps.proofs.Here.{beam_is, met_here, chosen_here, angles_here, layers_here}
 use Rattle.train_steps.proofs.Takes.{takes}
-use Rattle.train_steps.proofs.Written.{Half, nothing, written, whole}
-use Rattle.train_steps.proofs.write_each.Invariants.{all, Before}
+use Rattle.train_steps.proofs.Written.{nothing, written, whole}
+use Rattle.train_steps.proofs.write_each.Invariants.{Before}
 use Rattle.train_steps.proofs.write_each.Goals as goal
 
 begun : (src : List ℕ) (n : ℕ) (list : List Float) (b : Beam) → Known src → b ≡ beam_at src (next_place src 0) → Before src n list list b.s b.p b.wavelength_nm 0
 begun src n list b known e = record {
-  most = omega arith;
   long = refl;
   held = λ x g k. let m = gives src known x g in rw (beam_is src x m.0 m.1 b e) m.1.holds;
   half = λ x g k. let m = gives src known x g in rw (beam_is src x m.0 m.1 b e) (nothing x.surfaces list (value x.wavelength) (value x.s) (value x.p));
@@ -53,7 +51,6 @@ module _ (src : List ℕ) (n : ℕ) (list₀ list : List Float) (s p w : Float) 
   further known h r at ea v ev o eo k ek c ec =
       let there : o ≡ onto src (begin src i) = eo ∙ ap (onto src) ea in
       record {
-        most = omega arith;
         long = length-set (set list (2 * i) (s ⊗ c.s)) (2 * i + 1) (p ⊗ c.p) ∙ length-set list (2 * i) (s ⊗ c.s) ∙ b.long;
         held = λ x g l. rw (add-one i) (taken known h at ea v ev x g l).1;
         half = λ x g l.
@@ -62,8 +59,8 @@ module _ (src : List ℕ) (n : ℕ) (list₀ list : List Float) (s p w : Float) 
             written x.surfaces list₀ list i w s p _ (b.half x g l) (omega arith) (omega (arith, b.long)) v (s ⊗ c.s) (p ⊗ c.p) (met_now known h at ea v ev x g l) (ap (λ (z : Chosen). s ⊗ z.s) y) (ap (λ (z : Chosen). p ⊗ z.p) y);
       }
 
-  done : n ≤ i → (x : Sheet) → gated src ≡ answer x → length x.surfaces ≡ n → list ≡ after_each (fresh x) x.surfaces ++ drop (2 * n) list₀
-  done h x g l = whole x.surfaces list₀ list i w s p _ (b.half x g l) (omega (arith, b.most)) ∙ ap (λ (k : ℕ). after_each (fresh x) x.surfaces ++ drop (2 * k) list₀) l
+  done : i ≡ n → (x : Sheet) → gated src ≡ answer x → length x.surfaces ≡ n → list ≡ after_each (fresh x) x.surfaces ++ drop (2 * n) list₀
+  done h x g l = whole x.surfaces list₀ list i w s p _ (b.half x g l) (omega arith) ∙ ap (λ (k : ℕ). after_each (fresh x) x.surfaces ++ drop (2 * k) list₀) l
 
 pub loop-i-init : goal.loop-i-init
 loop-i-init c = begun _ _ _ _ c.type_inv.src c.beam_of-beam.ensures
@@ -82,4 +79,4 @@ loop-i-preserved c =
     further _ _ _ _ _ _ _ _ c.loop-i.invariant c.type_inv.src lt c.requires.0 _ (c.requires.1.begun _ lt) _ c.met_with-wavelength_nm.ensures _ c.onto-at.ensures _ (layers_here _ _ _ _ _ _ c.requires.1 _ lt _ c.onto-at.ensures) _ c.chosen_with-c.ensures
 
 pub returns : goal.returns
-returns c = done _ _ _ _ _ _ _ _ c.loop-i.invariant c.loop-i-test.false
+returns c = done _ _ _ _ _ _ _ _ c.loop-i.invariant (omega arith)

@@ -1,6 +1,5 @@
 -- `sheet_answers::quick::answered` meets its contract. Assumes nothing.
 use mathlib.Core.Path.{◌≡◌, sym, ap, ◌∙◌}
-use borrow.Author.Rules.{rules}
 use Rattle.refusal.specs.declared.Refusal.{Refusal}
 use Rattle.refusal.specs.Outcome.{answer, refused, map}
 use Rattle.thin_film_solver.specs.declared.CoatingResponse.{CoatingResponse}

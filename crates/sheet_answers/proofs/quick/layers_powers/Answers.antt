@@ -2,7 +2,6 @@
 use mathlib.Core.Path.{ap, ◌∙◌}
 use Rattle.surface.specs.Answers.{coated_powers}
 use Rattle.surface_real.proofs.Whole.{known_stack}
-use borrow.Author.Rules.{rules}
 use Rattle.sheet_answers.proofs.quick.layers_powers.Goals as goal
 
 pub returns-then-quick : goal.returns-then-quick

@@ -1,6 +1,5 @@
 -- `sheet_answers::quick::layers_response` meets its contract. Assumes nothing.
 use Rattle.response_real.proofs.Whole.{known_stack}
-use borrow.Author.Rules.{rules}
 use Rattle.sheet_answers.proofs.quick.layers_response.Goals as goal
 
 pub returns-then-quick : goal.returns-then-quick

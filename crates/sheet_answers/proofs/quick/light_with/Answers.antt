@@ -1,7 +1,6 @@
 -- `sheet_answers::quick::light_with` meets its contract. Assumes nothing.
 use mathlib.Core.Path.{◌≡◌, ap}
 use lib.Ieee.{Float}
-use borrow.Author.Rules.{rules}
 use Rattle.ieee.specs.Operators.{◌⊗◌}
 use Rattle.math_trig.specs.declared.SinCos.{SinCos}
 use Rattle.math_trig.specs.Trig.{sin_cos}

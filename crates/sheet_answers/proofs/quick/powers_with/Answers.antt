@@ -2,7 +2,6 @@
 use mathlib.Core.Path.{ap, ◌∙◌}
 use Rattle.surface.specs.Answers.{coated_powers}
 use Rattle.sheet_answers.proofs.Choice.{after, preset}
-use borrow.Author.Rules.{rules}
 use Rattle.sheet_answers.proofs.quick.powers_with.Goals as goal
 
 pub returns-then-own_count-eq0 : goal.returns-then-own_count-eq0

@@ -1,7 +1,6 @@
 -- `sheet_answers::quick::response_with` meets its contract. Assumes nothing.
 use mathlib.Core.Path.{◌∙◌}
 use Rattle.sheet_answers.proofs.Choice.{after, preset}
-use borrow.Author.Rules.{rules}
 use Rattle.sheet_answers.proofs.quick.response_with.Goals as goal
 
 pub returns-then-own_count-eq0 : goal.returns-then-own_count-eq0

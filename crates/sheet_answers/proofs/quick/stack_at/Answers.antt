@@ -14,7 +14,6 @@ use Rattle.surface_real.specs.Internal.{stacked}
 use Rattle.surface_real.proofs.Stacking.{media_joined, media_written}
 use Rattle.sheet_answers.specs.Internal.{nth_film}
 use Rattle.sheet_answers.proofs.After.{many, nth}
-use borrow.Author.Rules.{rules}
 use Rattle.sheet_answers.proofs.quick.stack_at.Goals as goal
 
 pub returns : goal.returns
