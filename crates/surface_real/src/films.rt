@@ -35,11 +35,9 @@ fn quotients(
     requires { count ≤ 16 }
     ensures { (y_s.new ≡ written (λ i. over (at sin.now i) (at eta_s.now i)) count y_s.old) × (y_p.new ≡ written (λ i. over (at sin.now i) (at eta_p.now i)) count y_p.old) }
 {
-    let mut i = 0;
-    while i < count {
+    for i in 0..count {
         y_s[i] = crate::over(sin[i], eta_s[i]);
         y_p[i] = crate::over(sin[i], eta_p[i]);
-        i += 1;
     }
 }
 
@@ -67,8 +65,7 @@ fn join_films(
     ensures { result ≡ joined (λ j. film_here sin.now cos.now eta_s.now eta_p.now y_s.now y_p.now (film_place j films)) reversed count count stack }
 {
     let mut product = stack;
-    let mut i = 0;
-    while i < count {
+    for i in 0..count {
         let j = film_place(thin_film_layers::nth_index(reversed, count, i), films);
         let film = Film {
             cos: cos[j],
@@ -78,7 +75,6 @@ fn join_films(
             z_p: sin[j] * eta_p[j],
         };
         product = crate::join(product, film);
-        i += 1;
     }
     product
 }
@@ -88,8 +84,7 @@ fn take_turns(eta_s: &[f64; 16], eta_p: &[f64; 16], delta: &[f64; 16], count: us
     requires { count ≤ 16 }
     ensures { T result → (i : ℕ) → i + 2 < count → film_at eta_s.now eta_p.now delta.now (i + 2) ≡ film_at eta_s.now eta_p.now delta.now i }
 {
-    let mut i = 2;
-    while i < count {
+    for i in 2..count {
         let medium = Medium {
             eta_s: eta_s[i],
             eta_p: eta_p[i],
@@ -103,7 +98,6 @@ fn take_turns(eta_s: &[f64; 16], eta_p: &[f64; 16], delta: &[f64; 16], count: us
         if !crate::same_medium(medium, earlier) {
             return false;
         }
-        i += 1;
     }
     true
 }
@@ -134,13 +128,11 @@ fn join_each(
     ensures { result ≡ joined (film_at eta_s.now eta_p.now delta.now) reversed count count stack }
 {
     let mut product = stack;
-    let mut i = 0;
-    while i < count {
+    for i in 0..count {
         let j = thin_film_layers::nth_index(reversed, count, i);
         let wave = math_trig::sin_cos(delta[j]);
         let film = crate::film_in(eta_s[j], eta_p[j], wave.sin, wave.cos);
         product = crate::join(product, film);
-        i += 1;
     }
     product
 }

@@ -25,15 +25,13 @@ fn media(
     ensures { Wrote light.snell light.wavelength_nm (λ i. get_or (layers_of coating []) i no_layer) count eta_s.old eta_p.old delta.old eta_s.new eta_p.new delta.new }
 {
     let mut recent = crate::no_recent();
-    let mut i = 0;
-    while i < count {
+    for i in 0..count {
         recent = crate::turn(light, reading::own_layer(coating, i), recent);
         let seen = recent.last;
         let medium = seen.medium;
         eta_s[i] = medium.eta_s;
         eta_p[i] = medium.eta_p;
         delta[i] = medium.delta;
-        i += 1;
     }
 }
 

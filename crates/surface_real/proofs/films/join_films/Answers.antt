@@ -1,17 +1,15 @@
 -- `surface_real::films::join_films` meets its contract. Assumes nothing.
 use mathlib.Core.Path.{◌≡◌, ap, ◌∙◌}
 use mathlib.Core.Bool.{Bool, true, false, cond}
-use Prim.Native.Nat.{ℕ, ◌+◌, ◌-◌, ◌%◌, ◌≤◌, ◌<◌}
+use Prim.Native.Nat.{ℕ, ◌%◌, ◌<◌}
 use native.Mathlib.Omega.{arith}
 use mathlib.Core.List.{List}
 use lib.Dec.{ltb}
 use lib.Ieee.{Float}
-use borrow.Author.Rules.{rules}
 use Rattle.ieee.specs.Operators.{◌⊗◌}
 use Rattle.thin_film_layers.specs.Internal.{nth_index}
-use Rattle.thin_film_layers.proofs.Order.{within}
 use Rattle.surface_real.specs.declared.Film.{Film}
-use Rattle.surface_real.specs.InternalFilms.{at, film_here, film_place, joined}
+use Rattle.surface_real.specs.InternalFilms.{at, film_here, film_place}
 use Rattle.surface_real.proofs.Loops.{none, next, all}
 use Rattle.surface_real.proofs.films.join_films.Goals as goal
 
@@ -31,13 +29,11 @@ unfolding film_here
 here sin cos eta_s eta_p y-s y-p films reversed n i j place e f = ap (film_here sin cos eta_s eta_p y-s y-p) (f ∙ ap (λ (z : ℕ). film_place z films) e)
 
 pub loop-i-init : goal.loop-i-init
-loop-i-init c = (omega arith, none _ _ _ _)
+loop-i-init c = none _ _ _ _
 
 pub loop-i-preserved : goal.loop-i-preserved
-loop-i-preserved c = (
-  omega (arith, c.loop-i-test.true),
-  next _ _ _ _ _ _ _ _ c.loop-i.invariant.1 (here _ _ _ _ _ _ _ c.args.reversed c.args.count c.loop-i.i _ _ c.nth_index.ensures c.film_place-j.ensures) c.join-product.ensures,
-)
+loop-i-preserved c =
+    next _ _ _ _ _ _ _ _ c.loop-i.invariant (here _ _ _ _ _ _ _ c.args.reversed c.args.count c.loop-i.i _ _ c.nth_index.ensures c.film_place-j.ensures) c.join-product.ensures
 
 pub returns : goal.returns
-returns c = all _ _ _ _ _ _ (omega (arith, c.loop-i.invariant.0, c.loop-i-test.false)) c.loop-i.invariant.1
+returns c = all _ _ _ _ _ _ (omega (arith, c.loop-i-test.false)) c.loop-i.invariant

@@ -6,7 +6,6 @@ use native.Mathlib.Omega.{arith}
 use mathlib.Core.List.{List}
 use lib.Dec.{T, ltb, ltb→lt, nltb→le}
 use lib.Ieee.{Float}
-use borrow.Author.Rules.{rules}
 use Rattle.math_trig.specs.Trig.{sin, cos}
 use Rattle.surface_real.specs.declared.Film.{Film}
 use Rattle.surface_real.specs.declared.Medium.{Medium}
@@ -42,18 +41,16 @@ unfolding film_at
 same_film es ep δ i j e = ap (λ (m : Medium). film_in m.eta_s m.eta_p (sin m.delta) (cos m.delta)) e
 
 pub loop-i-init : goal.loop-i-init
-loop-i-init c = (omega arith, none _)
+loop-i-init c = none _
 
 pub returns-then-not-same_medium : goal.returns-then-not-same_medium
 returns-then-not-same_medium c t = absurd t
 
 pub loop-i-preserved : goal.loop-i-preserved
 loop-i-preserved c =
-    let a = c.args in (
-      omega arith,
-      next (film_at a.eta_s.now a.eta_p.now a.delta.now) c.loop-i.i c.loop-i.invariant.0 c.loop-i.invariant.1 c.same_medium.result
-          (λ t. same_film a.eta_s.now a.eta_p.now a.delta.now _ _ (c.same_medium.ensures t)) (ap not c.if-not-same_medium.false),
-    )
+    let a = c.args in
+    next (film_at a.eta_s.now a.eta_p.now a.delta.now) c.loop-i.i c.loop-i.auto.i c.loop-i.invariant c.same_medium.result
+    (λ t. same_film a.eta_s.now a.eta_p.now a.delta.now _ _ (c.same_medium.ensures t)) (ap not c.if-not-same_medium.false)
 
 pub returns : goal.returns
-returns c t i h = c.loop-i.invariant.1 i (omega (arith, h, c.loop-i-test.false))
+returns c t i h = c.loop-i.invariant i (omega (arith, h, c.loop-i-test.false))
