@@ -66,23 +66,18 @@ fn coating_of(code: u32) -> Interface
     gate_limits::coded(code, 550.0)
 }
 
-// A name of at most 16 bytes at the front of an output that has room for it.
+// A name at the front of an output that has room for it.
 fn copy(name: &[u8], output: &mut [u8])
-    requires { (length name.now ≤ 16) × (length name.now ≤ length output.old) }
+    requires { length name.now ≤ length output.old }
     ensures { output.new ≡ name.now ++ drop (length name.now) output.old }
 {
-    let mut i = 0;
-    while i < 16 {
-        if i < name.len() {
-            output[i] = name[i];
-        }
-        i += 1;
+    for (i, byte) in name.iter().enumerate() {
+        output[i] = *byte;
     }
 }
 
 // The same, and its length; 8 for an output that is too short.
 fn put(name: &[u8], output: &mut [u8]) -> u64
-    requires { length name.now ≤ 16 }
     ensures { left result output.new ≡ laid name.now output.old }
 {
     if output.len() < name.len() {
