@@ -23,10 +23,8 @@ fn place(at: usize, numbers: &[f64], list: &mut [f64])
     requires { at + length numbers.now ≤ length list.old }
     ensures { list.new ≡ take at list.old ++ numbers.now ++ drop (at + length numbers.now) list.old }
 {
-    let mut i = 0;
-    while i < numbers.len() {
-        list[at + i] = numbers[i];
-        i += 1;
+    for (i, number) in numbers.iter().enumerate() {
+        list[at + i] = *number;
     }
 }
 

@@ -1,13 +1,10 @@
 -- `c_call::place` meets its contract. Assumes nothing.
-use mathlib.Core.Path.{◌≡◌, refl, sym, ap, ◌∙◌}
-use mathlib.Core.List.{List, ◌++◌}
-use Prim.Native.Nat.{ℕ, ◌+◌, ◌-◌, ◌≤◌, ◌<◌}
-use native.Mathlib.Numerals.{add-one}
-use native.Mathlib.Omega.{arith}
-use lib.ListN.{length, get_or, set, take, drop, length-set}
-use lib.Seq.{take-length, paste, paste-zero, paste-suc}
+use mathlib.Core.Path.{◌≡◌}
+use mathlib.Core.List.{List}
+use Prim.Native.Nat.{ℕ, ◌≤◌}
+use lib.ListN.{length}
+use lib.Seq.{paste}
 use lib.Ieee.{Float}
-use borrow.Author.Rules.{rules}
 use Rattle.c_call.proofs.place.Given as goal
 
 -- the first i numbers are written
@@ -18,6 +15,3 @@ pub record Half (at : ℕ) (numbers list₀ list : List Float) (i : ℕ) : Type 
 
 abbrev pub invariant-loop-i : goal.invariant-loop-i
 invariant-loop-i l = Half l.at l.numbers l.initial.list l.list l.i
-
-abbrev pub decreases-loop-i : goal.decreases-loop-i
-decreases-loop-i l = length l.numbers - l.i
