@@ -37,12 +37,10 @@ fn promising(flat: &[f64], light: Incidence) -> bool {
     let n = flat.len() / 3;
     let mut sum = 0.0;
     let mut least = 1e300;
-    let mut i = 0;
-    while i < n {
+    for i in 0..n {
         let layer = layer_at(flat, i);
         sum = sum + layer.k;
         least = if layer.n < least { layer.n } else { least };
-        i += 1;
     }
     ((0 < n) & (sum == 0.0)) & (ieee::abs(light.snell) <= 0.9995 * least)
 }
@@ -68,15 +66,13 @@ fn media_from(
     ensures { Wrote light.snell light.wavelength_nm (layer_on flat.now after) few eta_s.old eta_p.old delta.old eta_s.new eta_p.new delta.new }
 {
     let mut recent = surface_real::no_recent();
-    let mut i = 0;
-    while i < few {
+    for i in 0..few {
         recent = surface_real::turn(light, layer_at(flat, after + i), recent);
         let seen = recent.last;
         let medium = seen.medium;
         eta_s[i] = medium.eta_s;
         eta_p[i] = medium.eta_p;
         delta[i] = medium.delta;
-        i += 1;
     }
 }
 
@@ -131,15 +127,13 @@ fn solve_each(flat: &[f64], reversed: bool, light: Incidence) -> CoatingResponse
     let n = flat.len() / 3;
     let mut ms = thin_film_matrix::identity();
     let mut mp = thin_film_matrix::identity();
-    let mut i = 0;
-    while i < n {
+    for i in 0..n {
         let j = thin_film_layers::nth_index(reversed, n, i);
         let terms = thin_film_solver::terms_of(light, layer_at(flat, j));
         let next_s = thin_film_solver::step_s(ms, terms);
         let next_p = thin_film_solver::step_p(mp, terms);
         ms = next_s;
         mp = next_p;
-        i += 1;
     }
     thin_film_solver::finish(light, ms, mp)
 }
