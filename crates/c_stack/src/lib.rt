@@ -21,13 +21,11 @@ fn place(
     requires { (count ≤ 64) × ((count ≤ length films) × (3 * count ≤ length list.old)) }
     ensures { list.new ≡ flat (take count (map (layer n_h n_l n_m design_wavelength_nm) films)) ++ drop (3 * count) list.old }
 {
-    let mut i = 0;
-    while i < count {
+    for i in 0..count {
         let layer = thin_film_shorthand::layer(films[i], n_h, n_l, n_m, design_wavelength_nm);
         list[3 * i] = layer.n;
         list[3 * i + 1] = layer.k;
         list[3 * i + 2] = layer.thickness_nm;
-        i += 1;
     }
 }
 

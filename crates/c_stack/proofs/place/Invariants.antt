@@ -1,17 +1,8 @@
 -- `c_stack::place` meets its contract. Assumes nothing.
 use mathlib.Core.List.{map}
-use Prim.Native.Nat.{◌-◌}
-use lib.Dec.{lit<}
-use lib.ListN.{set}
-use lib.Seq.{lt-length-set}
-use borrow.Author.Rules.{rules}
 use Rattle.thin_film_shorthand.specs.Stack.{layer}
-use Rattle.c_stack.proofs.Flat.{Half, start, inside, end}
-use Rattle.c_stack.proofs.Stacked.{turn}
+use Rattle.c_stack.proofs.Flat.{Half}
 use Rattle.c_stack.proofs.place.Given as goal
 
 abbrev pub invariant-loop-i : goal.invariant-loop-i
 invariant-loop-i l = Half (map (layer l.n_h l.n_l l.n_m l.design_wavelength_nm) l.films) l.count l.initial.list l.list l.i
-
-abbrev pub decreases-loop-i : goal.decreases-loop-i
-decreases-loop-i l = l.count - l.i
