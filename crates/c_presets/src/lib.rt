@@ -33,13 +33,11 @@ fn place(n_high: f64, n_low: f64, pairs: usize, design_wavelength_nm: f64, list:
     requires { (pairs ≤ 31) × (3 * (pairs * 2 + 1) ≤ length list.old) }
     ensures { list.new ≡ flat (bragg_layers n_high n_low pairs design_wavelength_nm) ++ drop (3 * (pairs * 2 + 1)) list.old }
 {
-    let mut i = 0;
-    while i < pairs * 2 + 1 {
+    for i in 0..pairs * 2 + 1 {
         let layer = thin_film_presets::bragg(n_high, n_low, design_wavelength_nm, i);
         list[3 * i] = layer.n;
         list[3 * i + 1] = layer.k;
         list[3 * i + 2] = layer.thickness_nm;
-        i += 1;
     }
 }
 
