@@ -116,6 +116,8 @@ module _ (got want : List ℕ) (i : ℕ) where
     unfolding agree
     differs q = rw (drop-cons got i 0 h, ne_eqb (get_or got i 0) (word want i) (λ z. q (z ∙ sym e)))
 
-  pub counted : length got ≤ i → eqb i (length want / 8) ≡ agree (drop i got) want i
+  pub counted : length got ≤ i → i ≤ length got → eqb (length got) (length want / 8) ≡ agree (drop i got) want i
   unfolding agree
-  counted h = rw (drop_of_length-le got h)
+  counted h k =
+      let all : length got ≡ i = omega arith in
+      ap (λ (n : ℕ). eqb n (length want / 8)) all ∙ rw (drop_of_length-le got h)

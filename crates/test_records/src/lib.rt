@@ -203,16 +203,14 @@ pub fn bits(x: f64) -> u64
 pub fn write(out: &mut [u64; 256], at: usize, x: &[f64])
     ensures { out.new ≡ written out.old at x.now }
 {
-    let mut i = 0;
-    while i < x.len() {
+    for (i, value) in x.iter().enumerate() {
         if at >= 256 {
             return;
         }
         if i >= 256 - at {
             return;
         }
-        out[at + i] = bits(x[i]);
-        i += 1;
+        out[at + i] = bits(*value);
     }
 }
 
@@ -284,14 +282,12 @@ pub fn write_response(out: &mut [u64; 256], at: usize, r: CoatingResponse)
 fn alike(got: &[u64], want: &[u8]) -> bool
     ensures { result ≡ agree got.now want.now 0 }
 {
-    let mut i = 0;
-    while i < got.len() {
-        if got[i] != word_at(want, i) {
+    for (i, word) in got.iter().enumerate() {
+        if *word != word_at(want, i) {
             return false;
         }
-        i += 1;
     }
-    i == want.len() / 8
+    got.len() == want.len() / 8
 }
 
 // Whether the first n of some words are the recorded ones; there must be so many.

@@ -21,10 +21,8 @@ fn layers_out(out: &mut [u64; 256], layers: Layers) -> usize {
         return 0;
     }
     out[1] = count as u64;
-    let mut i = 0;
-    while i < count {
+    for i in 0..count {
         layer_out(out, 2 + 3 * i, items[i]);
-        i += 1;
     }
     2 + 3 * count
 }

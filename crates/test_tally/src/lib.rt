@@ -51,25 +51,18 @@ pub fn next_record(body: &mut [u8]) -> Next
 
 fn print_words(label: &[u8], b: &[u8]) {
     io::write_all(1, label);
-    let n = b.len() / 8;
-    let mut i = 0;
-    while i < n {
+    for i in 0..b.len() / 8 {
         io::write_all(1, b" ");
         io::print_hex(1, test_records::word_at(b, i), 16);
-        i += 1;
     }
     io::write_all(1, b"\n");
 }
 
 fn print_got(w: &[u64; 256], n: usize) {
     io::write_all(1, b"  computed");
-    let mut i = 0;
-    while i < n {
-        if i < 256 {
-            io::write_all(1, b" ");
-            io::print_hex(1, w[i], 16);
-        }
-        i += 1;
+    for word in w.iter().take(n) {
+        io::write_all(1, b" ");
+        io::print_hex(1, *word, 16);
     }
     io::write_all(1, b"\n");
 }
@@ -160,13 +153,11 @@ pub fn print_tally(all: &[u32; 256], agreed: &[u32; 256]) -> bool
     ensures { result ≡ all_clean 256 all.now agreed.now }
 {
     let mut every = true;
-    let mut f = 0;
-    while f < 256 {
+    for f in 0..256 {
         if all[f] > 0 {
             print_line(f, agreed[f], all[f]);
         }
         every = both(every, clean(f, all, agreed));
-        f += 1;
     }
     every
 }

@@ -1,20 +1,16 @@
 -- `test_records::alike` meets its contract. Assumes nothing.
-use mathlib.Core.Path.{◌≡◌, refl, ◌∙◌}
-use Prim.Native.Nat.{◌-◌, ◌≤◌}
-use lib.ListN.{length, drop}
-use Rattle.test_records.specs.Words.{agree}
+use mathlib.Core.Path.{refl, ◌∙◌}
 use Rattle.test_records.proofs.Words.{goes_on, differs, counted}
-use borrow.Author.Rules.{rules}
 use Rattle.test_records.proofs.alike.Goals as goal
 
 pub loop-i-init : goal.loop-i-init
-loop-i-init c = (search rules, refl)
+loop-i-init c = refl
 
-pub returns-then-got-i : goal.returns-then-got-i
-returns-then-got-i c = differs _ _ _ c.loop-i-test.true _ c.word_at.ensures c.if-got-i.true ∙ c.loop-i.invariant.1
+pub returns-then-word-word_at : goal.returns-then-word-word_at
+returns-then-word-word_at c = differs _ _ _ c.loop-i-test.true _ c.word_at.ensures c.if-word-word_at.true ∙ c.loop-i.invariant
 
 pub loop-i-preserved : goal.loop-i-preserved
-loop-i-preserved c = (search rules, goes_on _ _ _ c.loop-i-test.true _ c.word_at.ensures c.if-got-i.false ∙ c.loop-i.invariant.1)
+loop-i-preserved c = goes_on _ _ _ c.loop-i-test.true _ c.word_at.ensures c.if-word-word_at.false ∙ c.loop-i.invariant
 
 pub returns : goal.returns
-returns c = counted _ _ _ c.loop-i-test.false ∙ c.loop-i.invariant.1
+returns c = counted _ _ _ c.loop-i-test.false c.loop-i.auto.i-end ∙ c.loop-i.invariant

@@ -1,6 +1,5 @@
 -- `test_records::bytes_at` meets its contract. Assumes nothing.
 use Rattle.test_records.proofs.Words.{nothing_there, cut_off, all_there}
-use borrow.Author.Rules.{rules}
 use Rattle.test_records.proofs.bytes_at.Goals as goal
 
 pub returns-then-i-b : goal.returns-then-i-b

@@ -1,6 +1,5 @@
 -- `test_records::four_at` meets its contract. Assumes nothing.
 use Rattle.test_records.proofs.Words.{four_past}
-use borrow.Author.Rules.{rules}
 use Rattle.test_records.proofs.four_at.Goals as goal
 
 pub returns-then-i-b : goal.returns-then-i-b

@@ -1,6 +1,5 @@
 -- `test_records::header_of` meets its contract. Assumes nothing.
 use Rattle.test_records.proofs.Words.{headed}
-use borrow.Author.Rules.{rules}
 use Rattle.test_records.proofs.header_of.Goals as goal
 
 pub returns : goal.returns

@@ -3,7 +3,6 @@ use mathlib.Core.Path.{ap, ◌∙◌}
 use mathlib.Core.List.{[], ◌∷◌}
 use Rattle.thin_film_complex.specs.declared.Complex.{Complex}
 use Rattle.test_records.proofs.Words.{jones_past}
-use borrow.Author.Rules.{rules}
 use Rattle.test_records.proofs.jones_at.Goals as goal
 
 pub returns-then-i-b : goal.returns-then-i-b

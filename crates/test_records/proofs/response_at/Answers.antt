@@ -1,5 +1,4 @@
 -- `test_records::response_at` meets its contract. Assumes nothing.
-use borrow.Author.Rules.{rules}
 use Rattle.test_records.proofs.response_at.Goals as goal
 
 pub returns : goal.returns

@@ -1,6 +1,5 @@
 -- `test_records::small_at` meets its contract. Assumes nothing.
 use Rattle.test_records.proofs.Words.{small_past}
-use borrow.Author.Rules.{rules}
 use Rattle.test_records.proofs.small_at.Goals as goal
 
 pub returns-else-i-b : goal.returns-else-i-b

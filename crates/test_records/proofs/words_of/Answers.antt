@@ -1,6 +1,5 @@
 -- `test_records::words_of` meets its contract. Assumes nothing.
 use Rattle.test_records.proofs.Words.{none_first, none_behind, words_there}
-use borrow.Author.Rules.{rules}
 use Rattle.test_records.proofs.words_of.Goals as goal
 
 pub returns-then-first-body : goal.returns-then-first-body

@@ -1,24 +1,20 @@
 -- `test_records::write` meets its contract. Assumes nothing.
-use mathlib.Core.Path.{◌≡◌, sym, ◌∙◌}
-use Prim.Native.Nat.{◌+◌, ◌-◌, ◌≤◌}
+use mathlib.Core.Path.{sym, ◌∙◌}
 use native.Mathlib.Omega.{arith}
-use lib.ListN.{length, drop}
-use Rattle.test_records.specs.Words.{written}
 use Rattle.test_records.proofs.Words.{begun, onward, full, done}
-use borrow.Author.Rules.{rules}
 use Rattle.test_records.proofs.write.Goals as goal
 
 pub loop-i-init : goal.loop-i-init
-loop-i-init c = (search rules, begun _ _ _)
+loop-i-init c = begun _ _ _
 
 pub returns-then-at-ge256 : goal.returns-then-at-ge256
-returns-then-at-ge256 c = sym (full _ _ _ (omega arith)) ∙ c.loop-i.invariant.1
+returns-then-at-ge256 c = sym (full _ _ _ (omega arith)) ∙ c.loop-i.invariant
 
 pub returns-then-i-at : goal.returns-then-i-at
-returns-then-i-at c = sym (full _ _ _ (omega arith)) ∙ c.loop-i.invariant.1
+returns-then-i-at c = sym (full _ _ _ (omega arith)) ∙ c.loop-i.invariant
 
 pub loop-i-preserved : goal.loop-i-preserved
-loop-i-preserved c = (search rules, onward _ _ _ _ _ _ (omega arith) c.loop-i-test.true c.bits.ensures ∙ c.loop-i.invariant.1)
+loop-i-preserved c = onward _ _ _ _ _ _ (omega arith) c.loop-i-test.true c.bits.ensures ∙ c.loop-i.invariant
 
 pub returns : goal.returns
-returns c = sym (done _ _ _ _ c.loop-i-test.false) ∙ c.loop-i.invariant.1
+returns c = sym (done _ _ _ _ c.loop-i-test.false) ∙ c.loop-i.invariant

@@ -1,7 +1,6 @@
 -- `test_records::write_jones` meets its contract. Assumes nothing.
 use mathlib.Core.Path.{ap, ◌∙◌}
 use Rattle.test_records.specs.Words.{written}
-use borrow.Author.Rules.{rules}
 use Rattle.test_records.proofs.write_jones.Goals as goal
 
 pub returns : goal.returns

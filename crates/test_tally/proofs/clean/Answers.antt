@@ -1,5 +1,5 @@
 -- `test_tally::clean` meets its contract. Assumes nothing.
-use Rattle.std.proofs.Common.{rules, le-ltb, lt-ltb}
+use Rattle.std.proofs.Common.{le-ltb, lt-ltb}
 use Rattle.test_tally.proofs.clean.Goals as goal
 
 pub returns-then-f-lt256 : goal.returns-then-f-lt256

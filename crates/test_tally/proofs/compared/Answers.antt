@@ -1,5 +1,5 @@
 -- `test_tally::compared` meets its contract. Assumes nothing.
-use Rattle.std.proofs.Common.{sym, ◌∙◌, rules}
+use Rattle.std.proofs.Common.{sym, ◌∙◌}
 use Rattle.test_tally.proofs.compared.Goals as goal
 
 pub returns-then-same : goal.returns-then-same

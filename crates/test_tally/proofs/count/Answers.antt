@@ -1,5 +1,5 @@
 -- `test_tally::count` meets its contract. Assumes nothing.
-use Rattle.std.proofs.Common.{rules, le-ltb}
+use Rattle.std.proofs.Common.{le-ltb}
 use Rattle.test_tally.proofs.count.Goals as goal
 
 pub returns-else-f-lt256 : goal.returns-else-f-lt256

@@ -1,5 +1,4 @@
 -- `test_tally::next_record` meets its contract. Assumes nothing.
-use Rattle.std.proofs.Common.{rules}
 use Rattle.test_tally.proofs.Counts.{told}
 use Rattle.test_tally.proofs.next_record.Goals as goal
 

@@ -1,5 +1,5 @@
 -- `test_tally::print_tally` meets its contract. Assumes nothing.
-use Rattle.std.proofs.Common.{◌≡◌, ℕ, ◌+◌, ◌-◌, ◌≤◌, Bool, ◌&&◌, List, sym, refl, ap, ◌∙◌, add-one, arith, rules}
+use Rattle.std.proofs.Common.{◌≡◌, ℕ, ◌+◌, ◌≤◌, Bool, ◌&&◌, List, sym, refl, ap, ◌∙◌, add-one, arith}
 use Rattle.test_tally.specs.Counts.{clean, all_clean}
 use Rattle.test_tally.proofs.print_tally.Goals as goal
 
@@ -13,10 +13,10 @@ last all agreed f every h g e = e ∙ ap (λ (n : ℕ). all_clean n all agreed) 
 
 pub loop-f-init : goal.loop-f-init
 unfolding all_clean
-loop-f-init c = (search rules, refl)
+loop-f-init c = refl
 
 pub loop-f-preserved : goal.loop-f-preserved
-loop-f-preserved c = (search rules, next _ _ _ _ _ _ c.loop-f.invariant.1 c.clean.ensures c.both-every.ensures)
+loop-f-preserved c = next _ _ _ _ _ _ c.loop-f.invariant c.clean.ensures c.both-every.ensures
 
 pub returns : goal.returns
-returns c = last _ _ _ _ c.loop-f.invariant.0 c.loop-f-test.false c.loop-f.invariant.1
+returns c = last _ _ _ _ c.loop-f.auto.f-end c.loop-f-test.false c.loop-f.invariant

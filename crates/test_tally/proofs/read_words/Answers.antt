@@ -1,5 +1,5 @@
 -- `test_tally::read_words` meets its contract. Assumes nothing.
-use Rattle.std.proofs.Common.{arith, length-take, rules}
+use Rattle.std.proofs.Common.{arith, length-take}
 use Rattle.test_tally.proofs.Counts.{kept}
 use Rattle.test_tally.proofs.read_words.Goals as goal
 

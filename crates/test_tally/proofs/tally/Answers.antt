@@ -1,5 +1,4 @@
 -- `test_tally::tally` meets its contract. Assumes nothing.
-use Rattle.std.proofs.Common.{rules}
 use Rattle.test_tally.proofs.Counts.{agreed-too, all_alone}
 use Rattle.test_tally.proofs.tally.Goals as goal
 
