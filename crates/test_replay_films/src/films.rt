@@ -72,10 +72,8 @@ fn layers_at(a: &[u8]) -> Layers {
         k: 0.0,
         thickness_nm: 0.0,
     }; 64];
-    let mut i = 0;
-    while i < 64 {
-        items[i] = layer_at(a, 4 + 3 * i);
-        i += 1;
+    for (i, item) in items.iter_mut().enumerate() {
+        *item = layer_at(a, 4 + 3 * i);
     }
     Layers {
         items,
@@ -92,10 +90,8 @@ fn items_at(a: &[u8], from: usize) -> [ThinFilmLayer; 72]
         k: 0.0,
         thickness_nm: 0.0,
     }; 72];
-    let mut i = 0;
-    while i < 72 {
-        items[i] = layer_at(a, from + 3 * i);
-        i += 1;
+    for (i, item) in items.iter_mut().enumerate() {
+        *item = layer_at(a, from + 3 * i);
     }
     items
 }
@@ -113,10 +109,8 @@ fn built_out(out: &mut [u64; 256], at: usize, b: Built) -> usize
     }
     out[at] = code_of(c);
     out[at + 1] = count as u64;
-    let mut i = 0;
-    while i < count {
+    for i in 0..count {
         layer_out(out, at + 2 + 3 * i, items[i]);
-        i += 1;
     }
     at + 2 + 3 * count
 }
