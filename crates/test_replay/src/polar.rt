@@ -38,10 +38,8 @@ fn stokes_at(a: &[u8], i: usize) -> StokesVector {
 
 fn mueller_at(a: &[u8]) -> MuellerMatrix {
     let mut m = [0.0f64; 16];
-    let mut i = 0;
-    while i < 16 {
-        m[i] = test_records::float_at(a, i);
-        i += 1;
+    for (i, x) in m.iter_mut().enumerate() {
+        *x = test_records::float_at(a, i);
     }
     MuellerMatrix { m }
 }
