@@ -1,19 +1,17 @@
 -- Along the blocks of an admitted sheet: what is left, what was counted and what was written. Assumes nothing.
 use mathlib.Core.Path.{◌≡◌, refl, sym, ap, ◌∙◌}
 use mathlib.Core.List.{List, [], ◌∷◌, ◌++◌, append_assoc, append-nil}
-use Prim.Native.Nat.{ℕ, ◌+◌, ◌-◌, ◌*◌, ◌≤◌, ◌<◌}
+use Prim.Native.Nat.{ℕ, ◌+◌, ◌*◌, ◌≤◌, ◌<◌}
 use native.Mathlib.Omega.{arith}
 use lib.ListN.{length, drop, length-append}
 use lib.Seq.{sets}
 use lib.Ieee.{Float}
-use borrow.Author.Tests.{eq-eqb, ne_eqb}
-use Rattle.refusal.specs.Outcome.{answer, refusal}
-use Rattle.sheet.specs.Words.{word, count, kind}
-use Rattle.sheet.specs.Blocks.{Block, flat, starts}
-use Rattle.sheet.specs.Sheet.{Sheet, bytes, blocks, words, encode, places}
+use Rattle.sheet.specs.Words.{count}
+use Rattle.sheet.specs.Blocks.{Block, flat}
+use Rattle.sheet.specs.Sheet.{Sheet, bytes, blocks, words, encode}
 use Rattle.sheet.specs.Internal.{next_place}
 use Rattle.sheet.proofs.WordBytes.{length_bytes}
-use Rattle.sheet.proofs.Stands.{Stands, Standing, inside, word_here, next_is, next_stands, ends_here}
+use Rattle.sheet.proofs.Stands.{Stands, Standing, inside, next_stands, ends_here}
 use Rattle.sheet_values.specs.Values.{value}
 use Rattle.sheet_edition_1.specs.Edition.{translated}
 use Rattle.sheet_edition_1.specs.Internal.{new_size, new_words}

@@ -113,10 +113,8 @@ fn put_block(src: &[u8], at: usize, wavelength_nm: f64, to: usize, output: &mut 
     ensures { (output.new ≡ sets output.old (4 * to) (bytes (new_words wavelength_nm src.now at))) × (result ≡ to + new_size src.now at) }
 {
     let n = new_size(src, at);
-    let mut j = 0;
-    while j < n {
+    for j in 0..n {
         put_word(output, to + j, new_word(src, at, wavelength_nm, j));
-        j += 1;
     }
     to + n
 }

@@ -1,18 +1,12 @@
 -- `sheet_edition_1::new_length` meets its contract. The loop's invariant: so many words come of the blocks so far. Assumes nothing.
 use mathlib.Core.Path.{◌≡◌}
 use mathlib.Core.List.{List}
-use Prim.Native.Nat.{ℕ, ◌+◌, ◌-◌, ◌≤◌, ◌<◌}
-use native.Mathlib.Omega.{arith}
-use borrow.Author.Rules.{rules}
+use Prim.Native.Nat.{ℕ, ◌+◌, ◌-◌, ◌≤◌}
 use Rattle.refusal.specs.Outcome.{answer}
 use Rattle.sheet.specs.Words.{count}
 use Rattle.sheet.specs.Sheet.{Sheet}
-use Rattle.sheet.specs.Internal.{next_place}
 use Rattle.gate.specs.Gate.{gated}
-use Rattle.gate.proofs.Admitted.{gives}
-use Rattle.sheet_edition_1.specs.Internal.{new_size}
-use Rattle.sheet_edition_1.proofs.NewBlocks.{next_most, less_left, size_most}
-use Rattle.sheet_edition_1.proofs.Walk.{Half, half_first, one_on, counted_all}
+use Rattle.sheet_edition_1.proofs.Walk.{Half}
 use Rattle.sheet_edition_1.proofs.new_length.Given as goal
 
 -- no more words than there were, and as many as come of the blocks so far

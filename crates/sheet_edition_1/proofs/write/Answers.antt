@@ -1,12 +1,11 @@
 -- `sheet_edition_1::write` meets its contract. The loop's invariant: what comes of the blocks so far stands at the front. Assumes nothing.
 use mathlib.Core.Path.{◌≡◌, refl, sym, ap, ◌∙◌}
 use mathlib.Core.List.{List, ◌++◌}
-use Prim.Native.Nat.{ℕ, ◌+◌, ◌-◌, ◌*◌, ◌≤◌, ◌<◌}
+use Prim.Native.Nat.{ℕ, ◌+◌, ◌*◌, ◌≤◌, ◌<◌}
 use native.Mathlib.Omega.{arith}
 use lib.ListN.{length, drop}
 use lib.Seq.{sets, length-sets}
 use lib.Ieee.{Float}
-use borrow.Author.Rules.{rules}
 use Rattle.refusal.specs.Outcome.{answer}
 use Rattle.sheet.specs.Words.{count}
 use Rattle.sheet.specs.Sheet.{Sheet, bytes, encode}
@@ -14,7 +13,6 @@ use Rattle.sheet.specs.Internal.{next_place}
 use Rattle.sheet.proofs.WordBytes.{length_bytes}
 use Rattle.sheet.proofs.Stands.{Known}
 use Rattle.sheet_values.specs.declared.Beam.{Beam}
-use Rattle.sheet_values.specs.Values.{value}
 use Rattle.sheet_values.specs.Internal.{beam_at}
 use Rattle.sheet_values.proofs.Here.{beam_here}
 use Rattle.gate.specs.Gate.{gated}
@@ -22,7 +20,7 @@ use Rattle.gate.proofs.Admitted.{gives}
 use Rattle.sheet_edition_1.specs.Edition.{translated}
 use Rattle.sheet_edition_1.specs.Internal.{new_size, new_words, Room}
 use Rattle.sheet_edition_1.proofs.NewBlocks.{less_left}
-use Rattle.sheet_edition_1.proofs.Walk.{all, one_on, Wrote, wrote_first, wrote_on, wrote_all}
+use Rattle.sheet_edition_1.proofs.Walk.{all, one_on, wrote_first, wrote_on, wrote_all}
 use Rattle.sheet_edition_1.proofs.write.Invariants.{Before}
 use Rattle.sheet_edition_1.proofs.write.Goals as goal
 
