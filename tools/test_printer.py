@@ -117,7 +117,7 @@ class Refused(unittest.TestCase):
         self.refused(assign("0", f"(op1 bitReverse {copy(1)})"), "return")
         self.refused("(goto 3)", "return")
         self.refused("(block (loop (exit 2)))", "return")
-        self.refused("(block (exit 0))", "return")
+        self.refused("(block (exit 1))", "return")
         self.refused(assign("0", "(rvOpd (float 32 0))"), "return")
 
     def test_what_only_a_function_of_c_does(self):
@@ -217,6 +217,61 @@ class Kept(unittest.TestCase):
         self.refused("Return", types=({"Int": 64}, {"Param": 0}))
         self.refused("Return", types=({"Float": 32}, {"Float": 32}))
         self.assertEqual(self.printed(["std::f", self.code([self.U64], 0, "Return", bounds=[{"of": "core::ops::Fn"}])]), "")
+
+
+class Forms(unittest.TestCase):
+    """The forms of tools/test_forms/forms.txt: forms.json is what the toolchain keeps of it, forms.c what is printed."""
+
+    FOLDER = ROOT / "tools" / "test_forms"
+
+    def printed(self, change=lambda text: text):
+        """The C; `change` is what is done to the kept code before."""
+        items = {}
+        source.read_file(self.FOLDER / "forms.txt", "forms", items)
+        with tempfile.NamedTemporaryFile("w", suffix=".json") as file:
+            file.write(change((self.FOLDER / "forms.json").read_text()))
+            file.flush()
+            text = rlib.program_text([file.name], "forms")
+        unit = files.Unit(text, items, {"forms": []}, lambda functions: [n for n in functions if n in items])
+        types = emit.Types(unit.named, items)
+        body = unit.print(types, lambda name: False)
+        return "\n\n".join(types.definitions) + "\n\n" + body
+
+    def test_printed(self):
+        self.assertEqual(self.printed(), (self.FOLDER / "forms.c").read_text())
+
+    def changed(self, old, new, count=1):
+        def change(text):
+            self.assertIn(old, text)
+            return text.replace(old, new, count)
+
+        return self.printed(change)
+
+    def test_refused(self):
+        """What is not known is not passed over."""
+        kept = (self.FOLDER / "forms.json").read_text()
+        for old, new in [
+            ('{"Fn":["core::result::ResultTry::branch"', '{"Fn":["core::result::ResultTry::other"'),
+            ('{"Impl":["core::convert::AnyFrom"', '{"Impl":["core::convert::OtherFrom"'),
+            ('{"Exit":2}', '{"Exit":7}'),
+            ('{"Given":0}', '{"Given":9}'),
+            ('{"Given":0}', '{"Super":[0,{"Given":0}]}'),
+            ('"Lt":"Signed"', '"Gt":"Signed"'),
+            ('{"Add":"Signed"}', '{"Sub":"Signed"}'),
+            ('{"NumOf":[64,{"Param":1}]}', '{"NumOf":[64,{"Other":1}]}'),
+            ('"name":"core::option::Option","type_params":1', '"name":"core::option::Option","type_params":2'),
+        ]:
+            self.assertIn(old, kept)
+            with self.subTest(new=new), self.assertRaises((program.Unknown, KeyError, IndexError)):
+                self.changed(old, new, -1)
+
+    def test_two_of_one_name(self):
+        text = (self.FOLDER / "forms.json").read_text()
+        with self.assertRaises(program.Unknown):
+            self.changed('"name":"forms::Kind","type_params":0,"shape":{"Variants":[[],[],[]]}', '"name":"forms::Kind","type_params":0,"shape":{"Variants":[[],[]]}')
+        self.assertGreater(text.count('"name":"forms::Kind"'), 1)
+        for one, other in (("a::b<u32>", "a::b_u32"), ("std::option::Option<a::B>", "option::a_B"), ("f<[u8;4]>", "f_u8_x4"), ("f<&[f64],4>", "f_slice_f64_4")):
+            self.assertEqual(emit.identifier(one), emit.identifier(other))
 
 
 class Environment(unittest.TestCase):

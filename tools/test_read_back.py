@@ -392,7 +392,7 @@ class Forms(unittest.TestCase):
 
     def test_refused(self):
         for text in ["#[derive(Hash)] struct A { n: u64 }", "#[derive(PartialOrd)] struct A { n: u64 }", "fn f(a: u64) -> u64 { (|x| x)(a) }", "#[derive(Drop)] fn f() { }", "#[no_mangle] fn f() { }", "#[unsafe(naked)] fn f() { }", "#![no_std]",
-                     "#[derive(Drop)] #![tactic(auto)] struct A { n: u64 }", 'pub extern "C" fn f() { }', "#[test] fn f() { }", "trait A { }"]:
+                     "#[derive(Drop)] #![tactic(auto)] struct A { n: u64 }", 'pub extern "C" fn f() { }', "#[test] fn f() { }", "trait A<T> { }"]:
             with self.assertRaises(rattle.Unread, msg=text):
                 rattle.read(text, "x")
 
@@ -512,6 +512,45 @@ class Today(unittest.TestCase):
              "double dihkelu_f(double a) { f64_x4 x; for (size_t each = 0; each < 4; each++) { x.at[each] = a; } return dihkelu_last_f64_4(&x, 2.0); }")
         self.both(rust, c, ("i < 4", "i < 3"), ("found = other", "found = 0.0"))
         self.assertFalse(same(self.HEAD + rust, c.replace("last_f64_4", "last_f64_5")))
+
+
+class Kept(unittest.TestCase):
+    """The forms of tools/test_forms/forms.txt, and forms.c, which tools/test_printer.py holds to what is printed."""
+    FOLDER = ROOT / "tools" / "test_forms"
+    # Edits of what is never reached, or of one of two tests that say the same.
+    SAME = {("a whole number's last bit", "forms_isok"), ("|| for &&", "forms_isok"), ("true for false", "forms_same_fault")}
+
+    def setUp(self):
+        self.sources = lower.Sources([(("forms",), (self.FOLDER / "forms.txt").read_text()), *lower.library()])
+        self.paths = tuple(path for path, item in self.sources.items.items() if path[0] == "forms" and item[0] == "fn" and not item[6])
+        self.reached = self.sources.reached(self.paths)
+        self.text = re.sub(r"//[^\n]*", "", (self.FOLDER / "forms.c").read_text())
+
+    def differences(self, text, names=None):
+        printed = c_text.Program(c_text.parsed(c_text.prelude() + text))
+        found = dict(compare.same_program(self.sources, printed, names, self.paths).differences)
+        return {name: why for name, why in found.items() if name not in c_text.PURE}
+
+    def test_printed(self):
+        self.assertEqual(self.differences(self.text), {})
+        self.assertGreater(len(self.reached), 30)
+
+    def test_wrong_prints(self):
+        texts = {m["name"]: m[0] for m in FUNCTION.finditer(self.text)}
+        self.assertEqual(set(texts), set(self.reached))
+        tried = 0
+        for title, pattern, put in WRONG:
+            for name, new in edits(title, pattern, put, texts, 40):
+                if (title, name) in self.SAME:
+                    continue
+                with self.subTest(wrong=title, function=name):
+                    try:
+                        found = self.differences(self.text.replace(texts[name], new), {name})
+                    except rattle.Unread as error:
+                        found = {name: str(error)}
+                    self.assertIn(name, found, new)
+                tried += 1
+        self.assertGreater(tried, 150)
 
 
 class Small(unittest.TestCase):

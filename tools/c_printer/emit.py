@@ -2,6 +2,7 @@
 import struct
 
 from . import environment, fold, program, source, steady
+from .inline import set_in
 from .program import Unknown
 
 KEYWORDS = set(
@@ -154,6 +155,9 @@ class Printer:
             self.body = fold.Folder(f, temporaries, writers).fold(steady.replaced(f, self.body, temporaries), set(), (set(), set()))
             plain = (f.inlined & f.memory) - addressed(self.body)
             f.memory = f.memory - plain
+        for n in sorted(self.bound):
+            if f.types[n][0] == "ref" and f.types[n][1]:
+                self.body = self.in_place(self.body, n)
 
     # ---- names
 
@@ -174,7 +178,8 @@ class Printer:
         n = f.count + 1
         leading = []
         for s in f.body:
-            if s[0] == "set" and s[1] == ("var", n) and n in f.memory and (s[2][0] == "aggregate" or (s[2][0] == "var" and s[2][1] <= f.count)):
+            constant = s[0] == "set" and s[2][0] == "aggregate" and (s[2][1][0] == "array" or n in f.lent)
+            if s[0] == "set" and s[1] == ("var", n) and n in f.memory and (constant or s[2][0] == "var" and s[2][1] <= f.count):
                 leading.append(n)
                 n += 1
             else:
@@ -221,6 +226,20 @@ class Printer:
                 if s[0] == "set" and s[1] == ("var", n):
                     s[2] = s[2][1]
             f.types[n] = t[2]
+
+    def in_place(self, statements, n):
+        """A variable that refers to an element that is written is the element, as long as what tells its place stays."""
+        for i, s in enumerate(statements):
+            if s[0] == "set" and s[1] == ("var", n):
+                rest, e = statements[i + 1 :], s[2]
+                if e[0] != "addr" or e[1][:2] != ("deref", self.f.types[n][2]) or e[1][2][0] != "offset" or not stays(rest, n, fold.variables(e)):
+                    return statements
+                folder = fold.Folder(self.f, set(), set())
+                rest = [fold.statement_mapped(t, lambda x: e if x == ("var", n) else None) for t in rest]
+                return statements[:i] + [fold.statement_mapped(t, folder.simple) for t in rest]
+            if n in mentions(s):
+                return [*statements[:i], fold.with_lists(s, [self.in_place(body, n) for body in fold.lists(s)]), *statements[i + 1 :]]
+        return statements
 
     def alias_arguments(self):
         """An argument that is copied to memory at the start, and read nowhere else, is that memory."""
@@ -653,8 +672,9 @@ class Printer:
         used = set()
         for s in body:
             used |= mentions(s)
+        counted = {s[1][1] for s in everything(body) if s[0] == "set" and s[1][0] == "var" and s[2][:3] == ("bin", "add", s[1]) and s[2][3][0] == "lit"}
         for n in sorted(used - set(self.names)):
-            self.give(n, "result" if n == 0 else "value")
+            self.give(n, "result" if n == 0 else "round" if n in counted else "value")
         declare = {n for n in used if n == 0 or n > self.f.count}
         inner = self.lines(body, 1, declare)
         for n in range(1, self.f.count + 1):  # a parameter that is not read says so
@@ -699,6 +719,17 @@ def addressed(statements):
         for h in fold.heads(s):
             look(h)
     return found
+
+
+def stays(statements, n, told):
+    """Whether a variable is not read any more once one of those that tell its place is set."""
+    for i, s in enumerate(statements):
+        if s[0] == "set" and not fold.root(s[1])[1] and fold.root(s[1])[0] in told:
+            return not any(n in mentions(t) for t in statements[i + 1 :])
+        for inner in fold.lists(s):
+            if told & set(set_in(inner)) and not (fold.leaves(inner) and s[0] not in ("loop", "while") and stays(inner, n, told)):
+                return False
+    return True
 
 
 def mentions(s):

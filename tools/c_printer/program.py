@@ -91,6 +91,35 @@ def size(t, named):
     raise Unknown(f"the size of {t}")
 
 
+def ways(s):
+    """The lists of statements within a branch."""
+    return [s[2], s[3]] if s[0] == "if" else [b for _, b in s[2]] + ([s[3]] if s[3] is not None else []) if s[0] == "switch" else []
+
+
+def left(statements):
+    """Whether nothing behind a list is reached."""
+    last = statements[-1] if statements else [None]
+    return last[0] in ("return", "break", "continue", "leave") or bool(ways(last)) and all(map(left, ways(last)))
+
+
+def closed(statements, leave):
+    """A scope without the steps that leave it: what stands behind such a step goes into the ways that do not leave."""
+    for i, s in enumerate(statements):
+        if s == leave:
+            return statements[:i]
+        if repr(leave) not in repr(s):
+            continue
+        rest, inner = statements[i + 1 :], ways(s)
+        if not inner or rest and sum(not left(body) for body in inner) > 1:
+            raise Unknown(f"a scope that is left: {s}")
+        new = [closed(body if left(body) else body + rest, leave) for body in inner]
+        if s[0] == "if":
+            return statements[:i] + [["if", s[1], *new]]
+        arms = [(values, body) for (values, _), body in zip(s[2], new)]
+        return statements[:i] + [["switch", s[1], arms, None if s[3] is None else new[-1]]]
+    return statements
+
+
 class Function:
     def __init__(self, name, node, named):
         self.name = name
@@ -98,7 +127,9 @@ class Function:
         self.count = int(node[3])
         slots = items(node[4])
         self.types = [a_type(s[1]) for s in slots]
-        self.memory = {i for i, s in enumerate(slots) if s[2] == "memorySlot"}
+        self.lent = {i for i, s in enumerate(slots) if s[2] == "lentSlot"}
+        self.memory = {i for i, s in enumerate(slots) if s[2] == "memorySlot"} | self.lent
+        self.scopes = 0
         self.inlined = set()  # the variables that inline.py has made, or could make plain
         self.body = self.statements(node[5], [])
 
@@ -250,14 +281,15 @@ class Function:
         elif kind == "block":
             # what leaves the block around a loop is a break of that loop, what leaves the round alone a continue; any other block is a scope
             if isinstance(x[1], str) or x[1][0] != "loop":
-                return found + self.statements(x[1], ["scope"] + around)
+                self.scopes += 1
+                return found + closed(self.statements(x[1], [self.scopes] + around), ["leave", self.scopes])
             found.append(["loop", self.statements(x[1][1], ["loop", "block"] + around)])
         elif kind == "exit":
             inner = int(x[1])
             loop = around.index("loop") if "loop" in around else len(around)
-            if inner not in (loop, loop + 1) or inner >= len(around):
+            if inner not in (*range(loop), loop, loop + 1) or inner >= len(around):
                 raise Unknown(x)
-            found.append(["continue"] if inner == loop else ["break"])
+            found.append(["leave", around[inner]] if inner < loop else ["continue"] if inner == loop else ["break"])
         else:
             raise Unknown(x)
         return found

@@ -347,7 +347,7 @@ class Function:
             body = f"(seq (assign (place {slot} lnil) {value}) {body})"
         slots = [f"(local {self.a_type(x['ty'])} {word(x['home'])})" for x in f["locals"]]
         at = f["params"] + 1
-        slots[at:at] = [f"(local {kind} memorySlot)" for _, kind, _ in self.lent]
+        slots[at:at] = [f"(local {kind} lentSlot)" for _, kind, _ in self.lent]
         return f'(fn-def "{renamed(self.name)}" (fnItem 0 lnil {f["params"]} {listed(slots)} {body}) {listed(self.shapes())})'
 
     def shapes(self):
@@ -362,7 +362,7 @@ class Function:
             if name not in self.library.types:
                 raise Unknown(f"the type {name} of {self.name}")
             t = self.library.types[name]
-            if t["type_params"] + len(t["const_params"]) != len(types):
+            if t["type_params"] != len(types):
                 raise Unknown(f"the type {name} of {self.name}")
             how, x = only(filled(t["shape"], types))
             if how == "Fields":

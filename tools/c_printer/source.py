@@ -102,8 +102,8 @@ def read_file(path, prefix, items):
     lines = path.read_text().split("\n")
     within = None
     for i, line in enumerate(lines):
-        if m := re.match(r"impl(?:<[^>]*>)? (\w+)(?:<[^>]*>)? \{", line):
-            within = m.group(1)
+        if m := re.match(r"(?:impl(?:<[^>]*>)? (?:(?P<of>\w+)(?:<(?P<given>\w+)>)? for )?|(?:pub )?trait )(?P<type>\w+)(?:<[^>]*>)? \{", line):
+            within = m["type"] if m["of"] is None else m["type"][0].upper() + m["type"][1:] + m["of"] + (m["given"] or "")
         elif line == "}":
             within = None
         if m := re.match(r"( *)(?:pub(?:\(\w+\))? )?(?:extern \"C\" )?fn (\w+)(?:<[^>]*>)?\(", line):
@@ -119,6 +119,8 @@ def read_file(path, prefix, items):
             while depth:
                 depth += {"(": 1, ")": -1}.get(text[end], 0)
                 end += 1
+            if text[end:].rstrip().endswith(";"):
+                continue  # of a trait, without a body
             for p in pieces(text[: end - 1]):
                 item.parameters.append(re.sub(r"^(&mut |&|mut )", "", p.split(":")[0].strip()))
             begin = j + 1 if lines[j].endswith("{") else lines.index(indent + "{", j) + 1

@@ -8,10 +8,19 @@ A program here has functions of expressions, tuples whose first entry names the 
     ('let', name, type, e or None) ('set', place, e) ('block', [e..], e or None) ('if', c, a, b)
     ('match', e, type, {k: ([(name, i, type)..], e)}) ('switch', e, [([value..], e)..], e) ('while', c, e)
     ('cases', e, [(pattern, e)..]) ('tag_is', e, k) ('same', type, a, b) ('unit',)
-A pattern is ('any',), ('name', name, type), ('variant', k, [pattern..], [type..]) or ('either', [pattern..]).
+A pattern is ('any',), ('name', name, type), ('variant', k, [pattern..], [type..]), ('either', [pattern..]) or
+('guard', pattern, e).
     ('return', e or None) ('break',) ('continue',)
 A shared reference is the value that it refers to: while it lives, nothing writes there (the language's borrow rule). A reference
 that can be written through is ('ref', place).
+
+What the sources say in one word, and what is read for it:
+    for        a while over an index, which is counted up by one where a round ends and where 'continue' begins the next; backwards it is
+               counted down where a round begins. The list and the ends of a range are worked out once, before
+    question   x? is the value that x has, or a return of why it has none
+    equal      == of what derives PartialEq is the same variant, and equal parts in their order; one that is written by hand is refused
+    instance   a function or a type with parameters is read once for each list of types and counts that it is used with, under their names
+    method     a method is the one function of the type or of a trait that has its name
 """
 import functools
 import pathlib
@@ -49,7 +58,7 @@ def is_open(kind):
     return isinstance(kind, Open) or isinstance(kind, tuple) and any(map(is_open, kind))
 
 
-LIBRARY = {("std", "types", "Option"): "option", ("std", "types", "Result"): "result"}
+LIBRARY = {("std", "types", "Option"): "option", ("std", "types", "Result"): "result", ("std", "types", "Pair"): "pair", ("std", "types", "Triple"): "triple"}
 VARIANTS = {"None": "Option", "Some": "Option", "Ok": "Result", "Err": "Result"}
 
 
@@ -63,6 +72,11 @@ def short(kind):
         mutable = "mut_" if kind[1] else ""
         return f"slice_{mutable}{short(kind[2][1])}" if kind[2][0] == "slice" else f"ref_{mutable}{short(kind[2])}"
     return kind[1]
+
+
+def name_of(kind):
+    """The name of an impl's type, of numbers the one that the form has."""
+    return INTEGERS.get(kind[1][-1], kind[1][-1])
 
 
 class Instance:
@@ -83,7 +97,7 @@ class Sources:
     def __init__(self, files):
         """`files`: pairs of a path (crate, module..) and the text of its file."""
         self.items, self.uses, self.structs, self.enums, self.functions = {}, {}, {}, {}, {}
-        self.texts, self.instances = dict(files), {}
+        self.texts, self.instances, self.selves, self.given = dict(files), {}, {}, {}
         for path, text in files:
             self.add(path, rattle.read(text, "/".join(path)))
         self.paths = {}
@@ -101,10 +115,30 @@ class Sources:
                 if path + (item[1],) not in self.texts:
                     raise Unread(f"the module {item[1]} of {path} has no file")
             elif item[0] == "impl":
+                self.methods(path, item)
+            elif item[0] == "trait":
+                self.items[path + (item[1],)] = item
                 for method in item[2]:
-                    self.items[path + (item[1], method[1])] = method
+                    if method[4] is not None:
+                        raise Unread(f"{'/'.join(path)}: a function of a trait that has a body")
             else:
                 self.items[path + (item[1],)] = item
+
+    def methods(self, path, item):
+        """The functions of an impl. One of a trait is in C of the type's and the trait's name together."""
+        _, kind, functions, of = item
+        if of is not None and of[1][-1] in ("PartialEq", "Drop"):
+            raise Unread(f"{'/'.join(path)}: {of[1][-1]} written by hand")
+        if kind[0] != "name" or of is not None and (of[0] != "name" or any(a[0] != "name" or a[2] for a in of[2])):
+            raise Unread(f"{'/'.join(path)}: an impl that is not known")
+        name = kind[1][-1]
+        if of is not None:
+            name = name[0].upper() + name[1:] + of[1][-1] + "".join(a[1][-1][0].upper() + a[1][-1][1:] for a in of[2])
+        for method in functions:
+            full = path + (name, method[1])
+            self.items[full], self.selves[full] = method, (path, kind)
+            if of is not None:
+                self.given.setdefault((name_of(kind), method[1]), []).append(full)
 
     def find(self, module, path):
         """The full path of an item that is named within a module."""
@@ -187,10 +221,10 @@ class Sources:
                 count = names[count] if count in names else self.constant(module, count)
             return ("array", inner(kind[1]), count)
         if kind[0] == "tuple":
-            raise Unread(f"{module}: a tuple as a type")
+            return self.named(("std", "types", {2: "Pair", 3: "Triple"}.get(len(kind[1]))), tuple(map(inner, kind[1])))
         _, path, given = kind
-        if path == ["Self"]:
-            return self.named(owner)
+        if path == ["Self"] and "Self" in names:
+            return names["Self"]
         if len(path) == 1 and path[0] in names and not given:
             return names[path[0]]
         if len(path) == 1 and path[0] in INTEGERS:
@@ -206,16 +240,18 @@ class Sources:
             raise Unread(f"{module}: a count {name} that is no number")
         return item[3][1]
 
-    def place_of(self, path):
-        """The module of a function, and the type that it is a method of, or None."""
-        owner = path[:-1] if self.items.get(path[:-1], ("",))[0] in ("struct", "enum") else None
-        return (path[:-2] if owner else path[:-1]), owner
+    def place_of(self, path, names):
+        """The module of a function, and the type that it is a method of, or None; `names` are the types of its parameters."""
+        if path not in self.selves:
+            return path[:-1], None
+        module, kind = self.selves[path]
+        names["Self"] = self.type_of(module, kind, None, names)
+        return module, self.find(module, kind[1])
 
     def function(self, path, given=()):
         """A function in the common form, with types and counts for its parameters."""
         if (path, given) not in self.functions:
-            module, owner = self.place_of(path)
-            self.functions[path, given] = Lowering(self, module, owner, path, self.items[path], given).function
+            self.functions[path, given] = Lowering(self, path, self.items[path], given).function
         return self.functions[path, given]
 
     @functools.lru_cache(maxsize=None)
@@ -265,12 +301,13 @@ def load(root, wanted=("dihkelu", "train_text")):
 class Lowering:
     """One function."""
 
-    def __init__(self, sources, module, owner, path, item, given):
-        self.sources, self.module, self.owner = sources, module, owner
+    def __init__(self, sources, path, item, given):
+        self.sources = sources
         _, name, parameters, result, body, exported, generics, line = item
         if len(generics) != len(given):
             raise Unread(f"{'::'.join(path)}: another count of types")
         self.given = dict(zip((name for name, _ in generics), given))
+        self.module, self.owner = module, _ = sources.place_of(path, self.given)
         self.function = Function("_".join([mangled(path, item), *map(short, given)]), f"{'/'.join(module)}:{line}")
         self.function.exported = exported
         self.count, self.scopes, self.steps, self.numbers = 0, [{}], [], []
@@ -441,7 +478,7 @@ class Lowering:
         path = e[1]
         found = self.local(path[0]) if len(path) == 1 else None
         if found:
-            return ("var", found[0]), found[1]
+            return (found[0] if isinstance(found[0], tuple) else ("var", found[0])), found[1]
         if len(path) == 2 and path[0] in INTEGERS and path[1] == "MAX":
             kind = INTEGERS[path[0]]
             return ("lit", kind, MAXIMUM[kind]), kind
@@ -487,6 +524,8 @@ class Lowering:
         if made:
             return ("variant", made[0], made[1], self.arguments(given, [kind for _, kind in made[2]])), made[0]
         full = self.full(path)
+        ofs = self.sources.given.get(tuple(path[-2:]), [])
+        full = ofs[0] if full not in self.sources.items and len(ofs) == 1 else full
         item = self.sources.items.get(full)
         if item is None:
             self.fail(f"a call of {path}, which is not known")
@@ -498,9 +537,9 @@ class Lowering:
     def called(self, full, given):
         """A call; one with parameters is of an instance that the arguments tell."""
         item = self.sources.items[full]
-        module, owner = self.sources.place_of(full)
         opens = tuple(Open(False) for _ in item[6])
         names = dict(zip((name for name, _ in item[6]), opens))
+        module, owner = self.sources.place_of(full, names)
         kinds = [self.sources.type_of(module, kind, owner, names) for _, kind in item[2]]
         result = self.sources.type_of(module, item[3], owner, names)
         return ("call", Instance(full, opens), self.arguments(given, kinds), kinds, result), result
@@ -514,18 +553,24 @@ class Lowering:
             return ("len", code), "u64"
         if isinstance(inner, tuple) and self.opened_type(inner)[2:3] in ((path,) for path in LIBRARY):
             return self.of_library(code, kind, name, given)
-        if inner[0] not in ("struct", "enum"):
-            self.fail(f"the method {name} of {kind}")
-        _, path, _ = self.sources.instances[inner[1]]
-        full = path + (name,)
-        if full not in self.sources.items:
-            self.fail(f"the method {name} of {kind}, which is not known")
+        full = self.method(inner, name)
         takes = self.sources.items[full][2][0][1]
         if takes[0] == "ref" and kind[0] != "ref":
             subject = ("ref", takes[1], subject)
         elif takes[0] != "ref" and kind[0] == "ref":
             subject = ("unary", "*", subject)
         return self.called(full, [subject] + given)
+
+    def method(self, kind, name):
+        """The function that a method is: one of the type, or one of a trait, which must be one alone."""
+        parted = isinstance(kind, tuple) and kind[0] in ("struct", "enum", "made")
+        full = (*self.opened_type(kind)[2], name) if parted else None
+        if full in self.sources.items:
+            return full
+        found = self.sources.given.get((full[-2] if parted else kind, name), [])
+        if len(found) != 1:
+            self.fail(f"the method {name} of {kind}, which is not known")
+        return found[0]
 
     def of_library(self, code, kind, name, given):
         """Option's and Result's own methods, each by what it is said to do."""
@@ -542,12 +587,21 @@ class Lowering:
             second = self.fit(*self.expression(given[0]), want)
             cases = [(("variant", k, [("name", value, want)], [want]), ("var", value)), (("any",), ("var", other))]
             return ("block", [("let", whole, kind, code), ("let", other, want, second)], ("cases", ("var", whole), cases)), want
+        if name == "ok_or" and len(given) == 1 and "Some" in variants:
+            inner = self.sources.variants(kind)[1][1][0][1]
+            second, found = self.expression(given[0])
+            made = self.sources.named(("std", "types", "Result"), (inner, found))
+            whole, other, value = (self.bind(" " + n, w) for n, w in (("whole", kind), ("other", found), ("value", inner)))
+            cases = [(("variant", 1, [("name", value, inner)], [inner]), ("variant", made, 0, [("var", value)])), (("any",), ("variant", made, 1, [("var", other)]))]
+            return ("block", [("let", whole, kind, code), ("let", other, found, second)], ("cases", ("var", whole), cases)), made
         return self.fail(f"the method {name} of {variants}")
 
     def opened(self, code, kind):
         """What a reference refers to."""
         kind = self.solid(kind)
-        return (("deref", code), self.solid(kind[2])) if kind[0] == "ref" else (code, kind)
+        if kind[0] != "ref":
+            return code, kind
+        return (code[1] if code[0] == "ref" and len(code) == 2 else ("deref", code)), self.solid(kind[2])
 
     def of_field(self, e):
         code, kind = self.opened(*self.expression(e[1]))
@@ -653,6 +707,18 @@ class Lowering:
         kind = ("array", kind, count)
         return ("repeat", kind, code), kind
 
+    def converted(self, code, kind, want):
+        """Why there is no value, as the function returns it: as it is, or by the one `From` of the two types."""
+        kind, want = self.solid(kind), self.solid(want)
+        if is_open(kind) or is_open(want) or kind == want:
+            return self.fit(code, kind, want)
+        for full in self.sources.given.get((self.opened_type(want)[2][-1], "from"), []):
+            item = self.sources.items[full]
+            module, kinds = self.sources.selves[full][0], [item[2][0][1]]
+            if not item[6] and self.sources.type_of(module, kinds[0]) == kind:
+                return ("call", Instance(full, ()), [code], [kind], want)
+        return self.fail(f"no conversion from {kind} to {want}")
+
     # ---- statements
 
     def of_block(self, e):
@@ -700,6 +766,11 @@ class Lowering:
     def of_unit(self, e):
         return e, "unit"
 
+    def of_tuple(self, e):
+        parts = [self.expression(part) for part in e[1]]
+        kind = self.sources.named(("std", "types", {2: "Pair", 3: "Triple"}.get(len(parts))), tuple(kind for _, kind in parts))
+        return ("struct", kind, [(i, code) for i, (code, _) in enumerate(parts)]), kind
+
     def of_break(self, e):
         return e, NEVER
 
@@ -730,34 +801,44 @@ class Lowering:
             return self.over_numbers(pattern, over[1] if back else over, back, body)
         pair = over[0] == "method" and over[2] == "enumerate"
         over = over[1] if pair else over
-        if over[0] == "method" and over[2] in ("iter", "iter_mut") and not over[3]:
-            over = over[1]
+        by = over[2] if over[0] == "method" and over[2] in ("iter", "iter_mut") and not over[3] else None
+        over = over[1] if by else over
         code, kind = self.expression(over)
         kind = self.solid(kind)
-        mutable = kind[0] == "ref" and kind[1] or over[0] == "method"
-        whole = self.solid(kind[2]) if kind[0] == "ref" else kind
-        if whole[0] not in ("array", "slice") or mutable:
+        lent = kind[0] == "ref" or by is not None
+        mutable = by == "iter_mut" or by is None and kind[0] == "ref" and kind[1]
+        many = code
+        code, whole = self.opened(code, kind)
+        if whole[0] not in ("array", "slice"):
             self.fail(f"a loop over {kind}")
         if pair and (pattern[0] != "parts" or len(pattern[1]) != 2 or pattern[1][0][0] not in ("bind", "any")):
             self.fail("a loop over places and elements without a name for each")
         place, element = pattern[1] if pair else (("any",), pattern)
-        if element[0] == "lent":
-            element = element[1]
-        if element[0] not in ("bind", "any"):
-            self.fail("a pattern of an element")
-        listed, at = self.bind(" list", kind), self.bind(place[1] if place[0] == "bind" else " at", "u64")
-        here = ("index", ("var", listed), ("var", at), whole[1])
+        at = self.bind(place[1] if place[0] == "bind" else " at", "u64")
+        lets = [("let", at, "u64", ("lit", "u64", 0))]
+        if not mutable:
+            listed = self.bind(" list", ("ref", False, whole) if lent else whole)
+            lets.insert(0, ("let", listed, ("ref", False, whole) if lent else whole, code))
+            code = many = ("var", listed)
+        here = ("index", code, ("var", at), whole[1])
         step = ("set", ("var", at), ("bin", "+", "u64", ("var", at), ("lit", "u64", 1)))
-        first = [("let", self.bind(element[1], self.each(kind, pattern, whole[1])), whole[1], here)] if element[0] == "bind" else []
+        first = self.element(element, here, whole[1], lent, mutable)
         inner = self.round(step, lambda: self.expression(body)[0])
-        test = ("bin", "<", "u64", ("var", at), ("len", ("var", listed)))
-        loop = ("while", test, ("block", [*first, inner, step], None))
-        return ("block", [("let", listed, kind, code), ("let", at, "u64", ("lit", "u64", 0)), loop], None), "unit"
+        test = ("bin", "<", "u64", ("var", at), ("len", many))
+        return ("block", [*lets, ("while", test, ("block", [*first, inner, step], None))], None), "unit"
 
-    def each(self, kind, pattern, inner):
-        """The type of an element's name: of a list that is lent a reference, which the pattern may open."""
-        element = pattern[1][1] if pattern[0] == "parts" else pattern
-        return ("ref", False, inner) if kind[0] == "ref" and element[0] != "lent" else inner
+    def element(self, pattern, here, kind, lent, mutable):
+        """What begins a round: the name of the element. Of a list that is lent to be written it stands for the element's place."""
+        opened = pattern[0] == "lent"
+        pattern = pattern[1] if opened else pattern
+        if pattern[0] == "any":
+            return []
+        if pattern[0] != "bind" or opened and (mutable or not lent):
+            self.fail("a pattern of an element")
+        if mutable:
+            self.scopes[-1][pattern[1]] = (("ref", here), ("ref", True, kind))
+            return []
+        return [("let", self.bind(pattern[1], ("ref", False, kind) if lent and not opened else kind), kind, here)]
 
     def over_numbers(self, pattern, span, back, body):
         _, low, high, whole = span
@@ -795,7 +876,7 @@ class Lowering:
                 value = parts[0][2] if parts else "unit"
                 continue
             wanted = [kinds for _, kinds in self.sources.variants(self.result)[k][1]]
-            given = [self.fit(("var", name), kinds, want) for (name, _, kinds), want in zip(parts, wanted, strict=True)]
+            given = [self.converted(("var", name), kinds, want) for (name, _, kinds), want in zip(parts, wanted, strict=True)]
             out[k] = parts, ("return", ("variant", self.result, k, given))
         return ("match", code, kind, out), value
 
@@ -823,6 +904,8 @@ class Lowering:
         _, pattern, value, other = e
         code, kind = self.expression(value)
         kind = self.solid(kind)
+        if pattern[0] == "parts" and other is None:
+            return self.taken_apart(pattern, code, kind)
         if other is None:
             self.fail("a pattern of 'let' that always fits")
         left, found = self.expression(other)
@@ -830,6 +913,19 @@ class Lowering:
             self.fail("an 'else' that goes on")
         fits = self.fitting(pattern, kind)
         return ("cases", code, [(fits, ("unit",)), (("any",), left)]), "unit"
+
+    def taken_apart(self, pattern, code, kind):
+        """The parts of a tuple, each with a name."""
+        if kind[0] not in ("struct", "made") or self.opened_type(kind)[2] not in LIBRARY or len(self.sources.fields(kind)) != len(pattern[1]):
+            self.fail(f"parts of {kind}")
+        whole = self.bind(" whole", kind)
+        lets = [("let", whole, kind, code)]
+        for i, (p, (_, part)) in enumerate(zip(pattern[1], self.sources.fields(kind))):
+            if p[0] == "bind":
+                lets.append(("let", self.bind(p[1], part), part, ("field", ("var", whole), i, part)))
+            elif p[0] != "any":
+                self.fail("a pattern within a pattern")
+        return ("block", lets, None), "unit"
 
     def of_matches(self, e):
         code, kind = self.expression(e[1])
@@ -841,7 +937,10 @@ class Lowering:
         out, result = [], NEVER
         for pattern, _, body in arms:
             self.scopes.append({})
-            fits = self.fitting(pattern, kind)
+            guard = pattern[2] if pattern[0] == "guard" else None
+            fits = self.fitting(pattern[1] if guard else pattern, kind)
+            if guard:
+                fits = ("guard", fits, self.fit(*self.expression(guard), "bool"))
             inner, found = self.expression(body)
             result = self.unify(result, found)
             self.scopes.pop()
@@ -880,7 +979,7 @@ class Lowering:
         arms = [(p, body) for pattern, body in e[2] for p in (pattern[1] if pattern[0] == "or" else [pattern])]
         subject, kind = self.opened(subject, kind)
         if self.is_enum(kind):
-            nested = any(p[0] == "variant" and any(q[0] not in ("bind", "any") for q in (p[2] or (p[3] or {}).values())) for p, _ in arms)
+            nested = any(p[0] == "guard" or p[0] == "variant" and any(q[0] not in ("bind", "any") for q in (p[2] or (p[3] or {}).values())) for p, _ in arms)
             if nested:
                 return self.cases(subject, kind, [(p, None, body) for p, body in arms])
             return self.by_variant(subject, kind, arms)

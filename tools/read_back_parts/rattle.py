@@ -159,7 +159,7 @@ class Parser:
         if derived and word not in ("struct", "enum"):
             self.fail("a derive of what is no type")
         reader = {"fn": lambda: self.function(exported, public), "struct": self.struct, "enum": self.enum, "const": self.constant,
-                  "use": self.use, "mod": self.module, "impl": self.methods}.get(word)
+                  "use": self.use, "mod": self.module, "impl": self.methods, "trait": self.trait}.get(word)
         if reader is None:
             self.fail(f"an item '{word}' that is not known")
         return reader()
@@ -213,13 +213,21 @@ class Parser:
                 count = self.take("const")
                 out.append((self.name(), count))
                 if self.take(":"):
-                    self.type()
+                    self.bound()
                     while self.take("+"):
-                        self.type()
+                        self.bound()
             if not self.take(","):
                 self.want(">")
                 return out
         return out
+
+    def bound(self):
+        """What a type must be: a trait, or a function of some types."""
+        self.type()
+        if self.take("("):
+            self.listed(")", self.type)
+            if self.take("->"):
+                self.type()
 
     def member(self):
         if self.take("pub") and self.take("("):
@@ -256,9 +264,21 @@ class Parser:
         return ("enum", name, self.listed("}", self.one_variant), generics)
 
     def methods(self):
-        name = self.name()
+        """An impl: its type, its functions, each with the impl's parameters before its own, and the trait, if it is of one."""
+        generics, of = self.generics(), None
+        kind = self.type()
+        if self.take("for"):
+            of, kind = kind, self.type()
         self.want("{")
-        return ("impl", name, self.items("}"))
+        return ("impl", kind, [(*item[:6], generics + item[6], item[7]) for item in self.items("}")], of)
+
+    def trait(self):
+        """A trait: its functions that have a body, and the others' names."""
+        name = self.name()
+        if self.generics():
+            self.fail("a trait with parameters")
+        self.want("{")
+        return ("trait", name, self.items("}"))
 
     def parameter(self):
         if self.take("&"):
@@ -283,6 +303,8 @@ class Parser:
         result = self.type() if self.take("->") else "unit"
         while self.token in ("requires", "ensures"):
             self.skip_braces()
+        if self.take(";"):
+            return ("fn", name, parameters, result, None, False, generics, line)
         return ("fn", name, parameters, result, self.block(), exported or (public and name.startswith("dihkelu_")), generics, line)
 
     # ---- types
@@ -565,6 +587,8 @@ class Parser:
         out = []
         while not self.take("}"):
             pattern = self.pattern()
+            if self.take("if"):
+                pattern = ("guard", pattern, self.expression(False))
             self.want("=>")
             body = self.expression()
             out.append((pattern, body))

@@ -340,6 +340,8 @@ class Walk:
             return True
         if pattern[0] == "either":
             return any(self.fits(p, x) for p in pattern[1])
+        if pattern[0] == "guard":
+            return self.fits(pattern[1], x) and self.holds(self.value(pattern[2]))
         _, k, inner, kinds = pattern
         return self.variant(x) == k and all(self.fits(p, nodes.payload(x, k, i, kind)) for i, (p, kind) in enumerate(zip(inner, kinds)))
 
