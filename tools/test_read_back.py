@@ -504,6 +504,46 @@ class Today(unittest.TestCase):
              "return x.n == b && x.m == a; }")
         self.both(rust, c, ("&& x.m == a", ""), ("&&", "||"), ("x.n == b", "x.n == a"), ("x.n == b && x.m == a", "x.m == a && x.n == b"))
 
+    def test_for_over_a_part(self):
+        rust = "(a: &[f64], n: usize) -> f64 { let mut s = 0.0; for x in &a[..n] { s += *x; } s }"
+        c = ("double dihkelu_f(const double *a_at, size_t a_count, uint64_t n) { slice_f64 a = {a_at, a_count}; double s = 0.0; uint64_t i = 0;"
+             "while (i < n) { double x = a.at[i]; s = s + x; i = i + 1; } return s; }")
+        self.both(rust, c, ("i < n", "i < a.count"), ("i < n", "i <= n"), ("a.at[i]", "a.at[i + 1]"))
+
+    def test_for_that_writes(self):
+        rust = "(a: &mut [f64], b: f64) -> u64 { for x in a.iter_mut() { *x = *x * b; } 0 }"
+        c = ("uint64_t dihkelu_f(double *a_at, size_t a_count, double b) { slice_mut_f64 a = {a_at, a_count}; uint64_t i = 0;"
+             "while (i < a.count) { a.at[i] = a.at[i] * b; i = i + 1; } return 0; }")
+        self.both(rust, c, ("i < a.count", "i < a.count - 1"), ("a.at[i] * b", "b * a.at[i]"), ("a.at[i] =", "a.at[0] ="))
+
+    def test_patterns_within_patterns(self):
+        rust = ("(a: u64) -> u64 { match find(a) { Some(0) => 4, Some(3) => 5, Some(n) if n < 9 => n, Some(_) => 7, None => 6 } }\n"
+                "fn find(a: u64) -> Option<u64> { if a < 5 { return None; } Some(a) }")
+        c = OPTION + ("static option_u64 dihkelu_find(uint64_t a) { if (a < 5) { return (option_u64){.tag = option_u64_None}; }"
+                      "return (option_u64){.tag = option_u64_Some, .as.Some = a}; }\n"
+                      "uint64_t dihkelu_f(uint64_t a) { option_u64 x = dihkelu_find(a); if (x.tag == option_u64_Some) { switch (x.as.Some) { case 0: return 4; case 3: return 5;"
+                      "default: if (x.as.Some < 9) { return x.as.Some; } return 7; } } return 6; }")
+        self.both(rust, c, ("case 0", "case 1"), ("return 4", "return 5"), ("< 9", "<= 9"), ("return 7", "return 6"), ("== option_u64_Some", "== option_u64_None"))
+
+    def test_elements_that_may_not_be_there(self):
+        for body, c, wrong in [
+            ("match a.get(i) { Some(x) => *x, None => 0.5 }", "if (i < a.count) { return a.at[i]; } return 0.5;", (("i < a", "i <= a"), ("0.5", "1.5"), ("a.at[i]", "a.at[0]"))),
+            ("if a.is_empty() { 0.5 } else { a[0] }", "if (a.count == 0) { return 0.5; } return a.at[0];", (("== 0", "== 1"), ("0.5", "1.5"))),
+            ("let Some(x) = a.first() else { return 0.5; }; *x", "if (0 < a.count) { return a.at[0]; } return 0.5;", (("0 <", "1 <"), ("at[0]", "at[1]"))),
+            ("a[i.min(3)]", "uint64_t k; if (3 < i) { k = 3; } else { k = i; } return a.at[k];", (("3 < i", "i < 3"), ("k = 3", "k = 2"))),
+        ]:
+            head = "double dihkelu_f(const double *a_at, size_t a_count, uint64_t i) { slice_f64 a = {a_at, a_count};"
+            self.both(f"(a: &[f64], i: usize) -> f64 {{ {body} }}", f"{head} {c} }}", *wrong)
+
+    def test_not_followed(self):
+        """What is not known is refused, and not passed over."""
+        for text in ["(a: &mut Option<u64>) { if let Some(x) = a { *x = 3; } }", "(a: u64) -> u64 { let f = |x| x + 1; f(a) }", "(a: &[u64]) -> u64 { a.iter().sum() }",
+                     "(a: &[u64]) -> bool { a.iter().any(|x| *x == 3) }", "(a: u64) -> Option<u64> { Some(a).map(|x| x) }", "(a: &[u64]) -> u64 { for x in a.chunks(2) { } 0 }",
+                     "(a: u64) -> u64 { let x: Option<u64> = None; x.unwrap() }", "(a: u64) -> bool { P { n: a } == P { n: 3 } }\nstruct P { n: u64 }\n"
+                     "impl PartialEq for P { fn eq(&self, other: &P) -> bool { true } }", "(n: u64) -> u64 { for i in 0..=n { } n }"]:
+            with self.subTest(text=text), self.assertRaises(rattle.Unread):
+                lower.Sources([(("dihkelu",), self.HEAD + text), *lower.library()]).reached()
+
     def test_instances(self):
         rust = ("(a: f64) -> f64 { let x = [a; 4]; last(&x, 2.0) }\n"
                 "fn last<T: Copy, const N: usize>(xs: &[T; N], other: T) -> T { let mut found = other; for i in 0..N { found = xs[i]; } found }")

@@ -219,6 +219,8 @@ class Folder:
         of, kind = new[1] if len(new) > 1 else None, new[0]
         if kind == "deref" and new[2][0] == "addr" and self.f.type_of(new[2][1]) == new[1]:
             return new[2][1]
+        if isinstance(of, tuple) and of and of[0] == "aggregate" and of[1][0] == "slice" and kind == "field":
+            return of[2][new[2]]
         if isinstance(of, tuple) and of and of[0] == "aggregate" and of[1][0] == "named":
             if kind == "field" and self.f.named[of[1][1]][0] == "fields":
                 return of[2][new[2]]
@@ -326,6 +328,10 @@ class Folder:
             nxt = rest[0] if rest else None
             if s[0] == "set" and s[1] == s[2]:
                 continue
+            told = self.told(s)
+            if told is not None:
+                rest = told + rest
+                continue
             if s[0] == "set" and s[1][0] == "var" and s[1][1] in self.temporaries and nxt == ["return", s[1]] and not filled(s[2]):
                 rest[0] = ["return", s[2]]
                 continue
@@ -383,6 +389,17 @@ class Folder:
             return ["set", x, ("or", s[2], nxt[3][0][2])]
         if c == negated(x) and sets(nxt[2]) and not nxt[3] and not count(nxt[2][0][2], x[1]):
             return ["set", x, ("or", s[2], nxt[2][0][2])]
+        return None
+
+    def told(self, s):
+        """The way through a branch that is gone for certain, or that all ways are; or None."""
+        if s[0] == "switch" and s[1][0] == "lit":
+            return next((body for values, body in s[2] if s[1][2] in values), s[3])
+        if s[0] == "if" and s[1] in (("true",), ("false",)):
+            return s[2 if s[1] == ("true",) else 3]
+        all_ways = lists(s) if s[0] in ("if", "switch") else []
+        if all_ways and all_ways[0] and all(way == all_ways[0] for way in all_ways) and not has(s[1], ("call",)):
+            return all_ways[0]
         return None
 
     def known(self, s, nxt, after):

@@ -4,14 +4,23 @@ from .inline import fixed, set_in
 
 
 def steady(e, never):
-    """Whether an expression has one value throughout; `never` are the variables that are never set and do not stand in memory."""
+    """Whether an expression has one value throughout; `never` are the variables that are set once alone, as arguments are, and do not stand in memory."""
     if e[0] == "var":
         return e[1] in never
     if e[0] == "addr":
         return fixed(e[1]) or e[1][0] == "deref" and e[1][2][0] == "var" and e[1][2][1] in never
     if e[0] == "field":
         return steady(e[1], never)
+    if e[0] == "aggregate" and e[1][0] == "slice":
+        return from_its_start(e[2][0], never) and steady(e[2][1], never)
     return fixed_value(e)
+
+
+def from_its_start(pointer, never):
+    """Whether a pointer is that of an array or a list from its first element on."""
+    while pointer[0] == "addr" and pointer[1][0] == "deref":
+        pointer = pointer[1][2]
+    return steady(pointer, never)
 
 
 def fixed_value(e):
@@ -23,7 +32,7 @@ def replaced(f, statements, temporaries):
     """The same statements without the variables that are set once, to such a value."""
     while True:
         counts = set_in(statements)
-        never = {n for n in range(1, f.count + 1) if n not in counts and n not in f.memory}
+        never = {n for n in range(1, len(f.types)) if counts.get(n, 0) == (n > f.count) and n not in f.memory}
         found = {}
         collect(statements, temporaries, counts, never, found)
         if not found:

@@ -8,8 +8,8 @@ A program here has functions of expressions, tuples whose first entry names the 
     ('let', name, type, e or None) ('set', place, e) ('block', [e..], e or None) ('if', c, a, b)
     ('match', e, type, {k: ([(name, i, type)..], e)}) ('switch', e, [([value..], e)..], e) ('while', c, e)
     ('cases', e, [(pattern, e)..]) ('tag_is', e, k) ('same', type, a, b) ('unit',)
-A pattern is ('any',), ('name', name, type), ('variant', k, [pattern..], [type..]), ('either', [pattern..]) or
-('guard', pattern, e).
+A pattern is ('any',), ('name', name, type), ('int', number, numbers), ('variant', k, [pattern..], [type..]),
+('either', [pattern..]) or ('guard', pattern, e).
     ('return', e or None) ('break',) ('continue',)
 A shared reference is the value that it refers to: while it lives, nothing writes there (the language's borrow rule). A reference
 that can be written through is ('ref', place).
@@ -298,6 +298,29 @@ def load(root, wanted=("dihkelu", "train_text")):
     return files
 
 
+def numbers_in(pattern, where, found):
+    """The numbers that patterns have at each place within a value."""
+    if pattern[0] == "int":
+        found.setdefault(where, set()).add(pattern[1])
+    elif pattern[0] == "variant":
+        for i, p in enumerate(pattern[2]):
+            numbers_in(p, (*where, pattern[1], i), found)
+    elif pattern[0] in ("either", "guard"):
+        for p in pattern[1] if pattern[0] == "either" else [pattern[1]]:
+            numbers_in(p, where, found)
+
+
+def with_numbers(pattern, where, found):
+    """The same pattern, each number in it beside all those that are asked for at its place."""
+    if pattern[0] == "int":
+        return ("int", pattern[1], tuple(sorted(found[where])))
+    if pattern[0] == "variant":
+        return (*pattern[:2], [with_numbers(p, (*where, pattern[1], i), found) for i, p in enumerate(pattern[2])], pattern[3])
+    if pattern[0] == "either":
+        return ("either", [with_numbers(p, where, found) for p in pattern[1]])
+    return ("guard", with_numbers(pattern[1], where, found), pattern[2]) if pattern[0] == "guard" else pattern
+
+
 class Lowering:
     """One function."""
 
@@ -520,6 +543,11 @@ class Lowering:
         if tuple(path) in PURE:
             name, takes, gives = PURE[tuple(path)]
             return ("pure", name, gives, self.arguments(given, [takes])), gives
+        if len(path) == 2 and path[0] in INTEGERS and path[1] == "from" and len(given) == 1:
+            code, kind = self.expression(given[0])
+            if known(kind) not in nodes.WIDTH:
+                self.fail(f"a number from {kind}")
+            return ("cast", INTEGERS[path[0]], code), INTEGERS[path[0]]
         made = self.variant_of(path)
         if made:
             return ("variant", made[0], made[1], self.arguments(given, [kind for _, kind in made[2]])), made[0]
@@ -549,8 +577,10 @@ class Lowering:
         code, kind = self.expression(subject)
         kind = self.solid(kind)
         inner = self.solid(kind[2]) if kind[0] == "ref" else kind
-        if name == "len" and inner[0] in ("array", "slice"):
-            return ("len", code), "u64"
+        if inner[0] in ("array", "slice"):
+            return self.of_list(code, kind, inner, name, given)
+        if inner in MAXIMUM and name in ("min", "max") and len(given) == 1:
+            return self.bounded(code, inner, name, given[0])
         if isinstance(inner, tuple) and self.opened_type(inner)[2:3] in ((path,) for path in LIBRARY):
             return self.of_library(code, kind, name, given)
         full = self.method(inner, name)
@@ -560,6 +590,31 @@ class Lowering:
         elif takes[0] != "ref" and kind[0] == "ref":
             subject = ("unary", "*", subject)
         return self.called(full, [subject] + given)
+
+    def of_list(self, code, kind, whole, name, given):
+        """What a list says of itself: its length, whether it is empty, and an element that may not be there."""
+        many = ("len", code)
+        if name == "len" and not given:
+            return many, "u64"
+        if name == "is_empty" and not given:
+            return ("bin", "==", "u64", many, ("lit", "u64", 0)), "bool"
+        if name in ("get", "first") and len(given) == (name == "get"):
+            made = self.sources.named(("std", "types", "Option"), (("ref", False, whole[1]),))
+            at, list_ = self.bind(" at", "u64"), self.bind(" list", ("ref", False, whole))
+            place = self.fit(*self.expression(given[0]), "u64") if given else ("lit", "u64", 0)
+            lets = [("let", list_, ("ref", False, whole), self.opened(code, kind)[0]), ("let", at, "u64", place)]
+            there = ("bin", "<", "u64", ("var", at), ("len", ("var", list_)))
+            found = ("variant", made, 1, [("index", ("var", list_), ("var", at), whole[1])])
+            return ("block", lets, ("if", there, found, ("variant", made, 0, []))), made
+        return self.fail(f"the method {name} of a list")
+
+    def bounded(self, code, kind, name, other):
+        """The less, or the greater, of two whole numbers."""
+        one, two = self.bind(" one", kind), self.bind(" two", kind)
+        lets = [("let", one, kind, code), ("let", two, kind, self.fit(*self.expression(other), kind))]
+        less = ("bin", "<", kind, ("var", two), ("var", one))
+        first, second = (two, one) if name == "min" else (one, two)
+        return ("block", lets, ("if", less, ("var", first), ("var", second))), kind
 
     def method(self, kind, name):
         """The function that a method is: one of the type, or one of a trait, which must be one alone."""
@@ -933,6 +988,7 @@ class Lowering:
 
     def cases(self, code, kind, arms):
         """A choice by patterns, which are tried in their order."""
+        self.no_written_part(kind, [pattern for pattern, _, _ in arms])
         code, kind = self.opened(code, kind)
         out, result = [], NEVER
         for pattern, _, body in arms:
@@ -945,7 +1001,16 @@ class Lowering:
             result = self.unify(result, found)
             self.scopes.pop()
             out.append((fits, inner))
-        return ("cases", code, out), result
+        numbers = {}
+        for fits, _ in out:
+            numbers_in(fits, (), numbers)
+        return ("cases", code, [(with_numbers(fits, (), numbers), inner) for fits, inner in out]), result
+
+    def no_written_part(self, kind, patterns):
+        """A name of a part of what is lent to be written may be written through, which is not followed."""
+        kind = self.solid(kind)
+        if kind[0] == "ref" and kind[1] and "'bind'" in repr(patterns):
+            self.fail("a name of a part that may be written")
 
     def fitting(self, pattern, kind):
         """A pattern in the common form; its names are bound."""
@@ -957,6 +1022,9 @@ class Lowering:
             return ("either", found)
         if pattern[0] == "bind":
             return ("name", self.bind(pattern[1], kind), kind)
+        if pattern[0] == "int":
+            self.unify(kind, Open(True))
+            return pattern
         if pattern[0] != "variant":
             if pattern[0] != "any":
                 self.fail(f"a pattern '{pattern[0]}' within a choice")
@@ -967,7 +1035,7 @@ class Lowering:
         self.unify(found[0], kind)
         _, k, _ = found
         parts = self.sources.variants(self.solid(kind))[k][1]
-        inner = pattern[2] if pattern[3] is None else [pattern[3].get(f, ("any",)) for f, _ in parts]
+        inner = self.inner_patterns(pattern, parts)
         if not parts and inner == [("any",)]:  # the part without a value
             inner = []
         if len(inner) != len(parts):
@@ -977,9 +1045,10 @@ class Lowering:
     def of_match(self, e):
         subject, kind = self.expression(e[1])
         arms = [(p, body) for pattern, body in e[2] for p in (pattern[1] if pattern[0] == "or" else [pattern])]
+        self.no_written_part(kind, [p for p, _ in arms])
         subject, kind = self.opened(subject, kind)
         if self.is_enum(kind):
-            nested = any(p[0] == "guard" or p[0] == "variant" and any(q[0] not in ("bind", "any") for q in (p[2] or (p[3] or {}).values())) for p, _ in arms)
+            nested = any(p[0] == "guard" or p[0] == "variant" and any(q[0] not in ("bind", "any", "rest") for q in (p[2] or (p[3] or {}).values())) for p, _ in arms)
             if nested:
                 return self.cases(subject, kind, [(p, None, body) for p, body in arms])
             return self.by_variant(subject, kind, arms)
@@ -993,8 +1062,7 @@ class Lowering:
             bound = []
             if pattern[0] == "bind":
                 self.fail("a name for the whole of what is matched")
-            inner = [] if pattern[0] == "any" else pattern[2] if pattern[3] is None else [
-                pattern[3].get(f, ("any",)) for f, _ in parts]
+            inner = [] if pattern[0] == "any" else self.inner_patterns(pattern, parts)
             if pattern[0] != "any" and len(inner) != len(parts) and (parts or inner != [("any",)]):
                 self.fail(f"another count of parts of {pattern[1]}")
             for i, p in enumerate(inner):
@@ -1007,6 +1075,17 @@ class Lowering:
             self.scopes.pop()
             out[k] = (bound, code)
         return ("match", subject, kind, out), result
+
+    def inner_patterns(self, pattern, parts):
+        """The pattern of each part of a variant."""
+        if pattern[3] is not None:
+            if set(pattern[3]) - {f for f, _ in parts} - {".."} or ".." not in pattern[3] and len(pattern[3]) != len(parts):
+                self.fail(f"other parts than {pattern[1]} has")
+            return [pattern[3].get(f, ("any",)) for f, _ in parts]
+        if ("rest",) in pattern[2]:
+            at = pattern[2].index(("rest",))
+            return pattern[2][:at] + [("any",)] * (len(parts) - len(pattern[2]) + 1) + pattern[2][at + 1:]
+        return pattern[2]
 
     def picks(self, pattern, kind, k):
         found = self.variant_of(pattern[1])

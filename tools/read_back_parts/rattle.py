@@ -620,12 +620,17 @@ class Parser:
         while self.take("::"):
             path.append(self.name())
         if self.take("("):
-            return ("variant", path, self.listed(")", self.one_pattern), None)
+            return ("variant", path, self.listed(")", self.part_pattern), None)
         if self.take("{"):
             return ("variant", path, None, dict(self.listed("}", self.named_pattern)))
         return ("bind", path[0]) if len(path) == 1 and not path[0][0].isupper() else ("variant", path, [], None)
 
+    def part_pattern(self):
+        return ("rest",) if self.take("..") else self.one_pattern()
+
     def named_pattern(self):
+        if self.take(".."):
+            return "..", ("any",)
         name = self.name()
         return name, self.one_pattern() if self.take(":") else ("bind", name)
 

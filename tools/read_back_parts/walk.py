@@ -172,6 +172,10 @@ class Walk:
         whole = self.value(e[1])
         place = self.value(e[2])
         self.needs(nodes.node("index", (whole, place), e[3]))
+        inner, at = whole, place
+        while inner.op == "part":  # an element of a part is one of the whole
+            inner, at = inner.args[0], nodes.add(inner.args[1], at)
+            self.needs(nodes.node("index", (inner, at), e[3]))
         return nodes.element(whole, place, e[3])
 
     def of_deref(self, e):
@@ -332,12 +336,24 @@ class Walk:
                 return self.value(body)
         return None
 
+    def number(self, x, values):
+        """Which of some numbers a value is on this path, or None; all are tested at once."""
+        if nodes.is_const(x):
+            return x.args[0]
+        fact = ("number", x, values)
+        if fact not in self.facts:
+            way = self.choose(nodes.node("number", (x, *values), "tag"), len(values) + 1)
+            self.facts[fact] = values[way] if way < len(values) else None
+        return self.facts[fact]
+
     def fits(self, pattern, x):
         if pattern[0] == "any":
             return True
         if pattern[0] == "name":
             self.kinds[pattern[1]], self.state[pattern[1]] = pattern[2], x
             return True
+        if pattern[0] == "int":
+            return self.number(x, pattern[2]) == pattern[1]
         if pattern[0] == "either":
             return any(self.fits(p, x) for p in pattern[1])
         if pattern[0] == "guard":
