@@ -314,6 +314,26 @@ class WholeFile(unittest.TestCase):
         self.assertEqual(done.returncode, 1)
         self.assertRegex(done.stdout, "^ieee_powi2: what is returned differs: the source has .* the C has .*\n$")
 
+    @unittest.skipUnless(shutil.which("rt"), "LEFT OUT: the toolchain's types are not held to std_types.txt, since rt is not there")
+    def test_std_types(self):
+        """The toolchain has each type of std_types.txt, with as many parts of the same parameters."""
+        kit = Path(subprocess.run(["rt", "doc"], capture_output=True, text=True, check=True).stdout.strip()).parent
+        code = dict(json.loads((kit / "rlibs/core.rlib/toolchain/mir.json").read_text()))
+        theirs = {t["name"]: t["shape"] for f in code.values() for t in f["types"]}
+        names = {"Option": "core::option::Option", "Result": "core::result::Result", "Pair": "(,)", "Triple": "(,,)"}
+        items = rattle.read((ROOT / "tools/read_back_parts/std_types.txt").read_text(), "std_types.txt")
+        self.assertEqual([item[1] for item in items], list(names))
+        for what, name, parts, generics in items:
+            at = {g: {"Param": i} for i, (g, _) in enumerate(generics)}
+
+            def shape(kinds):
+                return [at[kind[1][0]] for _, kind in kinds]
+
+            if names[name] in theirs:
+                mine = {"Fields": shape(parts)} if what == "struct" else {"Variants": [shape(kinds) for _, kinds in parts]}
+                self.assertEqual(theirs[names[name]], mine)
+        self.assertLessEqual({"core::option::Option", "core::result::Result", "(,)"}, set(theirs))
+
     @unittest.skipUnless(shutil.which("rt"), "LEFT OUT: the toolchain's std::num is not held to std_num.txt, since rt is not there")
     def test_std(self):
         """The toolchain has each function of std_num.txt, one operation that wraps, whose text is that of the integers that are left over."""
