@@ -202,7 +202,11 @@ class Sources:
         return self.enums[kind[1]] if kind[0] == "enum" else self.parts_of(kind[2], kind[3])
 
     def fields(self, kind):
-        return self.structs[kind[1]] if kind[0] == "struct" else self.parts_of(kind[2], kind[3])
+        if kind[0] == "struct":
+            return self.structs[kind[1]]
+        if kind[:2] != ("made", "struct"):
+            raise Unread(f"fields of {kind}")
+        return self.parts_of(kind[2], kind[3])
 
     def type_of(self, module, kind, owner=None, names={}):
         """A type of the sources; `names` are the types and counts that stand for parameters."""
