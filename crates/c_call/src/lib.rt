@@ -5,6 +5,7 @@
 ghost use Rattle.std.specs.Prelude.{◌≡◌, ◌++◌, ◌+◌, ◌%◌, ◌^◌, ◌≤◌, length, take, drop};
 ghost use Rattle.c_call.specs.Call.{done, packed, reply, written};
 ghost use Rattle.c_call.specs.Layout.{response_numbers, jones_numbers, mueller_numbers, rows, head, common, alone, both, entries, two_entries, evaluated, surface_answered};
+ghost use Rattle.refusal.specs.Outcome.{number_of, place_of};
 
 use polarization_mueller::{JonesMatrix, MuellerMatrix};
 use refusal::Refusal;
@@ -13,9 +14,16 @@ use thin_film_solver::CoatingResponse;
 
 // A refusal as one number, for a place below 2^32.
 pub fn packed(r: Refusal) -> u64
-    ensures { result ≡ packed r.number (r.place % 2 ^ 32) }
+    ensures { result ≡ packed (number_of r) (place_of r % 2 ^ 32) }
 {
-    r.number as u64 * 0x1_0000_0000 + r.place as u64 % 0x1_0000_0000
+    packed_at(r, r.place())
+}
+
+// The same at a place of the caller's.
+pub fn packed_at(r: Refusal, place: usize) -> u64
+    ensures { result ≡ packed (number_of r) (place % 2 ^ 32) }
+{
+    r.number() as u64 * 0x1_0000_0000 + place as u64 % 0x1_0000_0000
 }
 
 // Numbers at a place of a list that has room for them.
