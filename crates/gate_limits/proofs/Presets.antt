@@ -1,4 +1,5 @@
 -- The layers of the preset coatings, at their constants: every limit but that on n_incident·abs(sin) holds of them, and it holds of all of them where it holds of the smallest index. Assumes nothing.
+use Rattle.std.specs.Prelude.{None, Some}
 use mathlib.Core.Path.{◌≡◌, refl, sym, ap, ◌∙◌}
 use Prim.Native.Nat.{ℕ, zero, suc}
 use mathlib.Core.Bool.{Bool, true, false, ◌&&◌, cond, and-true}
@@ -16,7 +17,6 @@ use Rattle.thin_film_coating.specs.declared.Coating.TheVariants as C
 use Rattle.thin_film.specs.declared.SurfaceCoating.TheVariants as S
 use Rattle.thin_film.specs.Coating.{standard_wavelength, n_mgf2, mgf2_layers, mirror_layers, layers_of}
 use Rattle.thin_film_presets.specs.Layers.{n_sio2, n_tio2, quarter_wave, broadband_layers, bragg_layers}
-use Rattle.gate_limits.specs.declared.Interface.TheVariants.{Bare, Coated}
 use Rattle.gate_limits.specs.Coating.{coded, interface, preset_layers}
 use Rattle.gate_limits.specs.Limits.{hundred_thousand, within, refracts, layer_within, layers_within}
 
@@ -133,7 +133,7 @@ module _ (b : Float) (code : ℕ) where
   at_mirror e = sym (ap presets e ∙ pairs_is 6 b)
 
   none : (p q r t : Bool)
-      → true ≡ layers_within b (preset_layers (cond p (Coated S.IdealAr) (cond q (Coated (S.Custom C.Multilayer)) (cond r (Coated (S.Custom C.IdealBeamsplitter)) (cond t (Coated (S.Custom C.IdealMirror)) Bare)))))
+      → true ≡ layers_within b (preset_layers (cond p (Some S.IdealAr) (cond q (Some (S.Custom C.Multilayer)) (cond r (Some (S.Custom C.IdealBeamsplitter)) (cond t (Some (S.Custom C.IdealMirror)) None)))))
   unfolding layers_of layers_within
   none true q r t = refl
   none false true r t = refl

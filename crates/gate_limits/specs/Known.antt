@@ -1,13 +1,12 @@
 -- What passes the limits and what does not: surfaces of every coating at a wavelength of 1,000, each limit of 01 section 3 from both
 -- sides, and metal films from both sides (02 slip 12); and the coatings by their codes. Types only; `proofs/Known.antt` computes them.
-use Rattle.std.specs.Prelude.{◌≡◌, Bool, true, false, List, [], ◌∷◌, ℕ, Float}
+use Rattle.std.specs.Prelude.{◌≡◌, Bool, true, false, List, [], ◌∷◌, ℕ, Float, None, Some}
 use Rattle.std.specs.Float.{binary64}
 use Rattle.std.specs.Float.Ieee.{of_bits}
 use Rattle.thin_film_solver.specs.declared.ThinFilmLayer.{ThinFilmLayer}
 use Rattle.thin_film_coating.specs.declared.Coating.TheVariants as C
 use Rattle.thin_film.specs.declared.SurfaceCoating.TheVariants as S
 use Rattle.gate_limits.specs.declared.Surface.{Surface}
-use Rattle.gate_limits.specs.declared.Interface.TheVariants.{Bare, Coated}
 use Rattle.gate_limits.specs.Coating.{coded, interface}
 use Rattle.gate_limits.specs.Limits.{beam_passes, layer_within, surface_passes, metal_passes, passes}
 
@@ -55,16 +54,16 @@ pub record KnownCoatings : Type 0 where
 
 -- ---- a coating by its code
 pub record KnownCodes : Type 0 where
-  pub bare : (design : Float) → coded 0 design ≡ Bare
-  pub ideal_ar : (design : Float) → coded 1 design ≡ Coated S.IdealAr
-  pub mgf2 : (design : Float) → coded 2 design ≡ Coated (S.MgF2 design)
-  pub broadband_ar : (design : Float) → coded 3 design ≡ Coated S.BroadbandAr
-  pub high_reflectance_mirror : (design : Float) → coded 4 design ≡ Coated S.HighReflectanceMirror
-  pub custom : (design : Float) → coded 5 design ≡ Coated (S.Custom C.Multilayer)
-  pub ideal_beamsplitter : (design : Float) → coded 6 design ≡ Coated (S.Custom C.IdealBeamsplitter)
-  pub ideal_mirror : (design : Float) → coded 7 design ≡ Coated (S.Custom C.IdealMirror)
+  pub bare : (design : Float) → coded 0 design ≡ None
+  pub ideal_ar : (design : Float) → coded 1 design ≡ Some S.IdealAr
+  pub mgf2 : (design : Float) → coded 2 design ≡ Some (S.MgF2 design)
+  pub broadband_ar : (design : Float) → coded 3 design ≡ Some S.BroadbandAr
+  pub high_reflectance_mirror : (design : Float) → coded 4 design ≡ Some S.HighReflectanceMirror
+  pub custom : (design : Float) → coded 5 design ≡ Some (S.Custom C.Multilayer)
+  pub ideal_beamsplitter : (design : Float) → coded 6 design ≡ Some (S.Custom C.IdealBeamsplitter)
+  pub ideal_mirror : (design : Float) → coded 7 design ≡ Some (S.Custom C.IdealMirror)
   -- 'MgF2 at 550'
-  pub sheets_mgf2 : interface 2 ≡ Coated (S.MgF2 (of_bits binary64 0x4081_3000_0000_0000))
+  pub sheets_mgf2 : interface 2 ≡ Some (S.MgF2 (of_bits binary64 0x4081_3000_0000_0000))
 
 -- ---- each limit: the last f64 within it, and the first beyond
 abbrev pub beam : ℕ → ℕ → ℕ → Bool

@@ -22,40 +22,33 @@ pub struct Surface {
     pub angle_rad: f64,
 }
 
-// What lies between the two media.
-#[derive(Clone, Copy)]
-pub enum Interface {
-    Bare,
-    Coated(SurfaceCoating),
-}
-
 // From a code to a coating. Code 5 is made of layers of its own.
-pub fn coded(code: u32, design_wavelength_nm: f64) -> Interface
+pub fn coded(code: u32, design_wavelength_nm: f64) -> Option<SurfaceCoating>
     ensures { result ≡ coded code design_wavelength_nm }
 {
     if code == 1 {
-        Interface::Coated(SurfaceCoating::IdealAr)
+        Some(SurfaceCoating::IdealAr)
     } else if code == 2 {
-        Interface::Coated(SurfaceCoating::MgF2 {
+        Some(SurfaceCoating::MgF2 {
             design_wavelength_nm,
         })
     } else if code == 3 {
-        Interface::Coated(SurfaceCoating::BroadbandAr)
+        Some(SurfaceCoating::BroadbandAr)
     } else if code == 4 {
-        Interface::Coated(SurfaceCoating::HighReflectanceMirror)
+        Some(SurfaceCoating::HighReflectanceMirror)
     } else if code == 5 {
-        Interface::Coated(SurfaceCoating::Custom(Coating::Multilayer))
+        Some(SurfaceCoating::Custom(Coating::Multilayer))
     } else if code == 6 {
-        Interface::Coated(SurfaceCoating::Custom(Coating::IdealBeamsplitter))
+        Some(SurfaceCoating::Custom(Coating::IdealBeamsplitter))
     } else if code == 7 {
-        Interface::Coated(SurfaceCoating::Custom(Coating::IdealMirror))
+        Some(SurfaceCoating::Custom(Coating::IdealMirror))
     } else {
-        Interface::Bare
+        None
     }
 }
 
 // Of a sheet, whose MgF2 is at 550 nm.
-pub fn interface_of(code: u32) -> Interface
+pub fn interface_of(code: u32) -> Option<SurfaceCoating>
     ensures { result ≡ interface code }
 {
     coded(code, 550.0)

@@ -1,15 +1,12 @@
 -- SurfaceCoating::from_format_name and to_format_name of thin_film.rs, on bytes (01, 'The rest'; refusal 2). Definitions only.
-use Rattle.std.specs.Prelude.{ℕ, Bool, ◌||◌, cond, List, [], ◌∷◌, map, ltb, length}
-use Rattle.std.proofs.Math.Option.{Option, none, some}
-use Rattle.refusal.specs.Outcome.{Outcome, answer, refusal, refused}
+use Rattle.std.specs.Prelude.{ℕ, Bool, ◌||◌, cond, List, [], ◌∷◌, map, ltb, length, Option, None, Some}
+use Rattle.refusal.specs.Outcome.{Outcome, answer, refusal}
 use Rattle.name_bytes.specs.Trim.{trimmed}
 use Rattle.name_bytes.specs.Search.{is, contains}
 use Rattle.name_bytes.specs.Ascii.{upper_byte, first_over}
 use Rattle.thin_film.specs.declared.SurfaceCoating.{SurfaceCoating}
 use Rattle.thin_film.specs.declared.SurfaceCoating.TheVariants as S
 use Rattle.thin_film.specs.Coating.{mgf2_default}
-use Rattle.name_coating.specs.declared.Named.{Named}
-use Rattle.name_coating.specs.declared.Named.TheVariants as N
 
 -- ---- the fixed byte strings
 abbrev pub NONE : List ℕ
@@ -73,12 +70,12 @@ names_ar clean = is clean AR || contains clean AR_UNDERSCORE || contains clean A
 -- the coating of a trimmed upper-case name; an unknown one is the ideal AR coating
 unfoldable pub coating_of : List ℕ → Option SurfaceCoating
 coating_of clean =
-    cond (names_none clean) none
-    (cond (names_mgf2 clean) (some mgf2_default)
-    (cond (names_bbar clean) (some S.BroadbandAr)
-    (cond (names_mirror clean) (some S.HighReflectanceMirror)
-    (cond (names_ar clean) (some S.IdealAr)
-    (some S.IdealAr)))))
+    cond (names_none clean) None
+    (cond (names_mgf2 clean) (Some mgf2_default)
+    (cond (names_bbar clean) (Some S.BroadbandAr)
+    (cond (names_mirror clean) (Some S.HighReflectanceMirror)
+    (cond (names_ar clean) (Some S.IdealAr)
+    (Some S.IdealAr)))))
 
 -- refusal 2: over 32 bytes with place 32, else the first byte over 127
 unfoldable pub from_format_name : List ℕ → Outcome (Option SurfaceCoating)
@@ -86,12 +83,6 @@ from_format_name name =
     cond (ltb 32 (length name)) (refusal 2 32)
     (cond (ltb (first_over name) (length name)) (refusal 2 (first_over name))
     (answer (coating_of (upper (trimmed name)))))
-
--- document 01's number and values for each case of the answer
-abbrev pub outcome : Named → Outcome (Option SurfaceCoating)
-outcome (N.Coating c) = answer (some c)
-outcome N.Nothing = answer none
-outcome (N.Refused r) = refused r
 
 -- ---- to_format_name
 abbrev pub format_name : SurfaceCoating → List ℕ

@@ -2,20 +2,12 @@
 #![tactic(auto)]
 
 ghost use Rattle.std.specs.Prelude.{◌≡◌, ◌++◌, ◌-◌, ◌≤◌, length, replicate};
-ghost use Rattle.refusal.specs.Outcome.{answer};
+ghost use Rattle.refusal.specs.Outcome.{outcome};
 ghost use Rattle.thin_film.specs.Coating.{text};
-ghost use Rattle.name_coating.specs.Name.{upper, names_none, names_mgf2, names_bbar, names_mirror, names_ar, coating_of, from_format_name, outcome, format_name};
+ghost use Rattle.name_coating.specs.Name.{upper, names_none, names_mgf2, names_bbar, names_mirror, names_ar, coating_of, from_format_name, format_name};
 
 use refusal::Refusal;
 use thin_film::{SurfaceCoating, Text};
-
-// The coating that a name stands for; none; or a refusal.
-#[derive(Clone, Copy)]
-pub enum Named {
-    Coating(SurfaceCoating),
-    Nothing,
-    Refused(Refusal),
-}
 
 // An upper-case name: the first len bytes.
 #[derive(Clone, Copy)]
@@ -97,28 +89,28 @@ fn names_ar(clean: &[u8]) -> bool
 }
 
 // The coating of a trimmed upper-case name; an unknown one is the ideal AR coating.
-fn coating_of(clean: &[u8]) -> Named
-    ensures { outcome result ≡ answer (coating_of clean.now) }
+fn coating_of(clean: &[u8]) -> Option<SurfaceCoating>
+    ensures { result ≡ coating_of clean.now }
 {
     if names_none(clean) {
-        Named::Nothing
+        None
     } else if names_mgf2(clean) {
-        Named::Coating(SurfaceCoating::mgf2_default())
+        Some(SurfaceCoating::mgf2_default())
     } else if names_bbar(clean) {
-        Named::Coating(SurfaceCoating::BroadbandAr)
+        Some(SurfaceCoating::BroadbandAr)
     } else if names_mirror(clean) {
-        Named::Coating(SurfaceCoating::HighReflectanceMirror)
+        Some(SurfaceCoating::HighReflectanceMirror)
     } else if names_ar(clean) {
-        Named::Coating(SurfaceCoating::IdealAr)
+        Some(SurfaceCoating::IdealAr)
     } else {
-        Named::Coating(SurfaceCoating::IdealAr)
+        Some(SurfaceCoating::IdealAr)
     }
 }
 
 // The coating of a trimmed name.
-fn coating_in(part: &[u8]) -> Named
+fn coating_in(part: &[u8]) -> Option<SurfaceCoating>
     requires { length part.now ≤ 32 }
-    ensures { outcome result ≡ answer (coating_of (upper part.now)) }
+    ensures { result ≡ coating_of (upper part.now) }
 {
     let u = upper(part);
     let bytes = u.bytes;
@@ -128,23 +120,17 @@ fn coating_in(part: &[u8]) -> Named
 
 // The coating that a name stands for. Over 32 bytes are refused with 2 at 32, a byte over 127 with 2 at
 // its place.
-pub fn from_format_name(name: &[u8]) -> Named
+pub fn from_format_name(name: &[u8]) -> Result<Option<SurfaceCoating>, Refusal>
     ensures { outcome result ≡ from_format_name name.now }
 {
     if name.len() > 32 {
-        return Named::Refused(Refusal {
-            number: 2,
-            place: 32,
-        });
+        return Err(Refusal::Name(32));
     }
     let over = name_bytes::first_over(name);
     if over < name.len() {
-        return Named::Refused(Refusal {
-            number: 2,
-            place: over,
-        });
+        return Err(Refusal::Name(over));
     }
-    coating_in(name_bytes::trimmed(name))
+    Ok(coating_in(name_bytes::trimmed(name)))
 }
 
 // ---- to_format_name

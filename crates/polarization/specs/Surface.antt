@@ -9,11 +9,10 @@ use Rattle.math_trig.specs.Trig.{sin, cos}
 use Rattle.math_atan.specs.Atan.{atan}
 use Rattle.thin_film_complex.specs.declared.Complex.{Complex}
 use Rattle.thin_film_complex.specs.Complex.{real, zero}
-use Rattle.refusal.specs.Outcome.{Outcome, answer, refusal, invalid_parameter}
+use Rattle.refusal.specs.Outcome.{Outcome, answer, invalid_parameter}
 use Rattle.thin_film_solver.specs.declared.CoatingResponse.{CoatingResponse}
 use Rattle.polarization_mueller.specs.Jones.{diattenuator}
 use Rattle.polarization.specs.declared.SurfaceJones.{SurfaceJones}
-use Rattle.polarization.specs.declared.FresnelJones.{FresnelJones}
 
 -- ---- surface_coating_jones
 unfoldable pub surface_coating_jones : CoatingResponse → SurfaceJones
@@ -65,13 +64,3 @@ bare n1 n2 sin-i cos-i =
 
 unfoldable pub surface_fresnel_jones : Float → Float → Float → Outcome SurfaceJones
 surface_fresnel_jones n1 n2 angle = cond (indices_valid n1 n2 angle) (answer (bare n1 n2 (sin angle) (cos angle))) invalid_parameter
-
--- ---- its answer, a struct: the matrices beside a refusal's number, which is 0 where there is none; zero matrices where refused
-unfoldable pub returned : Outcome SurfaceJones → FresnelJones
-returned (answer j) = record { refusal = 0; matrices = j }
-returned (refusal n place) =
-    record { refusal = n; matrices = record { reflection = diattenuator zero zero; transmission = diattenuator zero zero } }
-
--- document 01's number and values for it
-abbrev pub outcome : FresnelJones → Outcome SurfaceJones
-outcome r = cond (eqb r.refusal 0) (answer r.matrices) (refusal r.refusal 0)

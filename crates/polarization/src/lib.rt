@@ -2,11 +2,13 @@
 #![tactic(auto)]
 
 ghost use Rattle.std.specs.Prelude.{◌≡◌};
+ghost use Rattle.refusal.specs.Outcome.{outcome};
 ghost use Rattle.thin_film_complex.specs.Complex.{real};
 ghost use Rattle.polarization_mueller.specs.Jones.{diattenuator};
-ghost use Rattle.polarization.specs.Surface.{surface_coating_jones, indices_valid, excess, phase_factor, totally_reflected, cos_t, refracted, bare, surface_fresnel_jones, returned};
+ghost use Rattle.polarization.specs.Surface.{surface_coating_jones, indices_valid, excess, phase_factor, totally_reflected, cos_t, refracted, bare, surface_fresnel_jones};
 
 use polarization_mueller::JonesMatrix;
+use refusal::Refusal;
 use thin_film_complex::Complex;
 use thin_film_solver::CoatingResponse;
 
@@ -15,14 +17,6 @@ use thin_film_solver::CoatingResponse;
 pub struct SurfaceJones {
     pub reflection: JonesMatrix,
     pub transmission: JonesMatrix,
-}
-
-// The matrices of a bare surface; or a refusal's number, which is 0 where there is none, beside zero
-// matrices.
-#[derive(Clone, Copy)]
-pub struct FresnelJones {
-    pub refusal: u32,
-    pub matrices: SurfaceJones,
 }
 
 pub fn surface_coating_jones(coating: CoatingResponse) -> SurfaceJones
@@ -122,23 +116,12 @@ fn bare(n1: f64, n2: f64, sin_i: f64, cos_i: f64) -> SurfaceJones
 
 // The matrices of a bare dielectric surface. Indices that are not finite and above zero, and an angle
 // that is not finite, are refused with 1.
-pub fn surface_fresnel_jones(n1: f64, n2: f64, angle_i_rad: f64) -> FresnelJones
-    ensures { result ≡ returned (surface_fresnel_jones n1 n2 angle_i_rad) }
+pub fn surface_fresnel_jones(n1: f64, n2: f64, angle_i_rad: f64) -> Result<SurfaceJones, Refusal>
+    ensures { outcome result ≡ surface_fresnel_jones n1 n2 angle_i_rad }
 {
     if !indices_valid(n1, n2, angle_i_rad) {
-        let dark = JonesMatrix::diattenuator(Complex::zero(), Complex::zero());
-        return FresnelJones {
-            refusal: 1,
-            matrices: SurfaceJones {
-                reflection: dark,
-                transmission: dark,
-            },
-        };
+        return Err(Refusal::InvalidParameter);
     }
     let i = math_trig::sin_cos(angle_i_rad);
-    let matrices = bare(n1, n2, i.sin, i.cos);
-    FresnelJones {
-        refusal: 0,
-        matrices,
-    }
+    Ok(bare(n1, n2, i.sin, i.cos))
 }

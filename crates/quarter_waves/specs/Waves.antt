@@ -5,11 +5,9 @@ use Rattle.std.specs.Float.Ieee.{round}
 use Rattle.ieee.specs.Operators.{◌⊗◌, ◌⊘◌}
 use Rattle.ieee.specs.Functions.{zero_f, one, four}
 use Rattle.ieee.specs.Count.{count}
-use Rattle.refusal.specs.Outcome.{Outcome, answer, refusal, refused}
+use Rattle.refusal.specs.Outcome.{Outcome, answer, refusal}
 use Rattle.gate_limits.specs.Limits.{hundred_thousand, within, wavelength_passes}
 use Rattle.quarter_waves.specs.declared.QuarterWaves.{QuarterWaves}
-use Rattle.quarter_waves.specs.declared.QuarterWavesReply.{QuarterWavesReply}
-use Rattle.quarter_waves.specs.declared.QuarterWavesReply.TheVariants as R
 
 -- 'p be n·thickness, rounded once'
 abbrev pub path : Float → Float → Float
@@ -32,8 +30,3 @@ admitted n thickness wavelength = within one four n && (within zero_f hundred_th
 unfoldable pub quarter_waves : Float → Float → Float → Outcome QuarterWaves
 quarter_waves n thickness wavelength =
     cond (admitted n thickness wavelength) (answer (divided (path n thickness) (quarter_wave wavelength))) (refusal 14 0)
-
--- what a caller reads out of a reply
-abbrev pub outcome : QuarterWavesReply → Outcome QuarterWaves
-outcome (R.Counted waves) = answer waves
-outcome (R.Refused r) = refused r

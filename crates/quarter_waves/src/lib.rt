@@ -2,8 +2,9 @@
 #![tactic(auto)]
 
 ghost use Rattle.std.specs.Prelude.{◌≡◌};
-ghost use Rattle.quarter_waves.specs.Waves.{admitted, divided, outcome, quarter_waves};
+ghost use Rattle.quarter_waves.specs.Waves.{admitted, divided, quarter_waves};
 ghost use Rattle.quarter_waves.specs.Internal.{Divides};
+ghost use Rattle.refusal.specs.Outcome.{outcome};
 
 use refusal::Refusal;
 
@@ -12,12 +13,6 @@ use refusal::Refusal;
 pub struct QuarterWaves {
     pub count: u32,
     pub remainder_nm: f64,
-}
-
-#[derive(Clone, Copy)]
-pub enum QuarterWavesReply {
-    Counted(QuarterWaves),
-    Refused(Refusal),
 }
 
 // The limits of document 01's section 3, ends included: of a layer's index and thickness, and of a
@@ -58,16 +53,13 @@ pub(crate) fn divided(p: f64, q: f64) -> QuarterWaves
 }
 
 // n * thickness in quarters of the wavelength; 14 where one of the three is outside its limits.
-pub fn quarter_waves(n: f64, thickness_nm: f64, wavelength_nm: f64) -> QuarterWavesReply
+pub fn quarter_waves(n: f64, thickness_nm: f64, wavelength_nm: f64) -> Result<QuarterWaves, Refusal>
     ensures { outcome result ≡ quarter_waves n thickness_nm wavelength_nm }
 {
     if admitted(n, thickness_nm, wavelength_nm) {
         let p = ieee::abs(n * thickness_nm);
-        QuarterWavesReply::Counted(divided(p, wavelength_nm / 4.0))
+        Ok(divided(p, wavelength_nm / 4.0))
     } else {
-        QuarterWavesReply::Refused(Refusal {
-            number: 14,
-            place: 0,
-        })
+        Err(Refusal::Film)
     }
 }

@@ -4,11 +4,9 @@ use Rattle.std.specs.Float.{binary64}
 use Rattle.std.specs.Float.Ieee.{lt, le, of_bits}
 use Rattle.ieee.specs.Operators.{◌⊗◌}
 use Rattle.ieee.specs.Functions.{zero_f, one, four, max}
-use Rattle.refusal.specs.Outcome.{Outcome, answer, refusal, refused}
+use Rattle.refusal.specs.Outcome.{Outcome, answer, refusal}
 use Rattle.fresnel.specs.Fresnel.{fresnel_dielectric}
 use Rattle.reflectance_range.specs.declared.ReflectanceRange.{ReflectanceRange}
-use Rattle.reflectance_range.specs.declared.RangeReply.{RangeReply}
-use Rattle.reflectance_range.specs.declared.RangeReply.TheVariants as R
 
 -- 'an end that is NaN or outside 1 to 4' fails it
 unfoldable pub index_valid : Float → Bool
@@ -51,8 +49,3 @@ reflectance_range n1-low n1-high n2-low n2-high =
     cond (range_valid n1-low n1-high && range_valid n2-low n2-high)
     (answer (record { low = low n1-low n1-high n2-low n2-high; high = high n1-low n1-high n2-low n2-high }))
     (refusal 13 0)
-
--- ---- by value
-abbrev pub outcome : RangeReply → Outcome ReflectanceRange
-outcome (R.Range r) = answer r
-outcome (R.Refused r) = refused r

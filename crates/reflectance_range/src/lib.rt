@@ -3,7 +3,8 @@
 #![tactic(auto)]
 
 ghost use Rattle.std.specs.Prelude.{◌≡◌};
-ghost use Rattle.reflectance_range.specs.Range.{index_valid, range_valid, head_on, upper, lower, high, low, reflectance_range, outcome};
+ghost use Rattle.reflectance_range.specs.Range.{index_valid, range_valid, head_on, upper, lower, high, low, reflectance_range};
+ghost use Rattle.refusal.specs.Outcome.{outcome};
 
 use refusal::Refusal;
 
@@ -13,19 +14,6 @@ pub struct ReflectanceRange {
     pub low: f64,
     pub high: f64,
 }
-
-// The range, or a refusal.
-#[derive(Clone, Copy)]
-pub enum RangeReply {
-    Range(ReflectanceRange),
-    Refused(Refusal),
-}
-
-// A low end above its high end, or an end that is NaN or outside 1 to 4.
-const NO_RANGE: Refusal = Refusal {
-    number: 13,
-    place: 0,
-};
 
 // An index from 1 to 4; a NaN is none.
 fn index_valid(n: f64) -> bool
@@ -94,16 +82,21 @@ fn low(n1_low: f64, n1_high: f64, n2_low: f64, n2_high: f64) -> f64
 
 // A low and a high reflectance; 13 for a low end above its high end, or an end that is NaN or outside
 // 1 to 4.
-pub fn reflectance_range(n1_low: f64, n1_high: f64, n2_low: f64, n2_high: f64) -> RangeReply
+pub fn reflectance_range(
+    n1_low: f64,
+    n1_high: f64,
+    n2_low: f64,
+    n2_high: f64,
+) -> Result<ReflectanceRange, Refusal>
     ensures { outcome result ≡ reflectance_range n1_low n1_high n2_low n2_high }
 {
     if !range_valid(n1_low, n1_high) {
-        return RangeReply::Refused(NO_RANGE);
+        return Err(Refusal::Range);
     }
     if !range_valid(n2_low, n2_high) {
-        return RangeReply::Refused(NO_RANGE);
+        return Err(Refusal::Range);
     }
-    RangeReply::Range(ReflectanceRange {
+    Ok(ReflectanceRange {
         low: low(n1_low, n1_high, n2_low, n2_high),
         high: high(n1_low, n1_high, n2_low, n2_high),
     })

@@ -1,4 +1,6 @@
 -- `PowersAnswered` of specs/Finite.antt. Assumes nothing.
+use Rattle.thin_film.specs.declared.SurfaceCoating.{SurfaceCoating}
+use Rattle.std.specs.Prelude.{None, Option, Some}
 use mathlib.Core.Path.{◌≡◌, refl, ap, ◌∙◌}
 use mathlib.Core.Bool.{false}
 use mathlib.Core.List.{List}
@@ -10,8 +12,6 @@ use Rattle.polarization.specs.declared.SurfaceJones.{SurfaceJones}
 use Rattle.polarization.specs.Surface.{surface_fresnel_jones}
 use Rattle.thin_film.specs.Evaluate.{evaluate_surface}
 use Rattle.gate_limits.specs.declared.Surface.{Surface}
-use Rattle.gate_limits.specs.declared.Interface.{Interface}
-use Rattle.gate_limits.specs.declared.Interface.TheVariants.{Bare, Coated}
 use Rattle.surface.specs.declared.Powers.{Powers}
 use Rattle.surface.specs.declared.Answers.{Answers}
 use Rattle.gate_limits.specs.Coating.{interface}
@@ -34,10 +34,10 @@ unfolding assembled coated_answers
 coated (answer r) = refl
 coated (refusal number place) = refl
 
-by_interface : (i : Interface) (wavelength : Float) (s : Surface) (layers : List ThinFilmLayer) (v : Answers) → answers_of i wavelength s layers ≡ answer v → powers_of i wavelength s layers ≡ answer v.powers
+by_interface : (i : Option SurfaceCoating) (wavelength : Float) (s : Surface) (layers : List ThinFilmLayer) (v : Answers) → answers_of i wavelength s layers ≡ answer v → powers_of i wavelength s layers ≡ answer v.powers
 unfolding answers_of powers_of bare_answers
-by_interface Bare wavelength s layers v e = bare (bare_powers s) (surface_fresnel_jones s.n_incident s.n_substrate s.angle_rad) ∙ ap (or_else (bare_powers s)) e
-by_interface (Coated coating) wavelength s layers v e = coated (evaluate_surface coating layers s.n_incident s.n_substrate s.angle_rad wavelength) ∙ ap (map (λ (a : Answers). a.powers)) e
+by_interface None wavelength s layers v e = bare (bare_powers s) (surface_fresnel_jones s.n_incident s.n_substrate s.angle_rad) ∙ ap (or_else (bare_powers s)) e
+by_interface (Some coating) wavelength s layers v e = coated (evaluate_surface coating layers s.n_incident s.n_substrate s.angle_rad wavelength) ∙ ap (map (λ (a : Answers). a.powers)) e
 
 pub powers_answered : PowersAnswered
 powers_answered wavelength s = by_interface (interface s.coating) wavelength s

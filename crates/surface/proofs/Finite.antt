@@ -1,4 +1,6 @@
 -- The claims of specs/Finite.antt. Assumes nothing.
+use Rattle.thin_film.specs.declared.SurfaceCoating.{SurfaceCoating}
+use Rattle.std.specs.Prelude.{None, Option, Some}
 use mathlib.Core.Path.{◌≡◌, refl, ap, ◌∙◌}
 use Prim.Native.Nat.{◌≤◌}
 use mathlib.Core.Bool.{Bool, true, false, ◌||◌}
@@ -26,8 +28,6 @@ use Rattle.thin_film_bounds.specs.Solver.{AdmittedLayers, all_absorbing}
 use Rattle.polarization.specs.declared.SurfaceJones.{SurfaceJones}
 use Rattle.polarization.specs.Surface.{surface_coating_jones}
 use Rattle.gate_limits.specs.declared.Surface.{Surface}
-use Rattle.gate_limits.specs.declared.Interface.{Interface}
-use Rattle.gate_limits.specs.declared.Interface.TheVariants.{Bare, Coated}
 use Rattle.surface.specs.declared.Powers.{Powers}
 use Rattle.gate_limits.specs.Coating.{coded, interface, preset_layers}
 use Rattle.gate_limits.specs.Limits.{within, layers_pass, surface_passes, metal_passes, passes}
@@ -81,27 +81,27 @@ unfolding within
 none_unit = let z = to_tests (in_zero_to_one zero_foot) in record { absorptance_s = z; absorptance_p = z }
 
 -- ---- by what lies between the media
-abbrev Ready : Float → Surface → List ThinFilmLayer → Interface → Type 0
-Ready w s layers Bare = Unit {0}
-Ready w s layers (Coated coating) = AdmittedLayers (s.n_incident ⊗ sin s.angle_rad) w (layers_of coating layers)
+abbrev Ready : Float → Surface → List ThinFilmLayer → Option SurfaceCoating → Type 0
+Ready w s layers None = Unit {0}
+Ready w s layers (Some coating) = AdmittedLayers (s.n_incident ⊗ sin s.angle_rad) w (layers_of coating layers)
 
-by_interface : (i : Interface) (w : Float) (s : Surface) (layers : List ThinFilmLayer) → interface s.coating ≡ i → Inside s → In 100 0 10000 0 w → Ready w s layers i → Answered w s layers
+by_interface : (i : Option SurfaceCoating) (w : Float) (s : Surface) (layers : List ThinFilmLayer) → interface s.coating ≡ i → Inside s → In 100 0 10000 0 w → Ready w s layers i → Answered w s layers
 unfolding answers_of bare_answers coated_answers
-by_interface Bare w s layers e h W a =
+by_interface None w s layers e h W a =
     let j = bare_jones s h in
-    assembled_answered w s layers false (bare_powers s) no_response j.value (ap (λ (i : Interface). answers_of i w s layers) e ∙ ap (map (assembled false (bare_powers s) no_response)) j.is) (bare_unit s h) none_finite none_unit j.pow
-by_interface (Coated coating) w s layers e h W a =
+    assembled_answered w s layers false (bare_powers s) no_response j.value (ap (λ (i : Option SurfaceCoating). answers_of i w s layers) e ∙ ap (map (assembled false (bare_powers s) no_response)) j.is) (bare_unit s h) none_finite none_unit j.pow
+by_interface (Some coating) w s layers e h W a =
     let r = surface_responds s w coating layers h W a in
-    assembled_answered w s layers true (coated_powers r.value) r.value (surface_coating_jones r.value) (ap (λ (i : Interface). answers_of i w s layers) e ∙ ap (map coated_answers) r.is)
+    assembled_answered w s layers true (coated_powers r.value) r.value (surface_coating_jones r.value) (ap (λ (i : Option SurfaceCoating). answers_of i w s layers) e ∙ ap (map coated_answers) r.is)
     (bounded_powers r.bounded) (bounded_finite r.bounded) (bounded_absorptances r.bounded) (bounded_jones r.bounded)
 
 -- ---- under the old limits, or under those of metal films
-lossless : (i : Interface) (w : Float) (s : Surface) (layers : List ThinFilmLayer) → Inside s → T (layers_pass s.n_incident s.angle_rad (preset_layers i)) → T (layers_pass s.n_incident s.angle_rad layers)
+lossless : (i : Option SurfaceCoating) (w : Float) (s : Surface) (layers : List ThinFilmLayer) → Inside s → T (layers_pass s.n_incident s.angle_rad (preset_layers i)) → T (layers_pass s.n_incident s.angle_rad layers)
     → length layers ≤ 16 → Ready w s layers i
-lossless Bare w s layers h p t few = tt
-lossless (Coated coating) w s layers h p t few = chosen_lossless s w coating layers h p t few
+lossless None w s layers h p t few = tt
+lossless (Some coating) w s layers h p t few = chosen_lossless s w coating layers h p t few
 
-custom : interface 5 ≡ Coated (S.Custom C.Multilayer)
+custom : interface 5 ≡ Some (S.Custom C.Multilayer)
 unfolding interface coded
 custom = refl
 
@@ -109,7 +109,7 @@ absorbing : (w : Float) (s : Surface) (layers : List ThinFilmLayer) → Inside s
 unfolding layers_of
 absorbing w s layers h W f t =
     let a = absorbs w s layers W f.angle f.each_k t in
-    by_interface (Coated (S.Custom C.Multilayer)) w s layers (ap interface a.custom ∙ custom) h W (all_absorbing (a.straight s.n_incident h.incident) a.each a.few)
+    by_interface (Some (S.Custom C.Multilayer)) w s layers (ap interface a.custom ∙ custom) h W (all_absorbing (a.straight s.n_incident h.incident) a.each a.few)
 
 either : (a b : Bool) → T (a || b) → T a ⊎ T b
 either true b t = inl tt

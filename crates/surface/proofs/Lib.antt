@@ -3,7 +3,6 @@ pub mod Polarized
 pub mod Bare
 pub mod Coated
 pub mod Finite
-pub mod Returned
 pub mod Alone
 pub mod InTheGlass
 pub mod Known

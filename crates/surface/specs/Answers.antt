@@ -1,10 +1,11 @@
 -- 01 section 7: a surface's answers, over the definitions that the contracts of the crates below cite. Definitions only.
-use Rattle.std.specs.Prelude.{Bool, true, false, cond, List, eqb, Float}
+use Rattle.thin_film.specs.declared.SurfaceCoating.{SurfaceCoating}
+use Rattle.std.specs.Prelude.{Bool, true, false, cond, List, eqb, Float, None, Option, Some}
 use Rattle.ieee.specs.Operators.{◌⊖◌}
 use Rattle.ieee.specs.Functions.{zero_f, one}
 use Rattle.math_trig.specs.Trig.{cos}
 use Rattle.thin_film_complex.specs.Complex.{zero}
-use Rattle.refusal.specs.Outcome.{Outcome, answer, refusal, map}
+use Rattle.refusal.specs.Outcome.{Outcome, answer, map}
 use Rattle.thin_film_solver.specs.declared.ThinFilmLayer.{ThinFilmLayer}
 use Rattle.thin_film_solver.specs.declared.CoatingResponse.{CoatingResponse}
 use Rattle.thin_film_solver.specs.Solve.{no_response}
@@ -15,11 +16,8 @@ use Rattle.polarization_mueller.specs.Jones.{diattenuator}
 use Rattle.polarization_mueller.specs.Mueller.{to_mueller}
 use Rattle.polarization.specs.Surface.{surface_coating_jones, surface_fresnel_jones}
 use Rattle.gate_limits.specs.declared.Surface.{Surface}
-use Rattle.gate_limits.specs.declared.Interface.{Interface}
-use Rattle.gate_limits.specs.declared.Interface.TheVariants.{Bare, Coated}
 use Rattle.surface.specs.declared.Powers.{Powers}
 use Rattle.surface.specs.declared.Answers.{Answers}
-use Rattle.surface.specs.declared.AnswersReply.{AnswersReply}
 use Rattle.gate_limits.specs.Coating.{interface}
 
 -- ---- with the Jones matrices of section 6 and their Mueller matrices
@@ -57,7 +55,7 @@ unfoldable pub bare_answers : Surface → Outcome Answers
 bare_answers s =
     map (assembled false (bare_powers s) no_response) (surface_fresnel_jones s.n_incident s.n_substrate s.angle_rad)
 
--- as a struct: the answers beside a refusal's number, which is 0 where there is none; zero throughout where refused
+-- zero throughout
 abbrev pub no_answers : Answers
 no_answers =
     let dark = diattenuator zero zero in
@@ -65,27 +63,19 @@ no_answers =
     let none : Powers = record { reflectance_s = z; reflectance_p = z; transmittance_s = z; transmittance_p = z } in
     assembled false none no_response (record { reflection = dark; transmission = dark })
 
-unfoldable pub returned : Outcome Answers → AnswersReply
-returned (answer a) = record { refusal = 0; answers = a }
-returned (refusal number place) = record { refusal = number; answers = no_answers }
-
--- document 01's number and values for it
-abbrev pub outcome : AnswersReply → Outcome Answers
-outcome r = cond (eqb r.refusal 0) (answer r.answers) (refusal r.refusal 0)
-
 -- ---- a surface's answers, for its words, its layers and a wavelength
-unfoldable pub answers_of : Interface → Float → Surface → List ThinFilmLayer → Outcome Answers
-answers_of Bare wavelength s layers = bare_answers s
-answers_of (Coated coating) wavelength s layers =
+unfoldable pub answers_of : Option SurfaceCoating → Float → Surface → List ThinFilmLayer → Outcome Answers
+answers_of None wavelength s layers = bare_answers s
+answers_of (Some coating) wavelength s layers =
     map coated_answers (evaluate_surface coating layers s.n_incident s.n_substrate s.angle_rad wavelength)
 
 abbrev pub answers : Float → Surface → List ThinFilmLayer → Outcome Answers
 answers wavelength s layers = answers_of (interface s.coating) wavelength s layers
 
 -- ---- its powers alone; those of section 5 refuse nothing
-unfoldable pub powers_of : Interface → Float → Surface → List ThinFilmLayer → Outcome Powers
-powers_of Bare wavelength s layers = answer (bare_powers s)
-powers_of (Coated coating) wavelength s layers =
+unfoldable pub powers_of : Option SurfaceCoating → Float → Surface → List ThinFilmLayer → Outcome Powers
+powers_of None wavelength s layers = answer (bare_powers s)
+powers_of (Some coating) wavelength s layers =
     map coated_powers (evaluate_surface coating layers s.n_incident s.n_substrate s.angle_rad wavelength)
 
 abbrev pub powers : Float → Surface → List ThinFilmLayer → Outcome Powers

@@ -3,13 +3,13 @@
 
 ghost use Rattle.std.specs.Prelude.{◌≡◌};
 ghost use Rattle.math_trig.specs.Trig as Trig;
-ghost use Rattle.refusal.specs.Outcome.{refusal};
-ghost use Rattle.surface.specs.Answers.{assembled, coated_powers, coated_answers, bare_powers, bare_answers, no_answers, returned};
+ghost use Rattle.refusal.specs.Outcome.{outcome};
+ghost use Rattle.surface.specs.Answers.{assembled, coated_powers, coated_answers, bare_powers, bare_answers};
 
 use gate_limits::Surface;
 use polarization::SurfaceJones;
 use polarization_mueller::{JonesMatrix, MuellerMatrix};
-use thin_film_complex::Complex;
+use refusal::Refusal;
 use thin_film_solver::CoatingResponse;
 
 // The parts of the s and p power that a surface reflects and transmits.
@@ -31,13 +31,6 @@ pub struct Answers {
     pub transmission: JonesMatrix,
     pub reflection_mueller: MuellerMatrix,
     pub transmission_mueller: MuellerMatrix,
-}
-
-// The answers of a surface, or a refusal's number, which is 0 where there is none.
-#[derive(Clone, Copy)]
-pub struct AnswersReply {
-    pub refusal: u32,
-    pub answers: Answers,
 }
 
 fn assembled(
@@ -106,57 +99,15 @@ pub fn bare_powers(surface: Surface) -> Powers
     bare_powers_with(surface, math_trig::cos(surface.angle_rad))
 }
 
-// Zero throughout, beside a refusal.
-fn no_answers() -> Answers
-    ensures { result ≡ no_answers }
-{
-    let dark = JonesMatrix::diattenuator(Complex::zero(), Complex::zero());
-    let powers = Powers {
-        reflectance_s: 0.0,
-        reflectance_p: 0.0,
-        transmittance_s: 0.0,
-        transmittance_p: 0.0,
-    };
-    let jones = SurfaceJones {
-        reflection: dark,
-        transmission: dark,
-    };
-    assembled(false, powers, thin_film_solver::no_response(), jones)
-}
-
-// A refusal's number, with no answers.
-pub fn refused(number: u32) -> AnswersReply
-    ensures { result ≡ returned (refusal number 0) }
-{
-    let answers = no_answers();
-    AnswersReply {
-        refusal: number,
-        answers,
-    }
-}
-
 // The answers of a bare surface, whatever its code.
-pub fn bare_answers(surface: Surface) -> AnswersReply
-    ensures { result ≡ returned (bare_answers surface) }
+pub fn bare_answers(surface: Surface) -> Result<Answers, Refusal>
+    ensures { outcome result ≡ bare_answers surface }
 {
     let jones = polarization::surface_fresnel_jones(
         surface.n_incident,
         surface.n_substrate,
         surface.angle_rad,
-    );
-    if jones.refusal == 0 {
-        let matrices = jones.matrices;
-        let answers = assembled(
-            false,
-            bare_powers(surface),
-            thin_film_solver::no_response(),
-            matrices,
-        );
-        AnswersReply {
-            refusal: 0,
-            answers,
-        }
-    } else {
-        refused(jones.refusal)
-    }
+    )?;
+    let powers = bare_powers(surface);
+    Ok(assembled(false, powers, thin_film_solver::no_response(), jones))
 }

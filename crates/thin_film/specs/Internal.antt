@@ -1,11 +1,10 @@
 -- Internal: how `SurfaceCoating::evaluate` comes to its layers. A reader need not believe it: what is exported names `evaluate_surface`.
-use Rattle.std.specs.Prelude.{ℕ, cond, List, [], eqb, length, Float}
+use Rattle.std.specs.Prelude.{ℕ, cond, List, [], eqb, length, Float, Ok}
 use Rattle.std.specs.Float.Ieee.{lt}
 use Rattle.thin_film_solver.specs.declared.ThinFilmLayer.{ThinFilmLayer}
 use Rattle.thin_film_solver.specs.Internal.{solved}
 use Rattle.thin_film_layers.specs.declared.Prepared.{Prepared}
 use Rattle.thin_film_layers.specs.declared.Prepared.TheVariants as P
-use Rattle.thin_film_layers.specs.declared.Evaluation.TheVariants as E
 use Rattle.thin_film_layers.specs.Evaluation.{ordered}
 use Rattle.thin_film_presets.specs.Layers.{broadband_layers}
 use Rattle.thin_film_coating.specs.Internal.{prepare}
@@ -33,7 +32,7 @@ prepared s count n_incident n_substrate angle wavelength =
 -- a preset coating is answered from its own layers
 unfoldable pub answered_with : SurfaceCoating → Prepared → Prepared
 answered_with s (P.Answered a) = P.Answered a
-answered_with s (P.Layers reversed light) = P.Answered (E.Response (solved light (ordered reversed (layers_of s []))))
+answered_with s (P.Layers reversed light) = P.Answered (Ok (solved light (ordered reversed (layers_of s []))))
 
 abbrev pub answered_own : SurfaceCoating → Prepared → Prepared
 answered_own s p = cond (eqb (length (layers_of s [])) 0) p (answered_with s p)

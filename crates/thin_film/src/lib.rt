@@ -3,13 +3,13 @@
 #![tactic(auto)]
 
 ghost use Rattle.std.specs.Prelude.{◌≡◌};
-ghost use Rattle.thin_film_layers.specs.Evaluation.{outcome};
 ghost use Rattle.thin_film.specs.Coating.{mgf2_default, to_coating, label, text};
 ghost use Rattle.thin_film.specs.Evaluate.{evaluate_surface};
+ghost use Rattle.refusal.specs.Outcome.{outcome};
 
+use refusal::Refusal;
 use thin_film_coating::{Built, Coating, Layers};
-use thin_film_layers::Evaluation;
-use thin_film_solver::ThinFilmLayer;
+use thin_film_solver::{CoatingResponse, ThinFilmLayer};
 
 mod presets;
 pub mod reading;
@@ -98,7 +98,7 @@ impl SurfaceCoating {
         n_substrate: f64,
         angle_incident_rad: f64,
         wavelength_nm: f64,
-    ) -> Evaluation
+    ) -> Result<CoatingResponse, Refusal>
         ensures { outcome result ≡ evaluate_surface self layers.now n_incident n_substrate angle_incident_rad wavelength_nm }
     {
         thin_film_layers::evaluate_list(

@@ -22,6 +22,7 @@ use Rattle.thin_film_layers.proofs.Order.{as_long}
 use Rattle.thin_film_coating.specs.declared.Coating.{Coating}
 use Rattle.thin_film_coating.specs.declared.Coating.TheVariants as C
 use Rattle.thin_film_coating.specs.Evaluate.{rust_respond, rust_evaluate_coating, evaluate_coating}
+use Rattle.refusal.specs.declared.Refusal.TheVariants as R
 use Rattle.thin_film_coating.specs.Internal.{refused, start, prepare}
 
 module _ (n_incident n_substrate angle wavelength : Float) where
@@ -32,7 +33,7 @@ module _ (n_incident n_substrate angle wavelength : Float) where
 
   -- what is prepared for as many layers, or for as few as can be read, comes to the coating's response to them
   module _ (reversed : Bool) (layers : List ThinFilmLayer) (count : ℕ) (alike : leb (length layers) 64 ≡ leb count 64) where
-    few : (t : Bool) → read_from (cond t (P.Layers reversed (incidence n_incident n_substrate angle wavelength)) (refused 3)) layers
+    few : (t : Bool) → read_from (cond t (P.Layers reversed (incidence n_incident n_substrate angle wavelength)) (refused R.TooManyLayers)) layers
         ≡ map with_absorptance (cond t (answer (Solve.rust_evaluate n_incident n_substrate angle wavelength (ordered reversed layers))) too_many_layers)
     unfolding read_from Solve.evaluate
     few true = ap answer (evaluates n_incident n_substrate angle wavelength (ordered reversed layers))
@@ -49,7 +50,7 @@ module _ (n_incident n_substrate angle wavelength : Float) where
         (sym alike ∙ ap (λ (n : ℕ). leb n 64) (sym (as_long reversed layers)))
 
     module _ (coating : Coating) where
-      tested : (t : Bool) → read_from (cond t (start coating reversed count (incidence n_incident n_substrate angle wavelength)) (refused 1)) layers
+      tested : (t : Bool) → read_from (cond t (start coating reversed count (incidence n_incident n_substrate angle wavelength)) (refused R.InvalidParameter)) layers
           ≡ map with_absorptance (cond t (rust_respond coating (ordered reversed layers) n_incident n_substrate angle wavelength) invalid_parameter)
       unfolding read_from
       tested true = started coating

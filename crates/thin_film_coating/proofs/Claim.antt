@@ -18,7 +18,7 @@ use Rattle.thin_film_coating.specs.declared.Coating.TheVariants as C
 use Rattle.thin_film_coating.specs.Coating.{quarter_wave_layers, listed, layers_in, built, too_many, outcome, bragg_mirror, BuiltClaim}
 use Rattle.thin_film_coating.proofs.Places.{as_many}
 
-held : (layers : List ThinFilmLayer) → listed (layers_in layers) ≡ layers
+pub held : (layers : List ThinFilmLayer) → listed (layers_in layers) ≡ layers
 unfolding listed
 held layers =
     let places : List ThinFilmLayer = replicate (64 - length layers) no_layer in

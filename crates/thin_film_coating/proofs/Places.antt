@@ -20,6 +20,7 @@ use Rattle.thin_film_coating.specs.declared.Coating.{Coating}
 use Rattle.thin_film_coating.specs.declared.Coating.TheVariants as C
 use Rattle.thin_film_coating.specs.declared.Layers.{Layers}
 use Rattle.thin_film_coating.specs.Coating.{listed}
+use Rattle.refusal.specs.declared.Refusal.TheVariants as R
 use Rattle.thin_film_coating.specs.Internal.{refused, start, prepare}
 
 module _ (l : Layers) where
@@ -42,7 +43,7 @@ reads (P.Answered a) = false
 reads (P.Layers reversed light) = true
 
 module _ (reversed : Bool) (count : ℕ) where
-  counted : (light : Incidence) (t : Bool) → leb count 64 ≡ t → reads (cond t (P.Layers reversed light) (refused 3)) ≡ true → count ≤ 64
+  counted : (light : Incidence) (t : Bool) → leb count 64 ≡ t → reads (cond t (P.Layers reversed light) (refused R.TooManyLayers)) ≡ true → count ≤ 64
   counted light true e h = leb-true count 64 e
   counted light false e h = absurd (true≢false (sym h))
 
@@ -53,7 +54,7 @@ module _ (reversed : Bool) (count : ℕ) where
   started C.IdealBeamsplitter light h = absurd (true≢false (sym h))
   started C.Multilayer light h = counted light (leb count 64) refl h
 
-  tested : (coating : Coating) (light : Incidence) (t : Bool) → reads (cond t (start coating reversed count light) (refused 1)) ≡ true → count ≤ 64
+  tested : (coating : Coating) (light : Incidence) (t : Bool) → reads (cond t (start coating reversed count light) (refused R.InvalidParameter)) ≡ true → count ≤ 64
   tested coating light true h = started coating light h
   tested coating light false h = absurd (true≢false (sym h))
 

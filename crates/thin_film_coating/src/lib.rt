@@ -2,17 +2,18 @@
 // wavelength and an angle of incidence.
 #![tactic(auto)]
 
-ghost use Rattle.std.specs.Prelude.{◌≡◌, [], ◌∷◌, ◌≤◌};
+ghost use Rattle.std.specs.Prelude.{◌≡◌, [], ◌∷◌, ◌≤◌, Ok};
 ghost use Rattle.thin_film_solver.specs.Internal.{solved};
-ghost use Rattle.thin_film_layers.specs.Evaluation.{outcome, ordered};
-ghost use Rattle.thin_film_layers.specs.declared.Evaluation.TheVariants as E;
+ghost use Rattle.thin_film_layers.specs.Evaluation.{ordered};
 ghost use Rattle.thin_film_layers.specs.declared.Prepared.TheVariants as P;
 ghost use Rattle.thin_film_coating.specs.Coating.{listed, built, too_many, quarter_wave_ar, bragg_mirror};
 ghost use Rattle.thin_film_coating.specs.Evaluate.{evaluate_coating};
 ghost use Rattle.thin_film_coating.specs.Internal.{prepare};
 ghost use Rattle.thin_film_coating.specs.declared.Coating.TheVariants as C;
+ghost use Rattle.refusal.specs.Outcome.{outcome};
 
-use thin_film_layers::{Evaluation, Prepared};
+use refusal::Refusal;
+use thin_film_layers::Prepared;
 use thin_film_solver::{CoatingResponse, Incidence, ThinFilmLayer};
 
 // A coating. The layers of Multilayer are the list beside it, from the incident medium to the
@@ -77,7 +78,7 @@ impl Coating {
         n_substrate: f64,
         angle_incident_rad: f64,
         wavelength_nm: f64,
-    ) -> Evaluation
+    ) -> Result<CoatingResponse, Refusal>
         ensures { outcome result ≡ evaluate_coating self layers.now n_incident n_substrate angle_incident_rad wavelength_nm }
     {
         thin_film_layers::evaluate_list(
@@ -103,7 +104,7 @@ impl Built {
         n_substrate: f64,
         angle_incident_rad: f64,
         wavelength_nm: f64,
-    ) -> Evaluation
+    ) -> Result<CoatingResponse, Refusal>
         ensures { outcome result ≡ evaluate_coating self.coating (listed self.layers) n_incident n_substrate angle_incident_rad wavelength_nm }
     {
         let coating = self.coating;
@@ -150,7 +151,7 @@ pub fn evaluate_layers(
     n_substrate: f64,
     angle_incident_rad: f64,
     wavelength_nm: f64,
-) -> Evaluation
+) -> Result<CoatingResponse, Refusal>
     ensures { outcome result ≡ evaluate_coating coating (listed layers) n_incident n_substrate angle_incident_rad wavelength_nm }
 {
     let count = layers.count;
@@ -166,7 +167,7 @@ pub fn evaluate_layers(
         Prepared::Answered(answer) => answer,
         Prepared::Layers { reversed, light } => {
             let items = layers.items;
-            Evaluation::Response(solve_places(items, count, reversed, light))
+            Ok(solve_places(items, count, reversed, light))
         }
     }
 }
@@ -221,7 +222,7 @@ pub fn prepare(
     ensures { result ≡ prepare coating reversed count n_incident n_substrate angle_incident_rad wavelength_nm }
 {
     if !thin_film_valid::valid(n_incident, n_substrate, angle_incident_rad, wavelength_nm) {
-        return Prepared::Answered(Evaluation::Refused(refusal::INVALID_PARAMETER));
+        return Prepared::Answered(Err(Refusal::InvalidParameter));
     }
     match coating {
         Coating::IdealAr => answered(thin_film_valid::ideal_ar()),
@@ -229,7 +230,7 @@ pub fn prepare(
         Coating::IdealBeamsplitter => answered(thin_film_valid::ideal_beamsplitter()),
         Coating::Multilayer => {
             if count > 64 {
-                return Prepared::Answered(Evaluation::Refused(refusal::TOO_MANY_LAYERS));
+                return Prepared::Answered(Err(Refusal::TooManyLayers));
             }
             let light = Incidence::new(n_incident, n_substrate, angle_incident_rad, wavelength_nm);
             Prepared::Layers { reversed, light }
@@ -239,7 +240,7 @@ pub fn prepare(
 
 // An evaluation whose response needs no layer beside the coating.
 pub fn answered(response: CoatingResponse) -> Prepared
-    ensures { result ≡ P.Answered (E.Response response) }
+    ensures { result ≡ P.Answered (Ok response) }
 {
-    Prepared::Answered(Evaluation::Response(response))
+    Prepared::Answered(Ok(response))
 }

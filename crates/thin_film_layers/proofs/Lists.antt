@@ -24,12 +24,14 @@ use denote.Triple.Clauses.{ensured, lasts}
 use Rattle.thin_film_solver.specs.declared.ThinFilmLayer.{ThinFilmLayer}
 use Rattle.thin_film_solver.specs.contracts.ThinFilmLayer as L
 use Rattle.thin_film_layers.specs.declared.Prepared.{Prepared}
-use Rattle.thin_film_layers.specs.declared.Evaluation.{Evaluation}
-use Rattle.thin_film_layers.specs.Evaluation.{outcome}
 use Rattle.thin_film_layers.specs.Internal.{read_from}
 use Rattle.thin_film_layers.specs.contracts.Prepared as S
 use Rattle.thin_film_layers.proofs.Prepared.TheLaws as S'
 use Rattle.thin_film_layers.specs.contracts.evaluate_list as list
+use Rattle.refusal.specs.Outcome.{outcome}
+use Rattle.std.specs.Prelude.{Result}
+use Rattle.refusal.specs.declared.Refusal.{Refusal}
+use Rattle.thin_film_solver.specs.declared.CoatingResponse.{CoatingResponse}
 
 module _ {M : Type 1} {𝓤 : Ura M} (𝓛 : Logic 𝓤) (mem : Memory → SProp 𝓤) (run : Routine → Fun 𝓤) where
   abbrev pub EvaluateList : Contract 𝓤
@@ -51,5 +53,5 @@ module _ {M : Type 1} {𝓤 : Ura M} (𝓛 : Logic 𝓤) (mem : Memory → SProp
         qed 𝓛 (‵ Own ∷ (‵ (flft κ q) ⊛ ‵ ftrue) ∷ []) ∵ nothing ! $ owned ! S.the_row (Is S.the_row) (EL.makes S.the_type S'.the_plain 𝓛) a (u ∷ []) is $ fjoin ! $
         move ! (1 ∷ 0 ∷ []) $ fjoin ! $ move ! (1 ∷ 0 ∷ []) $ join ! $ frame ! $ done !
 
-    pub list_said : (a : Prepared) (r : Evaluation) → ent 𝓤 (ensured 𝓛 list.ended (list.clauses 𝓛 mem run) (κ, tt) (s, (a, tt)) tt r) (fact 𝓤 (outcome r ≡ read_from a s.now))
+    pub list_said : (a : Prepared) (r : Result CoatingResponse Refusal) → ent 𝓤 (ensured 𝓛 list.ended (list.clauses 𝓛 mem run) (κ, tt) (s, (a, tt)) tt r) (fact 𝓤 (outcome r ≡ read_from a s.now))
     list_said a r = ex_e 𝓤 _ (λ ws. snd∗ 𝓤 (sem 𝓛 (lasts list.ended (κ, tt) (s, (a, tt)) ws)) (fact 𝓤 (outcome r ≡ read_from a s.now)))

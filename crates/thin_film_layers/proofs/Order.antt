@@ -11,7 +11,7 @@ use mathlib.Core.Logic.{inl, inr}
 use lib.ListN.{length, get_or, drop, length-reverse, get_or-append}
 use lib.Seq.{drop-cons, drop-length, get_or_at}
 use lib.Ieee.{Float}
-use Rattle.refusal.specs.Outcome.{Outcome, answer, refusal}
+use Rattle.refusal.specs.Outcome.{Outcome, answer, refusal, outcome}
 use Rattle.thin_film_matrix.specs.Matrix.{Matrix, identity}
 use Rattle.thin_film_solver.specs.declared.CoatingResponse.{CoatingResponse}
 use Rattle.thin_film_solver.specs.declared.Incidence.{Incidence}
@@ -21,12 +21,12 @@ use Rattle.thin_film_solver.specs.Solve as Solve
 use Rattle.thin_film_solver.specs.Solve.{no_response}
 use Rattle.thin_film_solver.specs.Internal.{incidence, terms_of, step_s, step_p, finish, onward, solved}
 use Rattle.thin_film_solver.proofs.Steps.{evaluates, takes, ends}
-use Rattle.thin_film_layers.specs.declared.Evaluation.{Evaluation}
-use Rattle.thin_film_layers.specs.declared.Evaluation.TheVariants as E
 use Rattle.thin_film_layers.specs.declared.Prepared.{Prepared}
 use Rattle.thin_film_layers.specs.declared.Prepared.TheVariants as P
-use Rattle.thin_film_layers.specs.Evaluation.{outcome, ordered}
+use Rattle.thin_film_layers.specs.Evaluation.{ordered}
 use Rattle.thin_film_layers.specs.Internal.{nth_index, read_from, read_count, reversed_in, light_in, concluded, all_layers, response}
+use Rattle.std.specs.Prelude.{Ok, Err, Result}
+use Rattle.refusal.specs.declared.Refusal.{Refusal}
 
 pub front : (ls : List ThinFilmLayer) → ordered false ls ≡ ls
 unfolding ordered
@@ -88,7 +88,7 @@ module _ (light : Incidence) (reversed : Bool) (ls : List ThinFilmLayer) where
       ∙ ap (λ (m : ℕ). onward light ms mp (drop m (ordered reversed ls))) (as_long reversed ls ∙ sym e) ∙ left
 
 -- ---- an evaluation that is prepared, in both of its cases
-pub answered : (p : Prepared) (a : Evaluation) (layers : List ThinFilmLayer) → p ≡ P.Answered a → outcome a ≡ read_from p layers
+pub answered : (p : Prepared) (a : Result CoatingResponse Refusal) (layers : List ThinFilmLayer) → p ≡ P.Answered a → outcome a ≡ read_from p layers
 unfolding read_from
 answered p a layers e = ap (λ (z : Prepared). read_from z layers) (sym e)
 
@@ -126,11 +126,11 @@ abbrev value : Outcome CoatingResponse → CoatingResponse
 value (answer r) = r
 value (refusal number place) = no_response
 
-valued : (e : Evaluation) → response e ≡ value (outcome e)
-valued (E.Response r) = refl
-valued (E.Refused r) = refl
+valued : (e : Result CoatingResponse Refusal) → response e ≡ value (outcome e)
+valued (Ok r) = refl
+valued (Err r) = refl
 
-pub every : (n_incident n_substrate angle wavelength : Float) (layers : List ThinFilmLayer) (e : Evaluation)
+pub every : (n_incident n_substrate angle wavelength : Float) (layers : List ThinFilmLayer) (e : Result CoatingResponse Refusal)
     → outcome e ≡ read_from (all_layers n_incident n_substrate angle wavelength) layers → response e ≡ Solve.evaluate n_incident n_substrate angle wavelength layers
 unfolding read_from
 every n_incident n_substrate angle wavelength layers e h =

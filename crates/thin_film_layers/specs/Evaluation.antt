@@ -1,16 +1,8 @@
 -- What an evaluation gives, and the order in which layers are read. Definitions only.
 use Rattle.std.specs.Prelude.{Bool, true, false, List, reverse}
 use Rattle.ieee.specs.Functions.{zero_f}
-use Rattle.refusal.specs.Outcome.{Outcome, answer, refused}
 use Rattle.thin_film_solver.specs.declared.CoatingResponse.{CoatingResponse}
 use Rattle.thin_film_solver.specs.declared.ThinFilmLayer.{ThinFilmLayer}
-use Rattle.thin_film_layers.specs.declared.Evaluation.{Evaluation}
-use Rattle.thin_film_layers.specs.declared.Evaluation.TheVariants as E
-
--- document 01's number and values for each case
-abbrev pub outcome : Evaluation → Outcome CoatingResponse
-outcome (E.Response r) = answer r
-outcome (E.Refused r) = refused r
 
 -- layers.reverse(), where they are reversed
 unfoldable pub ordered : Bool → List ThinFilmLayer → List ThinFilmLayer

@@ -1,18 +1,17 @@
 -- Internal: an evaluation while its layers are read. A reader need not believe it: what is exported names `outcome` and `evaluate`.
-use Rattle.std.specs.Prelude.{ℕ, ◌-◌, Bool, false, cond, List, Float}
+use Rattle.std.specs.Prelude.{ℕ, ◌-◌, Bool, false, cond, List, Float, Ok, Err, Result}
 use Rattle.ieee.specs.Functions.{zero_f}
-use Rattle.refusal.specs.Outcome.{Outcome, answer}
+use Rattle.refusal.specs.Outcome.{Outcome, answer, outcome}
 use Rattle.thin_film_matrix.specs.Matrix.{Matrix}
 use Rattle.thin_film_solver.specs.declared.CoatingResponse.{CoatingResponse}
 use Rattle.thin_film_solver.specs.declared.Incidence.{Incidence}
 use Rattle.thin_film_solver.specs.declared.ThinFilmLayer.{ThinFilmLayer}
 use Rattle.thin_film_solver.specs.Solve.{no_response}
 use Rattle.thin_film_solver.specs.Internal.{incidence, finish, solved}
-use Rattle.thin_film_layers.specs.declared.Evaluation.{Evaluation}
-use Rattle.thin_film_layers.specs.declared.Evaluation.TheVariants as E
 use Rattle.thin_film_layers.specs.declared.Prepared.{Prepared}
 use Rattle.thin_film_layers.specs.declared.Prepared.TheVariants as P
-use Rattle.thin_film_layers.specs.Evaluation.{outcome, ordered}
+use Rattle.thin_film_layers.specs.Evaluation.{ordered}
+use Rattle.refusal.specs.declared.Refusal.{Refusal}
 
 -- the index of the i-th layer that is read, of n
 abbrev pub nth_index : Bool → ℕ → ℕ → ℕ
@@ -40,14 +39,14 @@ light_in (P.Answered a) =
 light_in (P.Layers reversed light) = light
 
 -- the answer, once the layers are read
-abbrev pub concluded : Prepared → Matrix → Matrix → Evaluation
+abbrev pub concluded : Prepared → Matrix → Matrix → Result CoatingResponse Refusal
 concluded (P.Answered a) ms mp = a
-concluded (P.Layers reversed light) ms mp = E.Response (finish light ms mp)
+concluded (P.Layers reversed light) ms mp = Ok (finish light ms mp)
 
 -- every layer, in the order of the list
 abbrev pub all_layers : Float → Float → Float → Float → Prepared
 all_layers n_incident n_substrate angle wavelength = P.Layers false (incidence n_incident n_substrate angle wavelength)
 
-abbrev pub response : Evaluation → CoatingResponse
-response (E.Response r) = r
-response (E.Refused r) = no_response
+abbrev pub response : Result CoatingResponse Refusal → CoatingResponse
+response (Ok r) = r
+response (Err r) = no_response

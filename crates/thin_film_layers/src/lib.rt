@@ -5,25 +5,18 @@
 ghost use Rattle.std.specs.Prelude.{◌≡◌};
 ghost use Rattle.thin_film_solver.specs.Solve as Solve;
 ghost use Rattle.thin_film_solver.specs.Internal.{terms_of};
-ghost use Rattle.thin_film_layers.specs.Evaluation.{outcome};
 ghost use Rattle.thin_film_layers.specs.Internal as Internal;
+ghost use Rattle.refusal.specs.Outcome.{outcome};
 
 use refusal::Refusal;
 use thin_film_complex::Complex;
 use thin_film_solver::{CoatingResponse, Incidence, Terms, ThinFilmLayer};
 
-// What evaluating a coating gives.
-#[derive(Clone, Copy)]
-pub enum Evaluation {
-    Response(CoatingResponse),
-    Refused(Refusal),
-}
-
 // An evaluation before any layer is read: it is answered, or the layers beside the coating are all to
 // be read, in their order or reversed.
 #[derive(Clone, Copy)]
 pub enum Prepared {
-    Answered(Evaluation),
+    Answered(Result<CoatingResponse, Refusal>),
     Layers { reversed: bool, light: Incidence },
 }
 
@@ -83,19 +76,24 @@ fn read_terms(prepared: Prepared, layer: ThinFilmLayer) -> Terms
 }
 
 // The answer, once the layers are read.
-fn conclude(prepared: Prepared, ms: [[Complex; 2]; 2], mp: [[Complex; 2]; 2]) -> Evaluation
+fn conclude(
+    prepared: Prepared,
+    ms: [[Complex; 2]; 2],
+    mp: [[Complex; 2]; 2],
+) -> Result<CoatingResponse, Refusal>
     ensures { result ≡ Internal.concluded prepared ms mp }
 {
     match prepared {
         Prepared::Answered(answer) => answer,
-        Prepared::Layers { reversed: _, light } => Evaluation::Response(thin_film_solver::finish(
-            light, ms, mp,
-        )),
+        Prepared::Layers { reversed: _, light } => Ok(thin_film_solver::finish(light, ms, mp)),
     }
 }
 
 // The answer for the caller's list of layers: the one loop over it.
-pub fn evaluate_list(layers: &[ThinFilmLayer], prepared: Prepared) -> Evaluation
+pub fn evaluate_list(
+    layers: &[ThinFilmLayer],
+    prepared: Prepared,
+) -> Result<CoatingResponse, Refusal>
     ensures { outcome result ≡ Internal.read_from prepared layers.now }
 {
     let n = read_count(prepared, layers.len());
@@ -129,12 +127,12 @@ fn all_layers(
 }
 
 // The response of an evaluation that is not refused.
-fn response(evaluation: Evaluation) -> CoatingResponse
+fn response(evaluation: Result<CoatingResponse, Refusal>) -> CoatingResponse
     ensures { result ≡ Internal.response evaluation }
 {
     match evaluation {
-        Evaluation::Response(r) => r,
-        Evaluation::Refused(_) => thin_film_solver::no_response(),
+        Ok(r) => r,
+        Err(_) => thin_film_solver::no_response(),
     }
 }
 

@@ -23,7 +23,8 @@ use Rattle.thin_film_reader.specs.declared.films.Films.{Films}
 use Rattle.thin_film_reader.specs.declared.Reading.{Reading}
 use Rattle.thin_film_reader.specs.InternalMachine.{Small, halt, on, erase, small_step, view_at, view, rests_in, halted_in, whole_in, Low, Stepped, begin}
 use Rattle.thin_film_reader.specs.InternalFilms.{no_film, no_films, over, pushed, again, repeated, added, marked, closed, phase_of, taken, Safe, Goes}
-use Rattle.thin_film_reader.specs.Read.{handed, kept_films}
+use Rattle.refusal.specs.Outcome as Outcome
+use Rattle.thin_film_reader.specs.Read.{placed, kept_films}
 use Rattle.thin_film_reader.proofs.Small.{same_step}
 use Rattle.thin_film_reader.proofs.Pushes.{push_over, push_fits}
 use Rattle.thin_film_reader.proofs.Kept.{Laid, fits, full}
@@ -125,7 +126,7 @@ ended_open : (g : Stack) (fs : List Stack) (s : Stack) (p : M.Phase) (i : ℕ) �
 unfolding ended
 ended_open g fs s p i = refl
 
-laid_counted : (f : Films) (l : List Film) → Laid f l → kept_films f ≡ handed (counted l)
+laid_counted : (f : Films) (l : List Film) → Laid f l → kept_films f ≡ Outcome.map placed (counted l)
 unfolding counted
 laid_counted f l (fits e h i) = let c : f.count ≤ 64 = omega arith in simp (le-leb f.count 64 c, le-leb (length l) 64 h, i, e)
 laid_counted f l (full e h) = let c : 64 < f.count = omega arith in simp (lt-leb f.count 64 c, lt-leb (length l) 64 h)
@@ -228,11 +229,11 @@ module _ (text : List ℕ) (i : ℕ) (m : Machine) (f : Films) (r : Reached text
       go [] s p e = ended_false s p i e
       go (g ∷ fs) s p e = ended_open g fs s p i
 
-  pub counts : whole_in m ≡ true → kept_films f ≡ handed (read_from M.begin 0 text)
-  counts h = go r.fs r.tree r.phase (sym whole_is ∙ h) (laid_of f r.fs r.tree r.phase r.kept) ∙ ap handed (sym at_end)
+  pub counts : whole_in m ≡ true → kept_films f ≡ Outcome.map placed (read_from M.begin 0 text)
+  counts h = go r.fs r.tree r.phase (sym whole_is ∙ h) (laid_of f r.fs r.tree r.phase r.kept) ∙ ap (Outcome.map placed) (sym at_end)
     where
-      go : (fs : List Stack) (s : Stack) (p : M.Phase) → (eqb (length fs) 0 && (some s && rests p)) ≡ true → Laid f (flat fs s) → kept_films f ≡ handed (ended (at fs s p) i)
-      go [] s p e l = laid_counted f (films s) l ∙ ap handed (sym (ended_true s p i e))
+      go : (fs : List Stack) (s : Stack) (p : M.Phase) → (eqb (length fs) 0 && (some s && rests p)) ≡ true → Laid f (flat fs s) → kept_films f ≡ Outcome.map placed (ended (at fs s p) i)
+      go [] s p e l = laid_counted f (films s) l ∙ ap (Outcome.map placed) (sym (ended_true s p i e))
       go (g ∷ fs) s p e l = let z : ◌≡◌ {A = ℕ} 0 1 = never fs e in absurd (omega arith)
         where
           never : (fs : List Stack) → (eqb (suc (length fs)) 0 && (some s && rests p)) ≡ true → ◌≡◌ {A = ℕ} 0 1

@@ -12,7 +12,8 @@ use Rattle.thin_film_grammar.specs.Films.{film}
 use Rattle.thin_film_grammar.specs.Reading.{counted, ended, read_from, reading}
 use Rattle.thin_film_grammar.proofs.Claim as Grammar
 use Rattle.thin_film_solver.specs.declared.ThinFilmLayer.{ThinFilmLayer}
-use Rattle.thin_film_shorthand.specs.Stack.{valid, layer, stack, handed, outcome}
+use Rattle.thin_film_coating.specs.Coating.{listed, layers_in}
+use Rattle.thin_film_shorthand.specs.Stack.{valid, layer, stack}
 use Rattle.thin_film_shorthand.specs.Claim.{Right, bad_number, given, Some, Answered, answered, Refused, refused, Shorthand}
 use Rattle.thin_film_shorthand.proofs.Given.{all_fine, bad, good, read_out}
 
@@ -28,12 +29,8 @@ module _ (text : List ℕ) (n_h n_l n_m design : Float) where
   only o (bad_number e) = bad text n_h n_l n_m design e
   only o (given {o = x} e g) = ap (Outcome.map (map (layer n_h n_l n_m design))) (Grammar.only text x g) ∙ good text n_h n_l n_m design e
 
-  told : outcome (handed (stack text n_h n_l n_m design)) ≡ stack text n_h n_l n_m design
-  told = go (valid n_h n_l n_m design) refl
-    where
-      go : (z : Bool) → valid n_h n_l n_m design ≡ z → outcome (handed (stack text n_h n_l n_m design)) ≡ stack text n_h n_l n_m design
-      go true e = subst (λ (o : Outcome (List ThinFilmLayer)). outcome (handed o) ≡ o) (good text n_h n_l n_m design e) (read_out (layer n_h n_l n_m design) (reading text) (all_fine text))
-      go false e = subst (λ (o : Outcome (List ThinFilmLayer)). outcome (handed o) ≡ o) (bad text n_h n_l n_m design e) refl
+  told : Outcome.map listed (Outcome.map layers_in (stack text n_h n_l n_m design)) ≡ stack text n_h n_l n_m design
+  told = read_out (stack text n_h n_l n_m design)
 
 -- ---- each happens: H, an index of zero, the empty text, H^31 three times
 ones : valid one one one one ≡ true

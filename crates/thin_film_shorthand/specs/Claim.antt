@@ -6,7 +6,8 @@ use Rattle.thin_film_grammar.specs.declared.Film.{Film}
 use Rattle.thin_film_grammar.specs.Grammar.{Stack, Text}
 use Rattle.thin_film_grammar.specs.Claim.{Gives}
 use Rattle.thin_film_solver.specs.declared.ThinFilmLayer.{ThinFilmLayer}
-use Rattle.thin_film_shorthand.specs.Stack.{valid, layer, stack, handed, outcome}
+use Rattle.thin_film_coating.specs.Coating.{listed, layers_in}
+use Rattle.thin_film_shorthand.specs.Stack.{valid, layer, stack}
 
 -- what a text with three indices and a design wavelength gives, in the grammar's words: `Gives` has the five cases of a text, its films and
 -- the places of 9
@@ -39,8 +40,9 @@ pub record Shorthand : Type 0 where
       o ≡ stack text n_h n_l n_m design
   -- 'the reading of every accepted text is the only one that the grammar gives'
   pub only_tree : (text : List ℕ) (tree tree' : Stack) → Text text tree → Text text tree' → tree ≡ tree'
-  -- what is handed over by value says the same; no refusal can be taken for an answer
-  pub told : (text : List ℕ) (n_h n_l n_m design : Float) → outcome (handed (stack text n_h n_l n_m design)) ≡ stack text n_h n_l n_m design
+  -- what is handed over by value says the same
+  pub told : (text : List ℕ) (n_h n_l n_m design : Float) →
+      Outcome.map listed (Outcome.map layers_in (stack text n_h n_l n_m design)) ≡ stack text n_h n_l n_m design
   -- each happens
   pub an_answer : Some Answered
   pub a_1 : Some (Refused 1)

@@ -1,18 +1,16 @@
 -- 02 slip 1: the layers of a text of the stack shorthand. Definitions only.
-use Rattle.std.specs.Prelude.{ℕ, Bool, ◌&&◌, cond, List, [], map, eqb, pos, take, Float}
+use Rattle.std.specs.Prelude.{ℕ, Bool, ◌&&◌, cond, List, map, eqb, pos, Float}
 use Rattle.std.specs.Float.{binary64}
 use Rattle.std.specs.Float.Ieee.{of_int}
 use Rattle.ieee.specs.Operators.{◌⊗◌}
 use Rattle.ieee.specs.Functions.{finite_positive}
 use Rattle.refusal.specs.Outcome as Outcome
-use Rattle.refusal.specs.Outcome.{Outcome, answer, refusal, invalid_parameter}
+use Rattle.refusal.specs.Outcome.{Outcome, invalid_parameter}
 use Rattle.thin_film_grammar.specs.declared.Film.{Film}
 use Rattle.thin_film_grammar.specs.Reading.{reading}
 use Rattle.thin_film_solver.specs.declared.ThinFilmLayer.{ThinFilmLayer}
 use Rattle.thin_film_solver.specs.Solve.{dielectric}
 use Rattle.thin_film_presets.specs.Layers.{quarter_wave}
-use Rattle.thin_film_coating.specs.Coating.{layers_in}
-use Rattle.thin_film_shorthand.specs.declared.Stacked.{Stacked}
 
 -- 'indices and design wavelength must be positive and finite'
 unfoldable pub valid : Float → Float → Float → Float → Bool
@@ -35,14 +33,3 @@ layer n_h n_l n_m design film =
 unfoldable pub stack : List ℕ → Float → Float → Float → Float → Outcome (List ThinFilmLayer)
 stack text n_h n_l n_m design =
     cond (valid n_h n_l n_m design) (Outcome.map (map (layer n_h n_l n_m design)) (reading text)) invalid_parameter
-
--- ---- by value
--- the layers in the first of 64 places; none beside a refusal
-abbrev pub handed : Outcome (List ThinFilmLayer) → Stacked
-handed (answer layers) = record { refusal = record { number = 0; place = 0 }; layers = layers_in layers }
-handed (refusal number place) = record { refusal = record { number = number; place = place }; layers = layers_in [] }
-
--- what a caller reads out of it
-abbrev pub outcome : Stacked → Outcome (List ThinFilmLayer)
-outcome r = cond (eqb r.refusal.number 0) (answer (take r.layers.count r.layers.items))
-    (refusal r.refusal.number r.refusal.place)

@@ -2,22 +2,15 @@
 #![tactic(auto)]
 
 ghost use Rattle.std.specs.Prelude.{◌≡◌, map, ◌≤◌, length, take};
-ghost use Rattle.refusal.specs.Outcome.{refused};
+ghost use Rattle.refusal.specs.Outcome as Outcome;
+ghost use Rattle.refusal.specs.Outcome.{outcome};
 ghost use Rattle.thin_film_coating.specs.Coating.{layers_in};
-ghost use Rattle.thin_film_shorthand.specs.Stack.{valid, index, layer, handed, stack};
+ghost use Rattle.thin_film_shorthand.specs.Stack.{valid, index, layer, stack};
 
 use refusal::Refusal;
 use thin_film_coating::Layers;
 use thin_film_grammar::Film;
 use thin_film_solver::ThinFilmLayer;
-
-// The layers of a text, from the incident medium to the substrate. Where the refusal's number is not 0
-// there are none.
-#[derive(Clone, Copy)]
-pub struct Stacked {
-    pub refusal: Refusal,
-    pub layers: Layers,
-}
 
 // The indices and the design wavelength are positive and finite.
 pub fn valid(n_h: f64, n_l: f64, n_m: f64, design_wavelength_nm: f64) -> bool
@@ -79,35 +72,23 @@ fn layers(
     Layers { items, count }
 }
 
-fn refused(refusal: Refusal) -> Stacked
-    ensures { result ≡ handed (refused refusal) }
-{
-    let items = thin_film_presets::no_layers();
-    Stacked {
-        refusal,
-        layers: Layers { items, count: 0 },
-    }
-}
-
 // The layers that a text stands for: H, L and M are quarter waves of three indices at the design
 // wavelength. 1 for an index or a wavelength that is not positive and finite; 9 with the first byte
 // that no text of the grammar could have there, with the length where the text stops early, and with
 // 255 for a text over 255 bytes; 10 for more than 64 layers.
-pub fn stack(text: &[u8], n_h: f64, n_l: f64, n_m: f64, design_wavelength_nm: f64) -> Stacked
-    ensures { result ≡ handed (stack text.now n_h n_l n_m design_wavelength_nm) }
+pub fn stack(
+    text: &[u8],
+    n_h: f64,
+    n_l: f64,
+    n_m: f64,
+    design_wavelength_nm: f64,
+) -> Result<Layers, Refusal>
+    ensures { outcome result ≡ Outcome.map layers_in (stack text.now n_h n_l n_m design_wavelength_nm) }
 {
     if !valid(n_h, n_l, n_m, design_wavelength_nm) {
-        return refused(refusal::INVALID_PARAMETER);
+        return Err(Refusal::InvalidParameter);
     }
-    let reading = thin_film_reader::read(text);
-    let refusal = reading.refusal;
-    if refusal.number != 0 {
-        return refused(refusal);
-    }
+    let reading = thin_film_reader::read(text)?;
     let films = reading.films;
-    let count = reading.count;
-    Stacked {
-        refusal,
-        layers: layers(films, count, n_h, n_l, n_m, design_wavelength_nm),
-    }
+    Ok(layers(films, reading.count, n_h, n_l, n_m, design_wavelength_nm))
 }

@@ -1,8 +1,5 @@
 -- `name_coating::coating_in` meets its contract. Assumes nothing.
 use mathlib.Core.Path.{ap, ◌∙◌}
-use mathlib.Core.List.{List}
-use Prim.Native.Nat.{ℕ}
-use Rattle.refusal.specs.Outcome.{answer}
 use Rattle.name_coating.specs.Name.{coating_of}
 use Rattle.name_coating.proofs.UpperCase.{clean_is, clean_fits, clean_size}
 use Rattle.name_coating.proofs.coating_in.Goals as goal
@@ -14,4 +11,4 @@ pub slice_bounds-coating_of-end : goal.slice_bounds-coating_of-end
 slice_bounds-coating_of-end c = clean_size _ _ c.upper-u.ensures
 
 pub returns : goal.returns
-returns c = c.coating_of.ensures ∙ ap (λ (l : List ℕ). answer (coating_of l)) (clean_is _ _ c.upper-u.ensures)
+returns c = c.coating_of.ensures ∙ ap coating_of (clean_is _ _ c.upper-u.ensures)

@@ -45,4 +45,4 @@ pub coating_in-requires : goal.coating_in-requires
 coating_in-requires c = omega (arith, short _ c.if-name-gt32.false _ (bytes c.trimmed.ensures))
 
 pub returns : goal.returns
-returns c = c.coating_in.ensures ∙ named _ c.if-name-gt32.false _ c.first_over-over.ensures c.if-over-name.false _ (bytes c.trimmed.ensures)
+returns c = ap answer c.coating_in.ensures ∙ named _ c.if-name-gt32.false _ c.first_over-over.ensures c.if-over-name.false _ (bytes c.trimmed.ensures)

@@ -1,11 +1,17 @@
 -- `surface::bare_answers` meets its contract. Assumes nothing.
-use mathlib.Core.Path.{◌∙◌}
-use Rattle.surface.proofs.Returned.{answered, refused}
-use borrow.Author.Rules.{rules}
+use Rattle.std.proofs.Common.{ap, false}
+use Rattle.std.proofs.lemmas.Result.{err_from_is_err_and}
+use Rattle.refusal.specs.Outcome.{map}
+use Rattle.thin_film_solver.specs.Solve.{no_response}
+use Rattle.surface.specs.Answers.{assembled, bare_powers, bare_answers}
 use Rattle.surface.proofs.bare_answers.Goals as goal
 
-pub returns-then-jones-eq0 : goal.returns-then-jones-eq0
-returns-then-jones-eq0 c = simp (c.assembled-answers.ensures, c.no_response.ensures, c.bare_powers.ensures) (answered _ _ c.surface_fresnel_jones-jones.ensures c.if-jones-eq0.true)
+pub returns-in_err-jones : goal.returns-in_err-jones
+unfolding bare_answers
+returns-in_err-jones c =
+    let p = err_from_is_err_and c.from_residual.result c.from_residual.ensures.1 in
+    rw (p.1, p.2) (ap (map (assembled false (bare_powers c.args.surface) no_response)) c.in_err-jones.ensures)
 
-pub returns-else-jones-eq0 : goal.returns-else-jones-eq0
-returns-else-jones-eq0 c = c.refused.ensures ∙ refused _ _ c.surface_fresnel_jones-jones.ensures c.if-jones-eq0.false
+pub returns : goal.returns
+unfolding bare_answers
+returns c = simp (c.assembled.ensures, c.no_response.ensures, c.bare_powers-powers.ensures) (ap (map (assembled false (bare_powers c.args.surface) no_response)) c.in_ok-jones.ensures)

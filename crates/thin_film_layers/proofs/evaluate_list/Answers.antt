@@ -4,7 +4,6 @@ use mathlib.Core.List.{List}
 use Prim.Native.Nat.{ℕ, ◌+◌, ◌<◌}
 use native.Mathlib.Omega.{arith}
 use lib.ListN.{length, get_or}
-use Rattle.thin_film_layers.specs.Evaluation.{outcome}
 use Rattle.thin_film_layers.specs.Internal.{nth_index, read_count, light_in, reversed_in}
 use Rattle.thin_film_solver.specs.declared.ThinFilmLayer.{ThinFilmLayer}
 use Rattle.thin_film_solver.specs.declared.Terms.{Terms}
@@ -14,6 +13,7 @@ use Rattle.thin_film_layers.specs.declared.Prepared.{Prepared}
 use Rattle.thin_film_layers.proofs.Order as Order
 use Rattle.thin_film_layers.proofs.Order.{reading}
 use Rattle.thin_film_layers.proofs.evaluate_list.Goals as goal
+use Rattle.refusal.specs.Outcome.{outcome}
 
 -- a turn that takes the layer at j
 turned : (p : Prepared) (ys : List ThinFilmLayer) (n i j : ℕ) (d : ThinFilmLayer) (t : Terms) (ms mp ms' mp' : Matrix) → n ≡ read_count p (length ys) → j ≡ nth_index (reversed_in p) n i → i < n

@@ -1,9 +1,9 @@
 -- `thin_film_layers::evaluate_tmm_multilayer` meets its contract. Assumes nothing.
 use mathlib.Core.Path.{sym, ap, ◌∙◌}
-use Rattle.thin_film_layers.specs.Evaluation.{outcome}
 use Rattle.thin_film_layers.specs.Internal.{read_from, response}
 use Rattle.thin_film_layers.proofs.Order as Order
 use Rattle.thin_film_layers.proofs.evaluate_tmm_multilayer.Goals as goal
+use Rattle.refusal.specs.Outcome.{outcome}
 
 pub returns : goal.returns
 returns c =

@@ -2,5 +2,5 @@
 use borrow.Author.Rules.{rules}
 use Rattle.thin_film_layers.proofs.response.Goals as goal
 
-pub returns-in-Response : goal.returns-in-Response
-returns-in-Response c = simp c.in-Response.is
+pub returns-in-Ok : goal.returns-in-Ok
+returns-in-Ok c = simp c.in-Ok.is

@@ -1,2 +1,0 @@
--- The outcome of a refusal.
-pub mod Refusals
