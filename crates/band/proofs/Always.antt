@@ -11,7 +11,7 @@ use Rattle.ieee.proofs.Signs.{of_true}
 use Rattle.sheet.specs.Words.{word, kind, float}
 use Rattle.sheet.specs.Sheet.{layer, cauchy}
 use Rattle.sheet.specs.Internal.{next_place, place_on, layer_run, layer_at, surface_at, layers_at}
-use Rattle.sheet_values.specs.Values.{film, surface_value}
+use Rattle.sheet_values.specs.Values.{surface_value}
 use Rattle.sheet_values.specs.Internal.{plain_at}
 use Rattle.gate_limits.specs.declared.Surface.{Surface}
 use Rattle.gate_limits.specs.declared.Judgement.{Judgement}

@@ -39,8 +39,8 @@ module _ {A : Type 0} (test : A → Bool) where
         let k : first_false test (drop i cs) ≡ 0 = ap (first_false test) (drop-cons cs i d lt) ∙ fails (get_or cs i d) (drop (suc i) cs) e in
         omega arith
 
-    pub ends : length cs ≤ i → i ≡ first_false test cs
-    ends le =
+    pub ends : i ≤ length cs → length cs ≤ i → length cs ≡ first_false test cs
+    ends most le =
         let k : first_false test (drop i cs) ≡ 0 = ap (first_false test) (drop_of_length-le cs le) ∙ none in
         omega arith
 

@@ -4,15 +4,13 @@ use Rattle.std.specs.Float.{binary64}
 use Rattle.std.specs.Float.Ieee.{of_int, to_bits}
 use Rattle.ieee.specs.Operators.{◌⊕◌, ◌⊗◌, ◌⊘◌}
 use Rattle.ieee.specs.Functions.{zero_f}
-use Rattle.refusal.specs.Outcome.{Outcome, answer, refusal, refused, map, bind}
+use Rattle.refusal.specs.Outcome.{Outcome, answer, refusal, map, bind}
 use Rattle.sheet.specs.Sheet.{Sheet}
 use Rattle.gate.specs.Wavelength.{holds}
 use Rattle.sheet_untuned.specs.Untuned.{without_tuning}
 use Rattle.train_steps.specs.declared.State.{State}
 use Rattle.train_claim.specs.Claim.{steps, worked_out}
 use Rattle.band.specs.declared.BandPowers.{BandPowers}
-use Rattle.band.specs.declared.BandReply.{BandReply}
-use Rattle.band.specs.declared.BandReply.TheVariants as R
 
 -- ---- a line
 -- 'line wavelength in place of the BEAM's'
@@ -78,8 +76,3 @@ powers x wavelengths weights =
 unfoldable pub band : List ℕ → List Float → List ℕ → Outcome BandPowers
 band src wavelengths weights =
     bind (without_tuning src) (λ x. map (λ t. powers x wavelengths weights) (tested x wavelengths weights))
-
--- document 01's number and values for each case
-abbrev pub outcome : BandReply → Outcome BandPowers
-outcome (R.Powers b) = answer b
-outcome (R.Refused r) = refused r

@@ -3,16 +3,15 @@
 #![tactic(auto)]
 
 ghost use Rattle.std.specs.Prelude.{◌≡◌, ◌<◌, true, T, Float, length};
-ghost use Rattle.refusal.specs.Outcome.{answer};
+ghost use Rattle.refusal.specs.Outcome.{answer, outcome};
 ghost use Rattle.sheet.specs.Sheet.{Sheet};
 ghost use Rattle.sheet.specs.Internal.{begin};
 ghost use Rattle.gate.specs.Gate.{gated};
 ghost use Rattle.gate.specs.Wavelength.{holds};
 ghost use Rattle.gate.specs.Internal.{layers_hold_at, holds_at};
-ghost use Rattle.band.specs.Band.{at_line, weight_passes, lines_fit, whole_sum, powers, outcome, band};
+ghost use Rattle.band.specs.Band.{at_line, weight_passes, lines_fit, whole_sum, powers, band};
 ghost use Rattle.band.specs.Internal.{first_false, Line, AllPass};
 
-use gate::Gated;
 use refusal::Refusal;
 use train_steps::State;
 
@@ -39,14 +38,12 @@ fn weight_passes(weight: u32) -> bool
 fn first_weight_outside(weights: &[u32]) -> usize
     ensures { result ≡ first_false weight_passes weights.now }
 {
-    let mut i = 0;
-    while i < weights.len() {
+    for i in 0..weights.len() {
         if !weight_passes(weights[i]) {
             return i;
         }
-        i += 1;
     }
-    i
+    weights.len()
 }
 
 // Whether the gate takes a line's wavelength, where it is known or not whether all layers always pass.
@@ -66,14 +63,12 @@ fn first_wavelength_outside(src: &[u8], count: u32, wavelengths: &[f64]) -> usiz
     ensures { result ≡ first_false (holds_at src.now 0 count) wavelengths.now }
 {
     let always = steady::steady(src, count);
-    let mut i = 0;
-    while i < wavelengths.len() {
+    for i in 0..wavelengths.len() {
         if !line_passes(src, count, always, wavelengths[i]) {
             return i;
         }
-        i += 1;
     }
-    i
+    wavelengths.len()
 }
 
 // ---- the sums
@@ -103,14 +98,12 @@ fn weighed(src: &[u8], count: u32, wavelengths: &[f64], weights: &[u32]) -> Band
     let mut s = 0.0;
     let mut p = 0.0;
     let mut whole: u32 = 0;
-    let mut i = 0;
-    while i < n {
+    for i in 0..n {
         let line = at_line(src, count, wavelengths[i]);
         let weight = weights[i];
         s = s + weight as f64 * line.s;
         p = p + weight as f64 * line.p;
         whole += weight;
-        i += 1;
     }
     BandPowers {
         lines: n as u32,
@@ -121,43 +114,23 @@ fn weighed(src: &[u8], count: u32, wavelengths: &[f64], weights: &[u32]) -> Band
 
 // ---- a band
 
-// The powers of a band, or a refusal.
-#[derive(Clone, Copy)]
-pub enum BandReply {
-    Powers(BandPowers),
-    Refused(Refusal),
-}
-
 // The means of s and of p over the lines of a band, each a wavelength and a weight. Refusals: 4, 5, 6, 12
 // with the word of the first kind 7; 15 with 64 for no lines, more than 64 or lists of unequal length, else
 // with the first line whose weight is outside; 16 with the first line whose wavelength the gate refuses.
-pub fn band(src: &[u8], wavelengths: &[f64], weights: &[u32]) -> BandReply
+pub fn band(src: &[u8], wavelengths: &[f64], weights: &[u32]) -> Result<BandPowers, Refusal>
     ensures { outcome result ≡ band src.now wavelengths.now weights.now }
 {
-    match sheet_untuned::without_tuning(src) {
-        Gated::Admitted(count) => {
-            if !lines_fit(wavelengths, weights) {
-                return BandReply::Refused(Refusal {
-                    number: 15,
-                    place: 64,
-                });
-            }
-            let weight = first_weight_outside(weights);
-            if weight < weights.len() {
-                return BandReply::Refused(Refusal {
-                    number: 15,
-                    place: weight,
-                });
-            }
-            let wavelength = first_wavelength_outside(src, count, wavelengths);
-            if wavelength < wavelengths.len() {
-                return BandReply::Refused(Refusal {
-                    number: 16,
-                    place: wavelength,
-                });
-            }
-            BandReply::Powers(weighed(src, count, wavelengths, weights))
-        }
-        Gated::Refused(r) => BandReply::Refused(r),
+    let count = sheet_untuned::without_tuning(src)?;
+    if !lines_fit(wavelengths, weights) {
+        return Err(Refusal::Weight(64));
     }
+    let weight = first_weight_outside(weights);
+    if weight < weights.len() {
+        return Err(Refusal::Weight(weight));
+    }
+    let wavelength = first_wavelength_outside(src, count, wavelengths);
+    if wavelength < wavelengths.len() {
+        return Err(Refusal::Line(wavelength));
+    }
+    Ok(weighed(src, count, wavelengths, weights))
 }

@@ -9,8 +9,7 @@ fn layers_steady(src: &[u8], at: usize, n: usize, snell: f64) -> bool
     ensures { T result → (w : Float) → layers_admitted w snell (layers_at src.now at n) ≡ true }
 {
     let mut place = at;
-    let mut i = 0;
-    while i < n {
+    for _ in 0..n {
         if sheet::kind_at(src, place) == 6 {
             return false;
         }
@@ -18,7 +17,6 @@ fn layers_steady(src: &[u8], at: usize, n: usize, snell: f64) -> bool
             return false;
         }
         place = sheet::next_place(src, place);
-        i += 1;
     }
     true
 }
@@ -37,13 +35,11 @@ pub(crate) fn steady(src: &[u8], count: u32) -> bool
     ensures { T result → (w : Float) → layers_hold_at count src.now (begin src.now 0) w ≡ true }
 {
     let mut place = sheet::begin_of(src, 0);
-    let mut i = 0;
-    while i < count {
+    for _ in 0..count {
         if !surface_steady(src, place) {
             return false;
         }
         place = sheet::after_layers(src, place);
-        i += 1;
     }
     true
 }

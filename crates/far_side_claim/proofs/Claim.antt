@@ -1,4 +1,6 @@
 -- Slip 4. Assumes nothing.
+use Rattle.thin_film.specs.declared.SurfaceCoating.{SurfaceCoating}
+use Rattle.std.specs.Prelude.{Option, Some}
 use mathlib.Core.Path.{◌≡◌, refl, sym, ap, ◌∙◌, subst}
 use mathlib.Core.Bool.{Bool, true, false, ◌||◌, ◌&&◌, not, cond}
 use mathlib.Core.Logic.{◌⊎◌, inl, inr}
@@ -17,8 +19,6 @@ use Rattle.thin_film_coating.specs.Evaluate.{evaluate_coating}
 use Rattle.thin_film.specs.declared.SurfaceCoating.TheVariants as S
 use Rattle.thin_film.specs.Coating.{layers_of}
 use Rattle.thin_film.specs.Evaluate.{rust_evaluate_surface, evaluate_surface}
-use Rattle.gate_limits.specs.declared.Interface.{Interface}
-use Rattle.gate_limits.specs.declared.Interface.TheVariants.{Bare, Coated}
 use Rattle.gate_limits.specs.Coating.{coded, interface}
 use Rattle.thin_film_solver.specs.declared.CoatingResponse.{CoatingResponse}
 use Rattle.c_layers.specs.Evaluate as Call
@@ -111,14 +111,14 @@ module _ (w : Float) (y : SheetSurface) (five : y.payload / 2 ≡ 5) where
   abbrev in_order : Outcome Answers
   in_order = evaluated w y (ordered (lt (value y.n_substrate) (value y.n_incident)) (films w y.layers))
 
-  custom : interface (y.payload / 2) ≡ Coated (S.Custom C.Multilayer)
+  custom : interface (y.payload / 2) ≡ Some (S.Custom C.Multilayer)
   unfolding interface coded
   custom = ap interface five
 
   met : its_answers w y ≡ in_order
   unfolding answers_of
   met =
-      ap (λ (k : Interface). answers_of k w (surface_value y) (films w y.layers)) custom
+      ap (λ (k : Option SurfaceCoating). answers_of k w (surface_value y) (films w y.layers)) custom
       ∙ ap (map coated_answers) (explicit (films w y.layers) (value y.n_incident) (value y.n_substrate) (value y.angle) w)
 
   chosen_met : chosen_powers w y ≡ chosen_of (surface_value y).reflected (map (λ (a : Answers). a.powers) in_order)

@@ -2,7 +2,7 @@
 -- `Claim` says what it has to do with `encode`, `WellFormed` and `WithinLimits`.
 use Rattle.std.specs.Prelude.{Bool, true, ◌&&◌, ◌||◌, cond, List, [], ◌∷◌, ℕ, zero, suc, eqb, Float}
 use Rattle.std.specs.Float.Ieee.Scale.{finite}
-use Rattle.refusal.specs.Outcome.{Outcome, answer, refusal, refused, map}
+use Rattle.refusal.specs.Outcome.{Outcome, answer, refusal, map}
 use Rattle.gate_limits.specs.Limits.{wavelength_passes, beam_passes, snell_size, layer_within, surface_passes, metal_passes}
 use Rattle.sheet.specs.Words.{kind}
 use Rattle.sheet.specs.Blocks.{Block}
@@ -10,8 +10,6 @@ use Rattle.sheet.specs.Sheet.{SheetLayer, layer, cauchy, SheetSurface, no_surfac
 use Rattle.sheet.specs.Read.{layer_kind, number, layer_of, surface_of, decode, graded, surfaces_of}
 use Rattle.sheet.specs.Claim.{length_fits}
 use Rattle.sheet_values.specs.Values.{value, film, films, surface_value}
-use Rattle.gate.specs.declared.Gated.{Gated}
-use Rattle.gate.specs.declared.Gated.TheVariants as G
 
 -- ---- a layer of either kind at a wavelength, under section 3's limits, for an n_incident·abs(sin) of b
 -- 'A, B and C must be finite'
@@ -100,8 +98,3 @@ gated src = cond (length_fits src) (within_limits (graded (decode src))) (refusa
 -- its count of surfaces
 unfoldable pub gate : List ℕ → Outcome ℕ
 gate src = map surfaces_of (gated src)
-
--- document 01's number and values for each case
-abbrev pub outcome : Gated → Outcome ℕ
-outcome (G.Admitted n) = answer n
-outcome (G.Refused r) = refused r

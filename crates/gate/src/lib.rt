@@ -10,22 +10,14 @@ ghost use Rattle.sheet_values.specs.Values.{met_with};
 ghost use Rattle.sheet.specs.Claim.{longest, length_fits};
 ghost use Rattle.sheet.specs.Read.{decode, graded, surfaces_of, grammar};
 ghost use Rattle.sheet_index.specs.Internal.{Indexed};
-ghost use Rattle.refusal.specs.Outcome.{answer, refusal, map};
-ghost use Rattle.gate.specs.Gate.{coefficients_finite, layer_admitted, outcome, within_limits, gate};
+ghost use Rattle.refusal.specs.Outcome.{answer, refusal, map, outcome};
+ghost use Rattle.gate.specs.Gate.{coefficients_finite, layer_admitted, within_limits, gate};
 ghost use Rattle.gate.specs.Index.{index};
 ghost use Rattle.gate.specs.Internal.{angle_at, fits, glass_finite, cauchy_admitted, metal_at, metal_layer, metal_layers, tuning_passes, passage_at, surface_holds_at, layers_hold_at, holds_from, holds_at};
 
 use math_trig::SinCos;
 use refusal::Refusal;
-use sheet::Verdict;
 use sheet_values::Cauchy;
-
-// A sheet that is admitted, with its count of surfaces; or a refusal.
-#[derive(Clone, Copy)]
-pub enum Gated {
-    Admitted(u32),
-    Refused(Refusal),
-}
 
 // The longest sheet in bytes: edition 2's where the first word is its OPEN.
 fn longest(src: &[u8]) -> usize
@@ -47,10 +39,10 @@ fn length_fits(src: &[u8]) -> bool
 }
 
 // The first block outside the limits, at its place.
-fn outside(place: usize) -> Gated
+fn outside(place: usize) -> Result<u32, Refusal>
     ensures { outcome result ≡ refusal 6 place }
 {
-    Gated::Refused(Refusal { number: 6, place })
+    Err(Refusal::Limits(place))
 }
 
 // The coefficients of a kind 6 are finite.
@@ -226,7 +218,7 @@ fn limits(
     counts: &[usize; 64],
     sines: &[f64; 64],
     cosines: &[f64; 64],
-) -> Gated
+) -> Result<u32, Refusal>
     requires { (T (length_fits src.now) × (grammar src.now ≡ answer count)) × Indexed src.now count begins.now counts.now sines.now cosines.now }
     ensures { outcome result ≡ map surfaces_of (within_limits (graded (decode src.now))) }
 {
@@ -247,7 +239,7 @@ fn limits(
         }
         wavelength_nm = passage.wavelength_nm;
     }
-    Gated::Admitted(count)
+    Ok(count)
 }
 
 // The gate: the length, then the grammar, then the limits. It leaves the index of the sheet in four arrays.
@@ -257,7 +249,7 @@ pub fn gate_index(
     counts: &mut [usize; 64],
     sines: &mut [f64; 64],
     cosines: &mut [f64; 64],
-) -> Gated
+) -> Result<u32, Refusal>
     ensures { record { result = outcome result; begins = begins.new; counts = counts.new; sines = sines.new; cosines = cosines.new } ≡ index src.now }
 {
     *begins = [1usize; 64];
@@ -265,22 +257,15 @@ pub fn gate_index(
     *sines = [1.0f64; 64];
     *cosines = [1.0f64; 64];
     if !length_fits(src) {
-        return Gated::Refused(Refusal {
-            number: 4,
-            place: 0,
-        });
+        return Err(Refusal::Length);
     }
-    match sheet::grammar(src) {
-        Verdict::Whole(count) => {
-            sheet_index::index(src, count as usize, begins, counts, sines, cosines);
-            limits(src, count, begins, counts, sines, cosines)
-        }
-        Verdict::Fault(place) => Gated::Refused(Refusal { number: 5, place }),
-    }
+    let count = sheet::grammar(src)?;
+    sheet_index::index(src, count as usize, begins, counts, sines, cosines);
+    limits(src, count, begins, counts, sines, cosines)
 }
 
 // The gate alone.
-pub fn gate(src: &[u8]) -> Gated
+pub fn gate(src: &[u8]) -> Result<u32, Refusal>
     ensures { outcome result ≡ gate src.now }
 {
     let mut begins = [1usize; 64];

@@ -4,8 +4,6 @@ use Rattle.std.specs.Prelude.{Bool, true, false, ◌&&◌, ◌||◌, cond, List,
 use Rattle.ieee.specs.Functions.{joined}
 use Rattle.sheet.specs.Words.{kind, payload, words_of}
 use Rattle.refusal.specs.Outcome.{Outcome, answer, refusal, map}
-use Rattle.sheet.specs.declared.Verdict.{Verdict}
-use Rattle.sheet.specs.declared.Verdict.TheVariants as K
 use Rattle.sheet.specs.Blocks.{Block, Grammar, Result, read, fault, mapped, blocks_from}
 use Rattle.sheet.specs.Sheet.{SheetLayer, layer, cauchy, keeps, tunes, SheetSurface, Sheet, kind_word}
 
@@ -164,8 +162,3 @@ surfaces_of x = length x.surfaces
 
 unfoldable pub grammar : List ℕ → Outcome ℕ
 grammar src = map surfaces_of (graded (decode src))
-
--- document 01's number and values for each case
-abbrev pub outcome : Verdict → Outcome ℕ
-outcome (K.Whole n) = answer n
-outcome (K.Fault place) = refusal 5 place

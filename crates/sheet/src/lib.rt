@@ -6,8 +6,11 @@ ghost use Rattle.std.specs.Float.{binary64};
 ghost use Rattle.std.specs.Float.Ieee.{of_bits};
 ghost use Rattle.sheet.specs.Words.{big_endian, word as word_of, kind, float};
 ghost use Rattle.sheet.specs.Read as Read;
-ghost use Rattle.sheet.specs.Read.{outcome, grammar};
+ghost use Rattle.sheet.specs.Read.{grammar};
 ghost use Rattle.sheet.specs.Internal.{floats_at, stands_whole, plain_floats, standing_of, most_of, most_cauchy, fewer, run_of, counted, place_after, next_place, place_on, layer_follows, layer_run, layers_on, onto, begin, place};
+ghost use Rattle.refusal.specs.Outcome.{outcome};
+
+use refusal::Refusal;
 
 // ---- words
 
@@ -474,15 +477,8 @@ fn counted(w: u32, n: u32) -> u32
     if w / 0x1000_0000 == 3 { n + 1 } else { n }
 }
 
-// A sheet in grammar with its count of SURFACEs, or the place of the first word out of it.
-#[derive(Drop)]
-pub enum Verdict {
-    Whole(u32),
-    Fault(usize),
-}
-
 // The grammar over the whole sheet.
-pub fn grammar(src: &[u8]) -> Verdict
+pub fn grammar(src: &[u8]) -> Result<u32, Refusal>
     ensures { outcome result ≡ grammar src.now }
 {
     let total = src.len() / 4;
@@ -492,11 +488,11 @@ pub fn grammar(src: &[u8]) -> Verdict
     while at < total {
         let w = word_from(src, at);
         if !may(s, w) {
-            return Verdict::Fault(at);
+            return Err(Refusal::Grammar(at));
         }
         let next = place_after(at, w / 0x1000_0000);
         if total < next {
-            return Verdict::Fault(at);
+            return Err(Refusal::Grammar(at));
         }
         count = counted(w, count);
         let t = after(s, w);
@@ -509,9 +505,9 @@ pub fn grammar(src: &[u8]) -> Verdict
         at = place + 9 * m as usize;
     }
     if has_ended(s) {
-        Verdict::Whole(count)
+        Ok(count)
     } else {
-        Verdict::Fault(at)
+        Err(Refusal::Grammar(at))
     }
 }
 

@@ -1,4 +1,5 @@
 -- The claim. Assumes nothing.
+use Rattle.std.specs.Prelude.{Some}
 use mathlib.Core.Path.{◌≡◌, refl, sym, ap, ap₂, ◌∙◌, subst}
 use Prim.Native.Nat.{ℕ, zero, suc, ◌+◌, ◌*◌, ◌/◌, ◌^◌, ◌≤◌, ◌<◌, min}
 use native.Mathlib.Nat.{le_trans, le_of_eq, mul-one, one-mul, mul_comm, mul_assoc, mul_left_comm, mul_right_comm, mul-le-mul, mul-pos}
@@ -25,7 +26,6 @@ use Rattle.thin_film_coating.specs.declared.Coating.TheVariants as F
 use Rattle.thin_film.specs.declared.SurfaceCoating.TheVariants as S
 use Rattle.thin_film.specs.Evaluate.{evaluate_surface}
 use Rattle.thin_film_conserved.proofs.Claim.{light_in_light_out}
-use Rattle.gate_limits.specs.declared.Interface.TheVariants.{Coated}
 use Rattle.gate_limits.specs.Coating.{coded, interface}
 use Rattle.gate_limits.proofs.Ranges.{wavelength_in}
 use Rattle.gate.proofs.Wavelengths.{met}
@@ -50,7 +50,7 @@ use Rattle.sheet_accuracy.specs.Claim.{Bare, ExactPowers, BareAnswers, CustomAns
 use Rattle.sheet_accuracy.proofs.Surface.{index, bare, all_bare, exact_powers, told, unit_mag, s_factor, p_factor}
 use Rattle.sheet_accuracy.proofs.Train.{passed}
 
-custom_is : interface 5 ≡ Coated (S.Custom F.Multilayer)
+custom_is : interface 5 ≡ Some (S.Custom F.Multilayer)
 unfolding interface coded
 custom_is = refl
 

@@ -1,4 +1,5 @@
 -- One bare surface within the limits. Assumes nothing.
+use Rattle.std.specs.Prelude.{None}
 use mathlib.Core.Path.{◌≡◌, refl, sym, ap, ◌∙◌, subst}
 use Prim.Native.Nat.{ℕ, zero, suc, ◌+◌, ◌-◌, ◌^◌, ◌≤◌}
 use native.Mathlib.Nat.{le_trans, le_of_eq, mul-le-mul}
@@ -27,7 +28,6 @@ use Rattle.fresnel_tilted.proofs.Claim.{rest_is}
 use Rattle.bare_near.specs.Claim.{Admitted}
 use Rattle.bare_near.proofs.Claim.{every_angle, held}
 use Rattle.bare_near.proofs.Exists.{exists}
-use Rattle.gate_limits.specs.declared.Interface.TheVariants.{Bare}
 use Rattle.gate_limits.specs.Coating.{coded, interface}
 use Rattle.gate_limits.specs.Limits.{within, power_passes, snell_size, refracts, angle_passes, surface_passes}
 use Rattle.gate_limits.proofs.Ranges.{surface_in}
@@ -48,7 +48,7 @@ pub index : (pattern : ℕ) → T (within one four (value pattern)) → Index (v
 unfolding within
 index n t = record { held = of_bits-fits binary64 n; least = and_l (le one (value n)) (le (value n) four) t; most = and_r (le one (value n)) (le (value n) four) t }
 
-bare_is : interface 0 ≡ Bare
+bare_is : interface 0 ≡ None
 unfolding interface coded
 bare_is = refl
 

@@ -1,3 +1,2 @@
--- What the replies of a sheet's surfaces stand for.
-pub mod Outcome
+-- The layers of a surface in a sheet.
 pub mod Internal

@@ -7,27 +7,20 @@ ghost use Rattle.sheet.specs.Internal.{next_place, place_on, layer_at, layers_at
 ghost use Rattle.sheet_values.specs.Values.{film, films};
 ghost use Rattle.math_trig.specs.Trig.{sin_cos};
 ghost use Rattle.thin_film_solver.specs.Internal.{solved};
-ghost use Rattle.thin_film_layers.specs.Evaluation.{ordered, outcome};
+ghost use Rattle.thin_film_layers.specs.Evaluation.{ordered};
 ghost use Rattle.thin_film.specs.Evaluate.{evaluate_surface};
-ghost use Rattle.surface.specs.Answers.{answers, powers, returned};
-ghost use Rattle.sheet_answers.specs.Outcome.{outcome_of};
+ghost use Rattle.surface.specs.Answers.{answers, powers};
+ghost use Rattle.refusal.specs.Outcome.{outcome};
 
-use gate_limits::{Interface, Surface};
+use gate_limits::Surface;
 use math_trig::SinCos;
 use refusal::Refusal;
-use surface::{AnswersReply, Powers};
+use surface::{Answers, Powers};
 use thin_film::{SurfaceCoating, reading};
-use thin_film_layers::{Evaluation, Prepared};
+use thin_film_layers::Prepared;
 use thin_film_solver::{CoatingResponse, Incidence, ThinFilmLayer};
 
 mod quick;
-
-// A surface's powers alone, or a refusal.
-#[derive(Clone, Copy)]
-pub enum PowersReply {
-    Powers(Powers),
-    Refused(Refusal),
-}
 
 // The j-th layer after the block at a place, at a wavelength.
 pub fn layer_after(src: &[u8], at: usize, j: usize, wavelength_nm: f64) -> ThinFilmLayer
@@ -69,7 +62,7 @@ fn evaluate_at(
     surface: Surface,
     coating: SurfaceCoating,
     wavelength_nm: f64,
-) -> Evaluation
+) -> Result<CoatingResponse, Refusal>
     ensures { outcome result ≡ evaluate_surface coating (films wavelength_nm (layers_at src.now (next_place src.now at) n)) surface.n_incident surface.n_substrate surface.angle_rad wavelength_nm }
 {
     match reading::prepare(
@@ -81,7 +74,7 @@ fn evaluate_at(
         wavelength_nm,
     ) {
         Prepared::Answered(answer) => answer,
-        Prepared::Layers { reversed, light } => Evaluation::Response(quick::response_with(
+        Prepared::Layers { reversed, light } => Ok(quick::response_with(
             src,
             at,
             n,
@@ -100,19 +93,12 @@ pub fn powers_at(
     n: usize,
     surface: Surface,
     wavelength_nm: f64,
-) -> PowersReply
-    ensures { outcome_of result ≡ powers wavelength_nm surface (films wavelength_nm (layers_at src.now (next_place src.now at) n)) }
+) -> Result<Powers, Refusal>
+    ensures { outcome result ≡ powers wavelength_nm surface (films wavelength_nm (layers_at src.now (next_place src.now at) n)) }
 {
     match gate_limits::interface_of(surface.coating) {
-        Interface::Bare => PowersReply::Powers(surface::bare_powers(surface)),
-        Interface::Coated(coating) => quick::coated_powers(
-            src,
-            at,
-            n,
-            surface,
-            coating,
-            wavelength_nm,
-        ),
+        None => Ok(surface::bare_powers(surface)),
+        Some(coating) => quick::coated_powers(src, at, n, surface, coating, wavelength_nm),
     }
 }
 
@@ -124,11 +110,11 @@ pub fn powers_with_angle(
     surface: Surface,
     theta: SinCos,
     wavelength_nm: f64,
-) -> PowersReply
-    ensures { theta ≡ sin_cos surface.angle_rad → outcome_of result ≡ powers wavelength_nm surface (films wavelength_nm (layers_at src.now (next_place src.now at) n)) }
+) -> Result<Powers, Refusal>
+    ensures { theta ≡ sin_cos surface.angle_rad → outcome result ≡ powers wavelength_nm surface (films wavelength_nm (layers_at src.now (next_place src.now at) n)) }
 {
     if surface.coating == 0 {
-        return PowersReply::Powers(surface::bare_powers_with(surface, theta.cos));
+        return Ok(surface::bare_powers_with(surface, theta.cos));
     }
     if surface.coating == 5 {
         return quick::custom_powers(src, at, n, surface, theta, wavelength_nm);
@@ -143,22 +129,14 @@ pub fn answers_at(
     n: usize,
     surface: Surface,
     wavelength_nm: f64,
-) -> AnswersReply
-    ensures { result ≡ returned (answers wavelength_nm surface (films wavelength_nm (layers_at src.now (next_place src.now at) n))) }
+) -> Result<Answers, Refusal>
+    ensures { outcome result ≡ answers wavelength_nm surface (films wavelength_nm (layers_at src.now (next_place src.now at) n)) }
 {
     match gate_limits::interface_of(surface.coating) {
-        Interface::Bare => surface::bare_answers(surface),
-        Interface::Coated(coating) => {
-            match evaluate_at(src, at, n, surface, coating, wavelength_nm) {
-                Evaluation::Response(r) => {
-                    let answers = surface::coated_answers(r);
-                    AnswersReply {
-                        refusal: 0,
-                        answers,
-                    }
-                }
-                Evaluation::Refused(r) => surface::refused(r.number),
-            }
+        None => surface::bare_answers(surface),
+        Some(coating) => {
+            let response = evaluate_at(src, at, n, surface, coating, wavelength_nm)?;
+            Ok(surface::coated_answers(response))
         }
     }
 }

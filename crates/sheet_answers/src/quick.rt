@@ -1,11 +1,11 @@
 // A coated surface's films, over real numbers where none absorbs: its powers alone, and its response.
 ghost use Rattle.std.specs.Prelude.{◌≡◌, ◌≤◌};
-ghost use Rattle.refusal.specs.Outcome.{map};
+ghost use Rattle.refusal.specs.Outcome.{map, outcome};
 ghost use Rattle.sheet.specs.Internal.{next_place, layers_at};
 ghost use Rattle.sheet_values.specs.Values.{films};
 ghost use Rattle.math_trig.specs.Trig.{sin_cos};
 ghost use Rattle.thin_film_solver.specs.Internal.{incidence, solved};
-ghost use Rattle.thin_film_layers.specs.Evaluation.{ordered, outcome};
+ghost use Rattle.thin_film_layers.specs.Evaluation.{ordered};
 ghost use Rattle.thin_film_coating.specs.declared.Coating.TheVariants.{Multilayer};
 ghost use Rattle.thin_film.specs.declared.SurfaceCoating.TheVariants.{Custom};
 ghost use Rattle.thin_film.specs.Evaluate.{evaluate_surface};
@@ -14,16 +14,15 @@ ghost use Rattle.surface.specs.Answers.{coated_powers};
 ghost use Rattle.surface_real.specs.Internal.{no_films, stacked};
 ghost use Rattle.surface_real.specs.InternalFilms.{Wrote};
 ghost use Rattle.sheet_answers.specs.Internal.{nth_film, reached};
-ghost use Rattle.sheet_answers.specs.Outcome.{outcome_of};
 
-use crate::PowersReply;
 use gate_limits::Surface;
 use math_trig::SinCos;
+use refusal::Refusal;
 use surface::Powers;
 use surface_real::Stack;
 use thin_film::{SurfaceCoating, reading};
 use thin_film_coating::Coating;
-use thin_film_layers::{Evaluation, Prepared};
+use thin_film_layers::Prepared;
 use thin_film_solver::{CoatingResponse, Incidence, ThinFilmLayer};
 
 // A layer, and the place after it.
@@ -198,12 +197,12 @@ pub fn response_with(
 }
 
 // The powers of an evaluation that needs no layer after the block.
-fn answered(answer: Evaluation) -> PowersReply
-    ensures { outcome_of result ≡ map coated_powers (outcome answer) }
+fn answered(answer: Result<CoatingResponse, Refusal>) -> Result<Powers, Refusal>
+    ensures { outcome result ≡ map coated_powers (outcome answer) }
 {
     match answer {
-        Evaluation::Response(r) => PowersReply::Powers(surface::coated_powers(r)),
-        Evaluation::Refused(r) => PowersReply::Refused(r),
+        Ok(r) => Ok(surface::coated_powers(r)),
+        Err(r) => Err(r),
     }
 }
 
@@ -215,8 +214,8 @@ pub fn coated_powers(
     surface: Surface,
     coating: SurfaceCoating,
     wavelength_nm: f64,
-) -> PowersReply
-    ensures { outcome_of result ≡ map coated_powers (evaluate_surface coating (films wavelength_nm (layers_at src.now (next_place src.now at) n)) surface.n_incident surface.n_substrate surface.angle_rad wavelength_nm) }
+) -> Result<Powers, Refusal>
+    ensures { outcome result ≡ map coated_powers (evaluate_surface coating (films wavelength_nm (layers_at src.now (next_place src.now at) n)) surface.n_incident surface.n_substrate surface.angle_rad wavelength_nm) }
 {
     match reading::prepare(
         coating,
@@ -227,7 +226,7 @@ pub fn coated_powers(
         wavelength_nm,
     ) {
         Prepared::Answered(answer) => answered(answer),
-        Prepared::Layers { reversed, light } => PowersReply::Powers(powers_with(
+        Prepared::Layers { reversed, light } => Ok(powers_with(
             src,
             at,
             n,
@@ -260,8 +259,8 @@ pub fn custom_powers(
     surface: Surface,
     theta: SinCos,
     wavelength_nm: f64,
-) -> PowersReply
-    ensures { theta ≡ sin_cos surface.angle_rad → outcome_of result ≡ map coated_powers (evaluate_surface (Custom Multilayer) (films wavelength_nm (layers_at src.now (next_place src.now at) n)) surface.n_incident surface.n_substrate surface.angle_rad wavelength_nm) }
+) -> Result<Powers, Refusal>
+    ensures { theta ≡ sin_cos surface.angle_rad → outcome result ≡ map coated_powers (evaluate_surface (Custom Multilayer) (films wavelength_nm (layers_at src.now (next_place src.now at) n)) surface.n_incident surface.n_substrate surface.angle_rad wavelength_nm) }
 {
     if n <= 64 {
         if thin_film_valid::valid(
@@ -272,7 +271,7 @@ pub fn custom_powers(
         ) {
             let reversed = surface.n_incident > surface.n_substrate;
             let light = light_with(surface, theta, wavelength_nm);
-            return PowersReply::Powers(layers_powers(src, at, n, reversed, wavelength_nm, light));
+            return Ok(layers_powers(src, at, n, reversed, wavelength_nm, light));
         }
     }
     let coating = SurfaceCoating::Custom(Coating::Multilayer);

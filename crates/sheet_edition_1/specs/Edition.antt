@@ -3,12 +3,10 @@ use Rattle.std.specs.Prelude.{cond, List, [], ◌∷◌, ◌++◌, map, ℕ, leb
 use Rattle.std.specs.Float.{binary64}
 use Rattle.std.specs.Float.Ieee.{to_bits}
 use Rattle.refusal.specs.Outcome as Outcome
-use Rattle.refusal.specs.Outcome.{Outcome, answer, refusal, refused}
+use Rattle.refusal.specs.Outcome.{Outcome, answer, refusal}
 use Rattle.sheet.specs.Sheet.{SheetLayer, layer, cauchy, SheetSurface, Sheet, encode}
 use Rattle.sheet_values.specs.Values.{value, cauchy_value, cauchy_index}
 use Rattle.sheet_untuned.specs.Untuned.{without_tuning}
-use Rattle.sheet_edition_1.specs.declared.Rewritten.{Rewritten}
-use Rattle.sheet_edition_1.specs.declared.Rewritten.TheVariants as R
 
 -- ---- the new sheet
 -- 'each kind 6 becomes a LAYER with the computed index and k +0'
@@ -61,8 +59,3 @@ written (refusal number place) output = record { result = refusal number place; 
 
 unfoldable pub to_edition_1 : List ℕ → List ℕ → Written
 to_edition_1 src output = written (edition_1 src) output
-
--- document 01's number and values for each case
-abbrev pub outcome : Rewritten → Outcome ℕ
-outcome (R.Length n) = answer n
-outcome (R.Refused r) = refused r

@@ -6,15 +6,14 @@ ghost use Rattle.std.specs.Prelude.{◌≡◌, [], ◌∷◌, ◌++◌, ◌+◌,
 ghost use Rattle.std.proofs.lemmas.List.Edits.{sets};
 ghost use Rattle.std.specs.Float.{binary64};
 ghost use Rattle.std.specs.Float.Ieee.{to_bits};
-ghost use Rattle.refusal.specs.Outcome.{answer};
+ghost use Rattle.refusal.specs.Outcome.{answer, outcome};
 ghost use Rattle.sheet.specs.Words.{word, count, kind};
 ghost use Rattle.sheet.specs.Internal.{next_place};
 ghost use Rattle.sheet.specs.Sheet.{Sheet, bytes, encode};
 ghost use Rattle.gate.specs.Gate.{gated};
-ghost use Rattle.sheet_edition_1.specs.Edition.{translated, outcome, to_edition_1};
+ghost use Rattle.sheet_edition_1.specs.Edition.{translated, to_edition_1};
 ghost use Rattle.sheet_edition_1.specs.Internal.{new_size, layer_words, new_words, Room};
 
-use gate::Gated;
 use refusal::Refusal;
 
 // ---- words
@@ -151,32 +150,18 @@ fn write(src: &[u8], output: &mut [u8])
     }
 }
 
-// The new sheet's length in bytes, or a refusal.
-#[derive(Clone, Copy)]
-pub enum Rewritten {
-    Length(usize),
-    Refused(Refusal),
-}
-
 // An edition 1 sheet for a sheet of either edition: each kind 6 becomes a LAYER with the index computed at
 // the BEAM's wavelength and k +0, OPEN's payload is 1, all else is unchanged. It is written to the front of
 // output, whose bytes past it keep what they held. Refusals: 4, 5, 6, 12 with the word of the first kind 7,
 // then 8 for an output that is too short; each leaves the output untouched.
-pub fn to_edition_1(src: &[u8], output: &mut [u8]) -> Rewritten
+pub fn to_edition_1(src: &[u8], output: &mut [u8]) -> Result<usize, Refusal>
     ensures { record { result = outcome result; output = output.new } ≡ to_edition_1 src.now output.old }
 {
-    match sheet_untuned::without_tuning(src) {
-        Gated::Admitted(_) => {
-            let length = new_length(src);
-            if output.len() < length {
-                return Rewritten::Refused(Refusal {
-                    number: 8,
-                    place: 0,
-                });
-            }
-            write(src, output);
-            Rewritten::Length(length)
-        }
-        Gated::Refused(r) => Rewritten::Refused(r),
+    sheet_untuned::without_tuning(src)?;
+    let length = new_length(src);
+    if output.len() < length {
+        return Err(Refusal::TooShort);
     }
+    write(src, output);
+    Ok(length)
 }

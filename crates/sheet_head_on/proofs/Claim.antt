@@ -1,4 +1,5 @@
 -- An admitted sheet's surfaces without layers, met head-on. Assumes nothing.
+use Rattle.std.specs.Prelude.{None, Some}
 use mathlib.Core.Path.{◌≡◌, refl, sym, ap, ◌∙◌, subst}
 use Prim.Native.Nat.{ℕ, ◌/◌, ◌<◌}
 use mathlib.Core.Bool.{false}
@@ -25,7 +26,6 @@ use Rattle.thin_film_conserved.proofs.Claim.{light_in_light_out}
 use Rattle.fresnel.specs.Fresnel.{fresnel_dielectric}
 use Rattle.fresnel_near.specs.Claim.{Both}
 use Rattle.fresnel_near.proofs.Claim.{every_pair}
-use Rattle.gate_limits.specs.declared.Interface.TheVariants.{Bare, Coated}
 use Rattle.gate_limits.specs.Coating.{coded, interface}
 use Rattle.gate_limits.specs.Limits.{within, surface_passes}
 use Rattle.gate_limits.proofs.Ranges.{wavelength_in, surface_in}
@@ -46,11 +46,11 @@ index : (pattern : ℕ) → T (within one four (value pattern)) → Index (value
 unfolding within
 index n t = record { held = of_bits-fits binary64 n; least = and_l (le one (value n)) (le (value n) four) t; most = and_r (le one (value n)) (le (value n) four) t }
 
-custom_is : interface 5 ≡ Coated (S.Custom C.Multilayer)
+custom_is : interface 5 ≡ Some (S.Custom C.Multilayer)
 unfolding interface coded
 custom_is = refl
 
-bare_is : interface 0 ≡ Bare
+bare_is : interface 0 ≡ None
 unfolding interface coded
 bare_is = refl
 

@@ -3,35 +3,24 @@
 #![tactic(auto)]
 
 ghost use Rattle.std.specs.Prelude.{◌≡◌};
-ghost use Rattle.sheet_surfaces.specs.Surfaces.{given};
+ghost use Rattle.refusal.specs.Outcome.{outcome};
 ghost use Rattle.sheet_retuned.specs.Retuned.{answers_at};
 
-use gate::Gated;
 use refusal::Refusal;
-use sheet_surfaces::SurfaceReply;
+use surface::Answers;
 
 // Of the i-th surface, counted from 0: at the wavelength of the retune, or at that of a kind 7 before the surface.
-pub fn answers_at(src: &[u8], i: u32, wavelength_nm: f64) -> SurfaceReply
-    ensures { result ≡ given (answers_at src.now i wavelength_nm) }
+pub fn answers_at(src: &[u8], i: u32, wavelength_nm: f64) -> Result<Answers, Refusal>
+    ensures { outcome result ≡ answers_at src.now i wavelength_nm }
 {
-    match gate::gate(src) {
-        Gated::Admitted(count) => {
-            if i >= count {
-                return sheet_surfaces::refused(Refusal {
-                    number: 7,
-                    place: 0,
-                });
-            }
-            if !gate::holds(src, i, count, wavelength_nm) {
-                return sheet_surfaces::refused(Refusal {
-                    number: 11,
-                    place: 0,
-                });
-            }
-            let begin = sheet::begin_of(src, i);
-            let met_nm = sheet_values::met_with(src, begin, wavelength_nm);
-            sheet_surfaces::answers_met(src, sheet::onto(src, begin), met_nm)
-        }
-        Gated::Refused(r) => sheet_surfaces::refused(r),
+    let count = gate::gate(src)?;
+    if i >= count {
+        return Err(Refusal::NoSurface);
     }
+    if !gate::holds(src, i, count, wavelength_nm) {
+        return Err(Refusal::Wavelength);
+    }
+    let begin = sheet::begin_of(src, i);
+    let met_nm = sheet_values::met_with(src, begin, wavelength_nm);
+    sheet_surfaces::answers_met(src, sheet::onto(src, begin), met_nm)
 }

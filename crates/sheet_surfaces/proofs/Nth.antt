@@ -7,7 +7,7 @@ use borrow.Author.Tests.{lt-ltb, le-ltb}
 use lib.ListN.{length, get_or, drop}
 use lib.Ieee.{Float}
 use Rattle.refusal.specs.declared.Refusal.{Refusal}
-use Rattle.refusal.specs.Outcome.{Outcome, answer, refusal, refused, map}
+use Rattle.refusal.specs.Outcome.{Outcome, answer, refusal, refused, map, number_of, place_of}
 use Rattle.thin_film_solver.specs.declared.ThinFilmLayer.{ThinFilmLayer}
 use Rattle.gate_limits.specs.declared.Surface as Value
 use Rattle.sheet.specs.Sheet.{SheetSurface, nth, Sheet, surfaces_blocks, end_block}
@@ -31,7 +31,7 @@ module _ {A : Type 0} (f : Float → SheetSurface → Outcome A) (src : List ℕ
     there h = sym (ap (of_surface f i) a.is ∙ rw (lt-ltb i (length a.sheet.surfaces) (omega (arith, a.counts))))
 
   pub not_admitted : (r : Refusal) → refused r ≡ gate src → refused r ≡ of_surface f i (gated src)
-  not_admitted r e = sym (ap (of_surface f i) (turned_back src r.number r.place e))
+  not_admitted r e = sym (ap (of_surface f i) (turned_back src (number_of r) (place_of r) e))
 
 module _ (src : List ℕ) (i : ℕ) where
   abbrev itself : Float → SheetSurface → Outcome SheetSurface

@@ -1,19 +1,14 @@
 -- 01 section 7 and 02 slips 3 and 5: a sheet's surfaces by their numbers. Definitions only.
 use Rattle.std.specs.Prelude.{cond, List, ℕ, ltb, length, get_or, Float}
 use Rattle.std.specs.Float.{nan}
-use Rattle.refusal.specs.Outcome.{Outcome, answer, refusal, refused, map}
+use Rattle.refusal.specs.Outcome.{Outcome, answer, refusal, map}
 use Rattle.thin_film_solver.specs.declared.ThinFilmLayer.{ThinFilmLayer}
 use Rattle.surface.specs.declared.Answers.{Answers}
-use Rattle.surface.specs.Answers.{answers, no_answers}
+use Rattle.surface.specs.Answers.{answers}
 use Rattle.sheet.specs.Sheet.{SheetSurface, nth, Sheet}
 use Rattle.sheet_values.specs.Values.{value, films, surface_value, met_at}
 use Rattle.gate.specs.Gate.{gated}
-use Rattle.sheet_surfaces.specs.declared.SurfaceReply.{SurfaceReply}
 use Rattle.sheet_surfaces.specs.declared.NumberedSurface.{NumberedSurface}
-use Rattle.sheet_surfaces.specs.declared.NthSurface.{NthSurface}
-use Rattle.sheet_surfaces.specs.declared.NthSurface.TheVariants as N
-use Rattle.sheet_surfaces.specs.declared.NthLayer.{NthLayer}
-use Rattle.sheet_surfaces.specs.declared.NthLayer.TheVariants as L
 
 -- what is said of the i-th surface of a sheet, counted from 0, at the wavelength that a list of steps alone meets it with; 7 where there is
 -- no such surface
@@ -43,15 +38,6 @@ layer_of j w y = cond (ltb j (length y.layers)) (answer (get_or (films w y.layer
 unfoldable pub nth_layer : List ℕ → ℕ → ℕ → Outcome ThinFilmLayer
 nth_layer src i j = of_surface (layer_of j) i (gated src)
 
--- document 01's number and values for each case
-abbrev pub surface_outcome : NthSurface → Outcome NumberedSurface
-surface_outcome (N.Surface y) = answer y
-surface_outcome (N.Refused r) = refused r
-
-abbrev pub layer_outcome : NthLayer → Outcome ThinFilmLayer
-layer_outcome (L.Layer l) = answer l
-layer_outcome (L.Refused r) = refused r
-
 -- ---- its answers, at a wavelength
 abbrev pub its_answers : Float → SheetSurface → Outcome Answers
 its_answers w y = answers w (surface_value y) (films w y.layers)
@@ -61,8 +47,3 @@ answers_to = of_surface its_answers
 
 unfoldable pub surface_answers : List ℕ → ℕ → Outcome Answers
 surface_answers src i = answers_to i (gated src)
-
--- as a struct: a refusal's number, which is 0 where there is none, with its place, beside the answers; zero throughout where refused
-unfoldable pub given : Outcome Answers → SurfaceReply
-given (answer a) = record { refusal = record { number = 0; place = 0 }; answers = a }
-given (refusal number place) = record { refusal = record { number = number; place = place }; answers = no_answers }

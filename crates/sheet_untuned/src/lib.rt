@@ -2,14 +2,13 @@
 #![tactic(auto)]
 
 ghost use Rattle.std.specs.Prelude.{◌≡◌};
-ghost use Rattle.refusal.specs.Outcome.{answer, map};
+ghost use Rattle.refusal.specs.Outcome.{answer, map, outcome};
 ghost use Rattle.sheet.specs.Sheet.{Sheet};
 ghost use Rattle.sheet.specs.Read.{surfaces_of};
-ghost use Rattle.gate.specs.Gate.{gated, outcome};
+ghost use Rattle.gate.specs.Gate.{gated};
 ghost use Rattle.sheet_untuned.specs.Untuned.{without_tuning};
 ghost use Rattle.sheet_untuned.specs.Internal.{Looked};
 
-use gate::Gated;
 use refusal::Refusal;
 
 // The place of the first kind 7; past the last word where there is none.
@@ -28,17 +27,13 @@ fn first_tuning(src: &[u8]) -> usize
 }
 
 // The count of surfaces of a sheet that is admitted and has no kind 7; or a refusal: 4, 5, 6, then 12.
-pub fn without_tuning(src: &[u8]) -> Gated
+pub fn without_tuning(src: &[u8]) -> Result<u32, Refusal>
     ensures { outcome result ≡ map surfaces_of (without_tuning src.now) }
 {
-    match gate::gate(src) {
-        Gated::Admitted(count) => {
-            let place = first_tuning(src);
-            if place < src.len() / 4 {
-                return Gated::Refused(Refusal { number: 12, place });
-            }
-            Gated::Admitted(count)
-        }
-        Gated::Refused(r) => Gated::Refused(r),
+    let count = gate::gate(src)?;
+    let place = first_tuning(src);
+    if place < src.len() / 4 {
+        return Err(Refusal::Tuning(place));
     }
+    Ok(count)
 }

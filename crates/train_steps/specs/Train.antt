@@ -2,7 +2,7 @@
 use Rattle.std.specs.Prelude.{Bool, cond, List, [], ◌∷◌, ◌++◌, ℕ, ◌+◌, ◌*◌, leb, ltb, length, drop, Float}
 use Rattle.std.specs.Float.{nan}
 use Rattle.ieee.specs.Operators.{◌⊗◌, ◌⊕◌}
-use Rattle.refusal.specs.Outcome.{Outcome, answer, refusal, refused, map, bind}
+use Rattle.refusal.specs.Outcome.{Outcome, answer, refusal, map, bind}
 use Rattle.surface.specs.declared.Powers.{Powers}
 use Rattle.surface.specs.declared.Answers.{Answers}
 use Rattle.surface.specs.Answers.{answers}
@@ -12,8 +12,6 @@ use Rattle.gate.specs.Gate.{gated}
 use Rattle.gate.specs.Wavelength.{holds}
 use Rattle.train_steps.specs.declared.Chosen.{Chosen}
 use Rattle.train_steps.specs.declared.State.{State}
-use Rattle.train_steps.specs.declared.TrainReply.{TrainReply}
-use Rattle.train_steps.specs.declared.TrainReply.TheVariants as S
 
 -- ---- a surface
 -- the R_s or T_s and the R_p or T_p of its answers, as chosen by the lowest payload bit
@@ -40,11 +38,6 @@ fresh x = record { done = 0; s = value x.s; p = value x.p; wavelength_nm = value
 
 unfoldable pub start : List ℕ → Outcome State
 start src = map fresh (gated src)
-
--- document 01's number and values for each case
-abbrev pub outcome : TrainReply → Outcome State
-outcome (S.State st) = answer st
-outcome (S.Refused r) = refused r
 
 -- Sum is s + p
 abbrev pub sum : Float → Float → Float

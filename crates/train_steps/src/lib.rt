@@ -3,21 +3,18 @@
 #![tactic(auto)]
 
 ghost use Rattle.std.specs.Prelude.{◌≡◌, ◌++◌, ◌+◌, ◌*◌, ◌≤◌, ◌<◌, length, drop};
-ghost use Rattle.refusal.specs.Outcome.{answer};
+ghost use Rattle.refusal.specs.Outcome.{answer, outcome};
 ghost use Rattle.sheet.specs.Sheet.{Sheet};
 ghost use Rattle.gate.specs.Gate as Gate;
 ghost use Rattle.gate.specs.Internal.{angle_at};
 ghost use Rattle.math_trig.specs.Trig.{sin_cos};
 ghost use Rattle.sheet.specs.Internal.{layer_run, onto};
 ghost use Rattle.sheet_index.specs.Internal.{Indexed};
-ghost use Rattle.sheet_answers.specs.Outcome.{outcome_of};
-ghost use Rattle.train_steps.specs.Train.{chosen, chosen_of, fresh, start, outcome, step, retune, after_each, run, sum};
+ghost use Rattle.train_steps.specs.Train.{chosen, chosen_of, fresh, start, step, retune, after_each, run, sum};
 ghost use Rattle.train_steps.specs.Internal.{chosen_at, moved, moved_from, moved_at, run_at};
 
-use gate::Gated;
 use math_trig::SinCos;
 use refusal::Refusal;
-use sheet_answers::PowersReply;
 use surface::Powers;
 
 // ---- a surface
@@ -47,12 +44,12 @@ pub fn choose(reflected: bool, r: Powers) -> Chosen
 }
 
 // No surface within the limits is refused.
-fn chosen_of(reflected: bool, reply: PowersReply) -> Chosen
-    ensures { result ≡ chosen_of reflected (outcome_of reply) }
+fn chosen_of(reflected: bool, reply: Result<Powers, Refusal>) -> Chosen
+    ensures { result ≡ chosen_of reflected (outcome reply) }
 {
     match reply {
-        PowersReply::Powers(r) => choose(reflected, r),
-        PowersReply::Refused(_) => Chosen {
+        Ok(r) => choose(reflected, r),
+        Err(_) => Chosen {
             s: 0.0 / 0.0,
             p: 0.0 / 0.0,
         },
@@ -95,29 +92,18 @@ pub fn sum(s: f64, p: f64) -> f64
     s + p
 }
 
-// A train's state, or a refusal.
-#[derive(Clone, Copy)]
-pub enum TrainReply {
-    State(State),
-    Refused(Refusal),
-}
-
 // A train before the first surface of its sheet.
-pub fn start(src: &[u8]) -> TrainReply
+pub fn start(src: &[u8]) -> Result<State, Refusal>
     ensures { outcome result ≡ start src.now }
 {
-    match gate::gate(src) {
-        Gated::Admitted(_) => {
-            let beam = sheet_values::beam_of(src);
-            TrainReply::State(State {
-                done: 0,
-                s: beam.s,
-                p: beam.p,
-                wavelength_nm: beam.wavelength_nm,
-            })
-        }
-        Gated::Refused(r) => TrainReply::Refused(r),
-    }
+    gate::gate(src)?;
+    let beam = sheet_values::beam_of(src);
+    Ok(State {
+        done: 0,
+        s: beam.s,
+        p: beam.p,
+        wavelength_nm: beam.wavelength_nm,
+    })
 }
 
 // The state after a surface of these powers, met with a wavelength.
@@ -156,60 +142,43 @@ fn moved_at(src: &[u8], begin: usize, n: usize, theta: SinCos, state: State) -> 
 }
 
 // One surface on from any state; a refusal leaves the state as it was.
-pub fn step(src: &[u8], state: State) -> TrainReply
+pub fn step(src: &[u8], state: State) -> Result<State, Refusal>
     ensures { outcome result ≡ step src.now state }
 {
     let mut begins = [1usize; 64];
     let mut counts = [1usize; 64];
     let mut sines = [1.0f64; 64];
     let mut cosines = [1.0f64; 64];
-    match gate::gate_index(src, &mut begins, &mut counts, &mut sines, &mut cosines) {
-        Gated::Admitted(count) => {
-            if state.done >= count {
-                return TrainReply::Refused(Refusal {
-                    number: 7,
-                    place: 0,
-                });
-            }
-            let i = state.done as usize;
-            let begin = begins[i];
-            if !gate::holds_from(src, begin, count - state.done, state.wavelength_nm) {
-                return TrainReply::Refused(Refusal {
-                    number: 11,
-                    place: 0,
-                });
-            }
-            let theta = SinCos {
-                sin: sines[i],
-                cos: cosines[i],
-            };
-            TrainReply::State(moved_at(src, begin, counts[i], theta, state))
-        }
-        Gated::Refused(r) => TrainReply::Refused(r),
+    let count = gate::gate_index(src, &mut begins, &mut counts, &mut sines, &mut cosines)?;
+    if state.done >= count {
+        return Err(Refusal::NoSurface);
     }
+    let i = state.done as usize;
+    let begin = begins[i];
+    if !gate::holds_from(src, begin, count - state.done, state.wavelength_nm) {
+        return Err(Refusal::Wavelength);
+    }
+    let theta = SinCos {
+        sin: sines[i],
+        cos: cosines[i],
+    };
+    Ok(moved_at(src, begin, counts[i], theta, state))
 }
 
 // A new wavelength for the surfaces not yet done, from any state; a refusal leaves the state as it was.
-pub fn retune(src: &[u8], state: State, wavelength_nm: f64) -> TrainReply
+pub fn retune(src: &[u8], state: State, wavelength_nm: f64) -> Result<State, Refusal>
     ensures { outcome result ≡ retune src.now state wavelength_nm }
 {
-    match gate::gate(src) {
-        Gated::Admitted(count) => {
-            if !gate::holds(src, state.done, count, wavelength_nm) {
-                return TrainReply::Refused(Refusal {
-                    number: 11,
-                    place: 0,
-                });
-            }
-            TrainReply::State(State {
-                done: state.done,
-                s: state.s,
-                p: state.p,
-                wavelength_nm,
-            })
-        }
-        Gated::Refused(r) => TrainReply::Refused(r),
+    let count = gate::gate(src)?;
+    if !gate::holds(src, state.done, count, wavelength_nm) {
+        return Err(Refusal::Wavelength);
     }
+    Ok(State {
+        done: state.done,
+        s: state.s,
+        p: state.p,
+        wavelength_nm,
+    })
 }
 
 // ---- a whole run
@@ -270,25 +239,18 @@ pub fn run_at(src: &[u8], count: u32, wavelength_nm: f64) -> State
 }
 
 // A run over the whole sheet from its start: s, p after each surface go to the lent list.
-pub fn run(src: &[u8], list: &mut [f64]) -> Gated
-    ensures { record { result = Gate.outcome result; list = list.new } ≡ run src.now list.old }
+pub fn run(src: &[u8], list: &mut [f64]) -> Result<u32, Refusal>
+    ensures { record { result = outcome result; list = list.new } ≡ run src.now list.old }
 {
     let mut begins = [1usize; 64];
     let mut counts = [1usize; 64];
     let mut sines = [1.0f64; 64];
     let mut cosines = [1.0f64; 64];
-    match gate::gate_index(src, &mut begins, &mut counts, &mut sines, &mut cosines) {
-        Gated::Admitted(count) => {
-            let n = count as usize;
-            if list.len() < 2 * n {
-                return Gated::Refused(Refusal {
-                    number: 8,
-                    place: 0,
-                });
-            }
-            write_each(src, n, &begins, &counts, &sines, &cosines, list);
-            Gated::Admitted(count)
-        }
-        Gated::Refused(r) => Gated::Refused(r),
+    let count = gate::gate_index(src, &mut begins, &mut counts, &mut sines, &mut cosines)?;
+    let n = count as usize;
+    if list.len() < 2 * n {
+        return Err(Refusal::TooShort);
     }
+    write_each(src, n, &begins, &counts, &sines, &cosines, list);
+    Ok(count)
 }

@@ -4,14 +4,12 @@
 use Rattle.std.specs.Prelude.{ℕ, zero, suc, ◌+◌, ◌*◌, ◌/◌, ◌%◌, Bool, cond, List, [], ◌∷◌, ◌++◌, leb, ltb, length, drop, Float}
 use Rattle.std.specs.Float.{binary64}
 use Rattle.std.specs.Float.Ieee.{eq, to_bits}
-use Rattle.refusal.specs.Outcome.{Outcome, answer, refusal, refused}
+use Rattle.refusal.specs.Outcome.{Outcome, answer, refusal}
 use Rattle.sheet.specs.Sheet.{SheetSurface, Sheet}
 use Rattle.sheet_values.specs.Values.{surface_value}
 use Rattle.gate.specs.Gate.{gated}
 use Rattle.train_steps.specs.declared.State.{State}
 use Rattle.train_steps.specs.Train.{fresh, after_one, sum}
-use Rattle.train_text.specs.declared.Printed.{Printed}
-use Rattle.train_text.specs.declared.Printed.TheVariants as P
 
 -- ---- numbers, in ASCII
 -- `0` to `9`, then `A` to `F`
@@ -89,8 +87,3 @@ written t buffer =
     cond (leb (length t) (length buffer))
     (record { result = answer (length t); buffer = t ++ drop (length t) buffer })
     (record { result = refusal 8 0; buffer = buffer })
-
--- document 01's number and values for each case
-abbrev pub outcome : Printed → Outcome ℕ
-outcome (P.Written n) = answer n
-outcome (P.Refused r) = refused r

@@ -2,17 +2,14 @@
 #![tactic(auto)]
 
 ghost use Rattle.std.specs.Prelude.{◌≡◌, ◌++◌, ◌+◌, ◌≤◌, ◌<◌, length, drop};
-ghost use Rattle.refusal.specs.Outcome.{answer};
+ghost use Rattle.refusal.specs.Outcome.{answer, outcome};
 ghost use Rattle.sheet.specs.Sheet.{Sheet};
 ghost use Rattle.train_steps.specs.Train.{fresh};
 ghost use Rattle.sheet_surfaces.specs.Surfaces.{nth_surface};
 ghost use Rattle.train_text.specs.Text as Text;
 ghost use Rattle.train_text.specs.Page.{Appended, reflects, RunOf};
 
-use gate::Gated;
 use refusal::Refusal;
-use sheet_surfaces::NthSurface;
-use train_steps::TrainReply;
 
 // ---- numbers as text
 
@@ -150,11 +147,11 @@ fn reflects(src: &[u8], i: u32) -> bool
     ensures { result ≡ reflects (nth_surface src.now i) }
 {
     match sheet_surfaces::nth_surface(src, i) {
-        NthSurface::Surface(y) => {
+        Ok(y) => {
             let surface = y.surface;
             surface.reflected
         }
-        NthSurface::Refused(_) => false,
+        Err(_) => false,
     }
 }
 
@@ -187,8 +184,8 @@ fn admitted(src: &[u8], count: usize, list: &[f64; 128], page: &mut [u8]) -> usi
     ensures { ((x : Sheet) → RunOf src.now x (fresh x).s (fresh x).p count list.now → Appended page.old 0 (Text.text (answer x)) result page.new) × (result ≤ length page.old) }
 {
     match train_steps::start(src) {
-        TrainReply::State(state) => lines(src, state.s, state.p, count, list, page),
-        TrainReply::Refused(r) => refused_line(page, r.number as u64, r.place as u64),
+        Ok(state) => lines(src, state.s, state.p, count, list, page),
+        Err(r) => refused_line(page, r.number() as u64, r.place() as u64),
     }
 }
 
@@ -198,8 +195,8 @@ fn write_text(src: &[u8], page: &mut [u8]) -> usize
 {
     let mut list = [0.0f64; 128];
     match train_steps::run(src, &mut list) {
-        Gated::Admitted(count) => admitted(src, count as usize, &list, page),
-        Gated::Refused(r) => refused_line(page, r.number as u64, r.place as u64),
+        Ok(count) => admitted(src, count as usize, &list, page),
+        Err(r) => refused_line(page, r.number() as u64, r.place() as u64),
     }
 }
 
@@ -213,26 +210,16 @@ fn copy(bytes: &[u8], buffer: &mut [u8])
     }
 }
 
-// How many bytes were written, or a refusal: 8.
-#[derive(Clone, Copy)]
-pub enum Printed {
-    Written(usize),
-    Refused(Refusal),
-}
-
 // What `train` prints of a sheet, at the front of a buffer. A buffer that is too short is refused with
 // 8 and left as it is; 4096 bytes are enough for every sheet.
-pub fn train_text(src: &[u8], buffer: &mut [u8]) -> Printed
-    ensures { record { result = Text.outcome result; buffer = buffer.new } ≡ Text.written (Text.train_text src.now) buffer.old }
+pub fn train_text(src: &[u8], buffer: &mut [u8]) -> Result<usize, Refusal>
+    ensures { record { result = outcome result; buffer = buffer.new } ≡ Text.written (Text.train_text src.now) buffer.old }
 {
     let mut page = [0u8; 4096];
     let n = write_text(src, &mut page);
     if buffer.len() < n {
-        return Printed::Refused(Refusal {
-            number: 8,
-            place: 0,
-        });
+        return Err(Refusal::TooShort);
     }
     copy(&page[..n], buffer);
-    Printed::Written(n)
+    Ok(n)
 }

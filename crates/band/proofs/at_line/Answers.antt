@@ -1,6 +1,5 @@
 -- `band::at_line` meets its contract. Assumes nothing.
 use mathlib.Core.Path.{sym, subst}
-use borrow.Author.Rules.{rules}
 use lib.Dec.{T}
 use lib.Ieee.{binary64, fits}
 use Rattle.train_steps.specs.declared.State.{State}

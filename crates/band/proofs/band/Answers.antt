@@ -2,22 +2,21 @@
 use mathlib.Core.Path.{◌≡◌, sym, ap, ◌∙◌}
 use mathlib.Core.Bool.{Bool, true, false, not}
 use mathlib.Core.List.{List}
-use Prim.Native.Nat.{ℕ, ◌-◌, ◌≤◌, ◌<◌}
+use Prim.Native.Nat.{ℕ, ◌≤◌, ◌<◌}
 use native.Mathlib.Nat.{zero-add}
 use native.Mathlib.Omega.{arith}
-use borrow.Author.Rules.{rules}
 use borrow.Author.Tests.{not-true, not-false}
 use lib.Dec.{T}
 use lib.ListN.{length}
 use lib.Ieee.{Float}
+use Rattle.std.proofs.lemmas.Result.{err_from_is_err_and}
 use Rattle.ieee.proofs.Signs.{of_true}
 use Rattle.refusal.specs.declared.Refusal.{Refusal}
-use Rattle.refusal.specs.Outcome.{Outcome, answer, refusal, refused, map, bind}
+use Rattle.refusal.specs.Outcome.{Outcome, answer, refusal, refused, map, bind, number_of, place_of}
 use Rattle.sheet.specs.Blocks.{All}
 use Rattle.sheet.specs.Sheet.{Sheet}
 use Rattle.sheet.specs.Read.{surfaces_of}
 use Rattle.sheet.proofs.Stands.{Known}
-use Rattle.gate.specs.Gate as Gate
 use Rattle.gate.specs.Gate.{gated}
 use Rattle.gate.specs.Wavelength.{holds}
 use Rattle.gate.specs.Internal.{holds_at}
@@ -73,22 +72,24 @@ module _ (src : List ℕ) (ws : List Float) (ns : List ℕ) where
 
   not_run : (r : Refusal) → refused r ≡ map surfaces_of (without_tuning src) → refused r ≡ band src ws ns
   unfolding band
-  not_run r e = sym (ap (λ (o : Outcome Sheet). bind o (λ (x : Sheet). map (λ t. powers x ws ns) (tested x ws ns))) (not_taken src r.number r.place e))
+  not_run r e = sym (ap (λ (o : Outcome Sheet). bind o (λ (x : Sheet). map (λ t. powers x ws ns) (tested x ws ns))) (not_taken src (number_of r) (place_of r) e))
 
 pub returns-then-not-lines_fit : goal.returns-then-not-lines_fit
-returns-then-not-lines_fit c = unfit _ _ _ _ (sym (ap Gate.outcome c.in-Admitted.is) ∙ c.without_tuning.ensures) _ c.lines_fit.ensures (ap not c.if-not-lines_fit.true)
+returns-then-not-lines_fit c = unfit _ _ _ _ c.in_ok-count.ensures _ c.lines_fit.ensures (ap not c.if-not-lines_fit.true)
 
 pub returns-then-weight-weights : goal.returns-then-weight-weights
-returns-then-weight-weights c = heavy_line _ _ _ _ (sym (ap Gate.outcome c.in-Admitted.is) ∙ c.without_tuning.ensures) _ c.lines_fit.ensures (ap not c.if-not-lines_fit.false) _ c.first_weight_outside-weight.ensures c.if-weight-weights.true
+returns-then-weight-weights c = heavy_line _ _ _ _ c.in_ok-count.ensures _ c.lines_fit.ensures (ap not c.if-not-lines_fit.false) _ c.first_weight_outside-weight.ensures c.if-weight-weights.true
 
 pub returns-then-wavelength-wavelengths : goal.returns-then-wavelength-wavelengths
-returns-then-wavelength-wavelengths c = bad_line _ _ _ _ (sym (ap Gate.outcome c.in-Admitted.is) ∙ c.without_tuning.ensures) _ c.lines_fit.ensures (ap not c.if-not-lines_fit.false) _ c.first_weight_outside-weight.ensures c.if-weight-weights.false c.type_inv.src _ c.first_wavelength_outside-wavelength.ensures c.if-wavelength-wavelengths.true
+returns-then-wavelength-wavelengths c = bad_line _ _ _ _ c.in_ok-count.ensures _ c.lines_fit.ensures (ap not c.if-not-lines_fit.false) _ c.first_weight_outside-weight.ensures c.if-weight-weights.false c.type_inv.src _ c.first_wavelength_outside-wavelength.ensures c.if-wavelength-wavelengths.true
 
 pub weighed-requires : goal.weighed-requires
-weighed-requires c = (of_true _ (fits_now _ c.args.wavelengths.now c.args.weights.now _ (sym (ap Gate.outcome c.in-Admitted.is) ∙ c.without_tuning.ensures) _ c.lines_fit.ensures (ap not c.if-not-lines_fit.false)), small _ c.args.wavelengths.now c.args.weights.now _ (sym (ap Gate.outcome c.in-Admitted.is) ∙ c.without_tuning.ensures) _ c.lines_fit.ensures (ap not c.if-not-lines_fit.false) _ c.first_weight_outside-weight.ensures c.if-weight-weights.false)
+weighed-requires c = (of_true _ (fits_now _ c.args.wavelengths.now c.args.weights.now _ c.in_ok-count.ensures _ c.lines_fit.ensures (ap not c.if-not-lines_fit.false)), small _ c.args.wavelengths.now c.args.weights.now _ c.in_ok-count.ensures _ c.lines_fit.ensures (ap not c.if-not-lines_fit.false) _ c.first_weight_outside-weight.ensures c.if-weight-weights.false)
 
-pub returns-else-wavelength-wavelengths : goal.returns-else-wavelength-wavelengths
-returns-else-wavelength-wavelengths c = weighs _ _ _ _ (sym (ap Gate.outcome c.in-Admitted.is) ∙ c.without_tuning.ensures) _ c.lines_fit.ensures (ap not c.if-not-lines_fit.false) _ c.first_weight_outside-weight.ensures c.if-weight-weights.false c.type_inv.src _ c.first_wavelength_outside-wavelength.ensures c.if-wavelength-wavelengths.false _ c.weighed.ensures
+pub returns : goal.returns
+returns c = weighs _ _ _ _ c.in_ok-count.ensures _ c.lines_fit.ensures (ap not c.if-not-lines_fit.false) _ c.first_weight_outside-weight.ensures c.if-weight-weights.false c.type_inv.src _ c.first_wavelength_outside-wavelength.ensures c.if-wavelength-wavelengths.false _ c.weighed.ensures
 
-pub returns-in-Refused : goal.returns-in-Refused
-returns-in-Refused c = not_run _ _ _ _ (sym (ap Gate.outcome c.in-Refused.is) ∙ c.without_tuning.ensures)
+pub returns-in_err-count : goal.returns-in_err-count
+returns-in_err-count c =
+    let p = err_from_is_err_and c.from_residual.result c.from_residual.ensures.1 in
+    rw (p.1, p.2) (not_run _ _ _ _ c.in_err-count.ensures)

@@ -2,14 +2,13 @@
 use mathlib.Core.Path.{◌≡◌, refl, sym, ap, ◌∙◌}
 use mathlib.Core.Bool.{Bool, true, false, ◌&&◌}
 use mathlib.Core.List.{List}
-use Prim.Native.Nat.{ℕ, ◌-◌}
+use Prim.Native.Nat.{ℕ}
 use native.Mathlib.Nat.{sub-zero}
 use lib.Ieee.{Float}
 use Rattle.ieee.proofs.Signs.{of_true}
 use Rattle.sheet.specs.Internal.{begin}
 use Rattle.gate_limits.specs.Limits.{wavelength_passes}
 use Rattle.gate.specs.Internal.{layers_hold_at, holds_at}
-use borrow.Author.Rules.{rules}
 use Rattle.band.proofs.line_passes.Goals as goal
 
 alone : (src : List ℕ) (n : ℕ) (w : Float) → layers_hold_at n src (begin src 0) w ≡ true → (t : Bool) → t ≡ wavelength_passes w → t ≡ holds_at src 0 n w

@@ -1,11 +1,10 @@
 -- `band::weighed` meets its contract. Assumes nothing.
 use mathlib.Core.Path.{◌≡◌, refl, sym, ◌∙◌}
 use mathlib.Core.List.{List}
-use Prim.Native.Nat.{ℕ, ◌+◌, ◌-◌, ◌≤◌, ◌<◌}
+use Prim.Native.Nat.{ℕ, ◌+◌, ◌≤◌, ◌<◌}
 use native.Mathlib.Omega.{arith}
-use borrow.Author.Rules.{rules}
 use lib.Dec.{T}
-use lib.ListN.{length, get_or, drop}
+use lib.ListN.{length, get_or}
 use lib.Ieee.{Float}
 use Rattle.ieee.specs.Operators.{◌⊕◌, ◌⊗◌, ◌⊘◌}
 use Rattle.ieee.specs.Functions.{zero_f}
@@ -14,14 +13,14 @@ use Rattle.sheet.specs.Sheet.{Sheet}
 use Rattle.gate.specs.Gate.{gated}
 use Rattle.gate.specs.Wavelength.{holds}
 use Rattle.train_steps.specs.declared.State.{State}
-use Rattle.band.specs.Band.{at_line, lines_fit, whole, added_up, whole_sum, powers}
+use Rattle.band.specs.Band.{at_line, lines_fit, whole, whole_sum, powers}
 use Rattle.band.specs.Internal.{Line, AllPass}
 use Rattle.band.proofs.Sums.{one_weight, no_weight, one_line, no_line, passes_at, equal, few}
 use Rattle.band.proofs.weighed.Invariants.{Before}
 use Rattle.band.proofs.weighed.Goals as goal
 
 begun : (src : List ℕ) (n : ℕ) (ws : List Float) (ns : List ℕ) → Before src n ws ns zero_f zero_f 0 0
-begun src n ws ns = record { most = omega arith; weights = omega arith; sums = λ x g l h. (refl, refl) }
+begun src n ws ns = record { weights = omega arith; sums = λ x g l h. (refl, refl) }
 
 module _ (src : List ℕ) (n : ℕ) (ws : List Float) (ns : List ℕ) (s p : Float) (total i : ℕ) (b : Before src n ws ns s p total i) (fit : T (lines_fit ws ns)) where
   inside : i < length ws → i < length ns
@@ -33,7 +32,6 @@ module _ (src : List ℕ) (n : ℕ) (ws : List Float) (ns : List ℕ) (s p : Flo
   further : (d : Float) (e : ℕ) → i < length ws → (st : State) → ((x : Sheet) → gated src ≡ answer x → length x.surfaces ≡ n → T (holds (get_or ws i d) x.surfaces) → Line st (at_line x (get_or ws i d)))
       → Before src n ws ns (s ⊕ whole (get_or ns i e) ⊗ st.s) (p ⊕ whole (get_or ns i e) ⊗ st.p) (total + get_or ns i e) (i + 1)
   further d e lt st line = record {
-    most = omega arith;
     weights = omega (arith, one_weight ns i e (inside lt), b.weights);
     sums = λ x g l h.
         let t = line x g l (passes_at x ws d i h lt) in

@@ -4,14 +4,19 @@ use mathlib.Core.Bool.{true, false}
 use mathlib.Core.List.{List}
 use Prim.Native.Nat.{ℕ, ◌≤◌}
 use lib.ListN.{replicate}
-use lib.Ieee.{Float}
+use lib.Ieee.{Float, of_bits}
 use native.Mathlib.Omega.{arith}
-use Rattle.refusal.specs.Outcome.{Outcome, answer, refusal, map}
+use borrow.Author.Rules.{rules}
+use borrow.Author.Tests.{not-true, not-false}
+use Rattle.std.proofs.lemmas.Result.{err_from_is_err_and}
+use Rattle.refusal.specs.declared.Refusal.{Refusal}
+use Rattle.refusal.specs.Outcome.{Outcome, answer, refusal, refused, map, outcome}
 use Rattle.ieee.specs.Functions.{one}
 use Rattle.ieee.proofs.Signs.{of_true}
 use Rattle.sheet.specs.Claim.{length_fits}
-use Rattle.sheet.specs.Blocks.{Result, read, fault}
-use Rattle.sheet.specs.Read.{decode, graded, surfaces_of, outcome, grammar}
+use Rattle.sheet.specs.Blocks as Read
+use Rattle.sheet.specs.Blocks.{read, fault}
+use Rattle.sheet.specs.Read.{decode, graded, surfaces_of, grammar}
 use Rattle.sheet.specs.Sheet.{Sheet}
 use Rattle.sheet.specs.Internal.{begin}
 use Rattle.sheet_index.specs.Index.{filled, at_most_64, layers_of, sine_of, cosine_of}
@@ -29,13 +34,13 @@ right_length : (src : List ℕ) → length_fits src ≡ true → map surfaces_of
 unfolding gate gated
 right_length src e = simp e
 
-out_of_grammar : (src : List ℕ) (place : ℕ) → length_fits src ≡ true → grammar src ≡ refusal 5 place → refusal 5 place ≡ gate src
+fault_of : (src : List ℕ) (r : Refusal) → length_fits src ≡ true → refused r ≡ grammar src → refused r ≡ gate src
 unfolding grammar
-out_of_grammar src place e f = go (decode src) f ∙ right_length src e
+fault_of src r e f = go (decode src) f ∙ right_length src e
   where
-    go : (q : Result Sheet) → map surfaces_of (graded q) ≡ refusal 5 place → refusal 5 place ≡ map surfaces_of (within_limits (graded q))
-    go (read x) f = absurd (let z : ◌≡◌ {A = ℕ} 0 1 = cc in omega arith)
-    go (fault q) f = sym f
+    go : (q : Read.Result Sheet) → refused r ≡ map surfaces_of (graded q) → refused r ≡ map surfaces_of (within_limits (graded q))
+    go (read x) f = cc
+    go (fault q) f = f
 
 -- the index, of as many SURFACEs as the sheet has
 module _ (src : List ℕ) (o : Outcome ℕ) (g : o ≡ gate src) (n : ℕ) (r : rows src ≡ n) where
@@ -47,8 +52,8 @@ module _ (src : List ℕ) (o : Outcome ℕ) (g : o ≡ gate src) (n : ℕ) (r : 
 no_rows : (src : List ℕ) → length_fits src ≡ false → rows src ≡ 0
 no_rows src e = rw e refl
 
-no_rows_5 : (src : List ℕ) (place : ℕ) → length_fits src ≡ true → grammar src ≡ refusal 5 place → rows src ≡ 0
-no_rows_5 src place e f = rw (e, f) refl
+no_rows_5 : (src : List ℕ) (r : Refusal) → length_fits src ≡ true → refused r ≡ grammar src → rows src ≡ 0
+no_rows_5 src r e f = rw (e, ← f) refl
 
 all_rows : (src : List ℕ) (n : ℕ) → length_fits src ≡ true → grammar src ≡ answer n → rows src ≡ n
 all_rows src n e f = rw (e, f) refl
@@ -64,24 +69,24 @@ returns-then-not-length_fits c =
     let l = sym c.length_fits.ensures ∙ c.if-not-length_fits.true in
     short _ l
 
+pub returns-in_err-count : goal.returns-in_err-count
+returns-in_err-count c =
+    let l = sym c.length_fits.ensures ∙ c.if-not-length_fits.false in
+    let p = err_from_is_err_and c.from_residual.result c.from_residual.ensures.1 in
+    rw (p.1, p.2) (made _ _ (fault_of _ _ l c.in_err-count.ensures) _ (no_rows_5 _ _ l c.in_err-count.ensures) _ _ _ _ (filled_none _ _) (filled_none _ _) (filled_none _ _) (filled_none _ _))
+
 pub limits-requires : goal.limits-requires
 limits-requires c =
     let l = sym c.length_fits.ensures ∙ c.if-not-length_fits.false in
-    let g = sym c.grammar.ensures ∙ ap outcome c.in-Whole.is in
+    let g = sym c.in_ok-count.ensures in
     let le = few _ _ c.type_inv.src (of_true _ l) g in
     let e = c.index.ensures in
     ((of_true _ l, g), indexed _ _ le _ _ _ _ refl refl refl refl _ _ _ _ (of_64 _ _ _ _ le e.0.0) (of_64 _ _ _ _ le e.0.1) (of_64 _ _ _ _ le e.1.0) (of_64 _ _ _ _ le e.1.1))
 
-pub returns-in-Whole : goal.returns-in-Whole
-returns-in-Whole c =
+pub returns : goal.returns
+returns c =
     let l = sym c.length_fits.ensures ∙ c.if-not-length_fits.false in
-    let g = sym c.grammar.ensures ∙ ap outcome c.in-Whole.is in
+    let g = sym c.in_ok-count.ensures in
     let le = few _ _ c.type_inv.src (of_true _ l) g in
     let e = c.index.ensures in
     made _ _ (c.limits.ensures ∙ right_length _ l) _ (all_rows _ _ l g) _ _ _ _ (of_64 _ _ _ _ le e.0.0) (of_64 _ _ _ _ le e.0.1) (of_64 _ _ _ _ le e.1.0) (of_64 _ _ _ _ le e.1.1)
-
-pub returns-in-Fault : goal.returns-in-Fault
-returns-in-Fault c =
-    let l = sym c.length_fits.ensures ∙ c.if-not-length_fits.false in
-    let g = sym c.grammar.ensures ∙ ap outcome c.in-Fault.is in
-    made _ _ (out_of_grammar _ _ l g) _ (no_rows_5 _ _ l g) _ _ _ _ (filled_none _ _) (filled_none _ _) (filled_none _ _) (filled_none _ _)

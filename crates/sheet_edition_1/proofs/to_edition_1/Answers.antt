@@ -5,11 +5,11 @@ use Prim.Native.Nat.{ℕ, ◌≤◌, ◌<◌}
 use native.Mathlib.Omega.{arith}
 use lib.ListN.{length, drop}
 use borrow.Author.Tests.{le-leb, lt-leb}
+use Rattle.std.proofs.lemmas.Result.{err_from_is_err_and}
 use Rattle.refusal.specs.declared.Refusal.{Refusal}
-use Rattle.refusal.specs.Outcome.{Outcome, answer, refusal, refused, map}
+use Rattle.refusal.specs.Outcome.{Outcome, answer, refusal, refused, map, number_of, place_of}
 use Rattle.sheet.specs.Sheet.{Sheet, encode}
 use Rattle.sheet.specs.Read.{surfaces_of}
-use Rattle.gate.specs.Gate as Gate
 use Rattle.gate.specs.Gate.{gated}
 use Rattle.sheet_untuned.specs.Untuned.{without_tuning}
 use Rattle.sheet_untuned.proofs.Admitted.{Taken, taken, not_taken}
@@ -44,16 +44,18 @@ module _ (src output : List ℕ) where
 
   not_written : (r : Refusal) → refused r ≡ map surfaces_of (without_tuning src) → record { result = refused r; output = output } ≡ to_edition_1 src output
   unfolding to_edition_1 edition_1
-  not_written r e = sym (ap (λ (o : Outcome Sheet). written (map translated o) output) (not_taken src r.number r.place e))
+  not_written r e = sym (ap (λ (o : Outcome Sheet). written (map translated o) output) (not_taken src (number_of r) (place_of r) e))
 
 pub returns-then-output-length : goal.returns-then-output-length
-returns-then-output-length c = too_short _ _ _ (sym (ap Gate.outcome c.in-Admitted.is) ∙ c.without_tuning.ensures) _ c.new_length-length.ensures c.if-output-length.true
+returns-then-output-length c = too_short _ _ _ c.in_ok-without_tuning.ensures _ c.new_length-length.ensures c.if-output-length.true
 
 pub write-requires : goal.write-requires
-write-requires c = room _ _ _ (sym (ap Gate.outcome c.in-Admitted.is) ∙ c.without_tuning.ensures) _ c.new_length-length.ensures c.if-output-length.false
+write-requires c = room _ _ _ c.in_ok-without_tuning.ensures _ c.new_length-length.ensures c.if-output-length.false
 
-pub returns-else-output-length : goal.returns-else-output-length
-returns-else-output-length c = whole _ _ _ (sym (ap Gate.outcome c.in-Admitted.is) ∙ c.without_tuning.ensures) _ c.new_length-length.ensures c.if-output-length.false _ c.write.ensures
+pub returns : goal.returns
+returns c = whole _ _ _ c.in_ok-without_tuning.ensures _ c.new_length-length.ensures c.if-output-length.false _ c.write.ensures
 
-pub returns-in-Refused : goal.returns-in-Refused
-returns-in-Refused c = not_written _ _ _ (sym (ap Gate.outcome c.in-Refused.is) ∙ c.without_tuning.ensures)
+pub returns-in_err-without_tuning : goal.returns-in_err-without_tuning
+returns-in_err-without_tuning c =
+    let p = err_from_is_err_and c.from_residual.result c.from_residual.ensures.1 in
+    rw (p.1, p.2) (not_written _ _ _ c.in_err-without_tuning.ensures)

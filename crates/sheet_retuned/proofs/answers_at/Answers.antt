@@ -8,25 +8,22 @@ use borrow.Author.Rules.{rules}
 use borrow.Author.Tests.{lt-ltb, le-ltb, not-true, not-false}
 use lib.ListN.{length, drop}
 use lib.Ieee.{Float}
-use Rattle.ieee.proofs.Signs.{of_true}
+use Rattle.std.proofs.lemmas.Result.{err_from_is_err_and}
 use Rattle.refusal.specs.declared.Refusal.{Refusal}
-use Rattle.refusal.specs.Outcome.{Outcome, answer, refusal, refused, bind}
+use Rattle.refusal.specs.Outcome.{Outcome, answer, refusal, refused, bind, number_of, place_of}
 use Rattle.sheet.specs.Sheet.{SheetSurface, nth, Sheet}
 use Rattle.sheet.specs.Internal.{tuning_at, onto, begin}
 use Rattle.sheet.proofs.Stands.{Known}
 use Rattle.sheet_values.specs.Values.{met_with}
 use Rattle.sheet_values.proofs.Here.{tuning_here}
-use Rattle.gate.specs.Gate as Gate
 use Rattle.gate.specs.Gate.{gate}
 use Rattle.gate.specs.Internal.{holds_at}
 use Rattle.gate.specs.Wavelength.{holds}
 use Rattle.gate.proofs.Admitted.{Admitted, admitted, turned_back}
-use Rattle.sheet_surfaces.specs.declared.SurfaceReply.{SurfaceReply}
-use Rattle.sheet_surfaces.specs.Surfaces.{given}
+use Rattle.surface.specs.declared.Answers.{Answers}
 use Rattle.sheet_surfaces.specs.Internal.{answers_met}
-use Rattle.sheet_surfaces.proofs.Answers.{all_nth, answered}
 use Rattle.sheet_surfaces.proofs.There.{met_given}
-use Rattle.train_steps.proofs.Takes.{takes, tested}
+use Rattle.train_steps.proofs.Takes.{tested}
 use Rattle.sheet_retuned.specs.Retuned.{retuned_before, answers_at}
 use Rattle.sheet_retuned.proofs.answers_at.Goals as goal
 
@@ -35,7 +32,7 @@ module _ (src : List ℕ) (i : ℕ) (w : Float) where
     abbrev a : Admitted src n
     a = admitted src n known e
 
-    no_such : n ≤ i → given (refusal 7 0) ≡ given (answers_at src i w)
+    no_such : n ≤ i → refusal 7 0 ≡ answers_at src i w
     unfolding answers_at
     no_such h = rw (a.is, le-ltb i (length a.sheet.surfaces) (omega (arith, a.counts)))
 
@@ -46,32 +43,33 @@ module _ (src : List ℕ) (i : ℕ) (w : Float) where
       inside : i < length a.sheet.surfaces
       inside = omega (arith, a.counts)
 
-      bad_wavelength : not t ≡ true → given (refusal 11 0) ≡ given (answers_at src i w)
+      bad_wavelength : not t ≡ true → refusal 11 0 ≡ answers_at src i w
       unfolding answers_at
       bad_wavelength f = rw (a.is, lt-ltb i (length a.sheet.surfaces) inside, sym (tested src n a i w t t_is) ∙ not-true t f)
 
-      whole : not t ≡ false → (at : ℕ) → at ≡ begin src i → (v : Float) → v ≡ met_with w (tuning_at src at) → (on : ℕ) → on ≡ onto src at → (reply : SurfaceReply) → reply ≡ answers_met src on v → reply ≡ given (answers_at src i w)
+      whole : not t ≡ false → (at : ℕ) → at ≡ begin src i → (v : Float) → v ≡ met_with w (tuning_at src at) → (on : ℕ) → on ≡ onto src at → (reply : Outcome Answers) → reply ≡ answers_met src on v → reply ≡ answers_at src i w
       unfolding answers_at
       whole f at q v ev on eo reply er =
           let m = met_with w y.tuning in
           let g : holds w (drop i a.sheet.surfaces) ≡ true = sym (tested src n a i w t t_is) ∙ not-false t f in
-          let good = (takes a.sheet a.within w i (of_true _ g) inside).0 in
           let is_met : v ≡ m = ev ∙ ap (λ (k : ℕ). met_with w (tuning_at src k)) q ∙ ap (met_with w) (tuning_here src a.sheet a.stands i inside) in
           rw (a.is, lt-ltb i (length a.sheet.surfaces) inside, g)
-          (er ∙ ap (answers_met src on) is_met ∙ met_given src i n known e h m (answered m good.0 y good.1 (all_nth _ a.sheet.surfaces i a.stands.formed.surfaces inside).few) on (eo ∙ ap (onto src) q) _ refl)
+          (er ∙ ap (answers_met src on) is_met ∙ met_given src i n known e h m on (eo ∙ ap (onto src) q) _ refl)
 
-  not_taken : (r : Refusal) → refused r ≡ gate src → given (refused r) ≡ given (answers_at src i w)
+  not_taken : (r : Refusal) → refused r ≡ gate src → refused r ≡ answers_at src i w
   unfolding answers_at
-  not_taken r e = ap given (sym (ap (λ (o : Outcome Sheet). bind o (retuned_before i w)) (turned_back src r.number r.place e)))
+  not_taken r e = sym (ap (λ (o : Outcome Sheet). bind o (retuned_before i w)) (turned_back src (number_of r) (place_of r) e))
 
 pub returns-then-i-count : goal.returns-then-i-count
-returns-then-i-count c = c.refused.ensures ∙ no_such _ _ _ _ c.type_inv.src (sym (ap Gate.outcome c.in-Admitted.is) ∙ c.gate.ensures) c.if-i-count.true
+returns-then-i-count c = no_such _ _ _ _ c.type_inv.src c.in_ok-count.ensures c.if-i-count.true
 
 pub returns-then-not-holds : goal.returns-then-not-holds
-returns-then-not-holds c = c.refused-then-not-holds.ensures ∙ bad_wavelength _ _ _ _ c.type_inv.src (sym (ap Gate.outcome c.in-Admitted.is) ∙ c.gate.ensures) c.if-i-count.false _ c.holds.ensures (ap not c.if-not-holds.true)
+returns-then-not-holds c = bad_wavelength _ _ _ _ c.type_inv.src c.in_ok-count.ensures c.if-i-count.false _ c.holds.ensures (ap not c.if-not-holds.true)
 
-pub returns-else-not-holds : goal.returns-else-not-holds
-returns-else-not-holds c = whole _ _ _ _ c.type_inv.src (sym (ap Gate.outcome c.in-Admitted.is) ∙ c.gate.ensures) c.if-i-count.false _ c.holds.ensures (ap not c.if-not-holds.false) _ c.begin_of-begin.ensures _ c.met_with-met_nm.ensures _ c.onto.ensures _ c.answers_met.ensures
+pub returns : goal.returns
+returns c = whole _ _ _ _ c.type_inv.src c.in_ok-count.ensures c.if-i-count.false _ c.holds.ensures (ap not c.if-not-holds.false) _ c.begin_of-begin.ensures _ c.met_with-met_nm.ensures _ c.onto.ensures _ c.answers_met.ensures
 
-pub returns-in-Refused : goal.returns-in-Refused
-returns-in-Refused c = c.refused-in-Refused.ensures ∙ not_taken _ _ _ _ (sym (ap Gate.outcome c.in-Refused.is) ∙ c.gate.ensures)
+pub returns-in_err-count : goal.returns-in_err-count
+returns-in_err-count c =
+    let p = err_from_is_err_and c.from_residual.result c.from_residual.ensures.1 in
+    rw (p.1, p.2) (not_taken _ _ _ _ c.in_err-count.ensures)

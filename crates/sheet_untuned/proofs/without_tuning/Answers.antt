@@ -3,13 +3,13 @@ use mathlib.Core.Path.{◌≡◌, sym, ap, ◌∙◌}
 use mathlib.Core.List.{List}
 use Prim.Native.Nat.{ℕ, ◌-◌, ◌≤◌, ◌<◌}
 use borrow.Author.Rules.{rules}
+use Rattle.std.proofs.lemmas.Result.{err_from_is_err_and}
 use Rattle.refusal.specs.declared.Refusal.{Refusal}
-use Rattle.refusal.specs.Outcome.{Outcome, answer, refusal, refused, map, bind}
+use Rattle.refusal.specs.Outcome.{Outcome, answer, refusal, refused, map, bind, number_of, place_of}
 use Rattle.sheet.specs.Words.{count}
 use Rattle.sheet.specs.Sheet.{Sheet, blocks, places}
 use Rattle.sheet.specs.Read.{surfaces_of}
 use Rattle.sheet.proofs.Stands.{Known}
-use Rattle.gate.specs.Gate as Gate
 use Rattle.gate.specs.Gate.{gated, gate}
 use Rattle.gate.proofs.Admitted.{admitted, turned_back}
 use Rattle.sheet_untuned.specs.Untuned.{no_tuning, without_tuning}
@@ -28,13 +28,15 @@ module _ (src : List ℕ) where
 
   not_taken : (r : Refusal) → refused r ≡ gate src → refused r ≡ map surfaces_of (without_tuning src)
   unfolding without_tuning
-  not_taken r e = sym (ap (λ (o : Outcome Sheet). map surfaces_of (bind o (λ (x : Sheet). no_tuning x (places x) (blocks x)))) (turned_back src r.number r.place e))
+  not_taken r e = sym (ap (λ (o : Outcome Sheet). map surfaces_of (bind o (λ (x : Sheet). no_tuning x (places x) (blocks x)))) (turned_back src (number_of r) (place_of r) e))
 
 pub returns-then-place-src : goal.returns-then-place-src
-returns-then-place-src c = tuned _ _ c.type_inv.src (sym (ap Gate.outcome c.in-Admitted.is) ∙ c.gate.ensures) _ c.first_tuning-place.ensures c.if-place-src.true
+returns-then-place-src c = tuned _ _ c.type_inv.src c.in_ok-count.ensures _ c.first_tuning-place.ensures c.if-place-src.true
 
-pub returns-else-place-src : goal.returns-else-place-src
-returns-else-place-src c = taken _ _ c.type_inv.src (sym (ap Gate.outcome c.in-Admitted.is) ∙ c.gate.ensures) _ c.first_tuning-place.ensures c.if-place-src.false
+pub returns : goal.returns
+returns c = taken _ _ c.type_inv.src c.in_ok-count.ensures _ c.first_tuning-place.ensures c.if-place-src.false
 
-pub returns-in-Refused : goal.returns-in-Refused
-returns-in-Refused c = not_taken _ _ (sym (ap Gate.outcome c.in-Refused.is) ∙ c.gate.ensures)
+pub returns-in_err-count : goal.returns-in_err-count
+returns-in_err-count c =
+    let p = err_from_is_err_and c.from_residual.result c.from_residual.ensures.1 in
+    rw (p.1, p.2) (not_taken _ _ c.in_err-count.ensures)

@@ -5,11 +5,11 @@ use mathlib.Core.List.{List}
 use Prim.Native.Nat.{ℕ}
 use borrow.Author.Tests.{not-true, not-false}
 use lib.Ieee.{Float}
+use Rattle.std.proofs.lemmas.Result.{err_from_is_err_and}
 use Rattle.refusal.specs.declared.Refusal.{Refusal}
-use Rattle.refusal.specs.Outcome.{Outcome, answer, refusal, refused, bind}
+use Rattle.refusal.specs.Outcome.{Outcome, answer, refusal, refused, bind, number_of, place_of}
 use Rattle.sheet.specs.Sheet.{Sheet}
 use Rattle.sheet.proofs.Stands.{Known}
-use Rattle.gate.specs.Gate as Gate
 use Rattle.gate.specs.Gate.{gate}
 use Rattle.gate.specs.Internal.{holds_at}
 use Rattle.gate.proofs.Admitted.{admitted, turned_back}
@@ -30,13 +30,15 @@ module _ (src : List ℕ) (st : State) (w : Float) where
 
   not_taken : (r : Refusal) → refused r ≡ gate src → refused r ≡ retune src st w
   unfolding retune
-  not_taken r e = sym (ap (λ (o : Outcome Sheet). bind o (retuned w st)) (turned_back src r.number r.place e))
+  not_taken r e = sym (ap (λ (o : Outcome Sheet). bind o (retuned w st)) (turned_back src (number_of r) (place_of r) e))
 
 pub returns-then-not-holds : goal.returns-then-not-holds
-returns-then-not-holds c = bad_wavelength _ _ _ _ c.type_inv.src (sym (ap Gate.outcome c.in-Admitted.is) ∙ c.gate.ensures) _ c.holds.ensures (ap not c.if-not-holds.true)
+returns-then-not-holds c = bad_wavelength _ _ _ _ c.type_inv.src c.in_ok-count.ensures _ c.holds.ensures (ap not c.if-not-holds.true)
 
-pub returns-else-not-holds : goal.returns-else-not-holds
-returns-else-not-holds c = tuned _ _ _ _ c.type_inv.src (sym (ap Gate.outcome c.in-Admitted.is) ∙ c.gate.ensures) _ c.holds.ensures (ap not c.if-not-holds.false)
+pub returns : goal.returns
+returns c = tuned _ _ _ _ c.type_inv.src c.in_ok-count.ensures _ c.holds.ensures (ap not c.if-not-holds.false)
 
-pub returns-in-Refused : goal.returns-in-Refused
-returns-in-Refused c = not_taken _ _ _ _ (sym (ap Gate.outcome c.in-Refused.is) ∙ c.gate.ensures)
+pub returns-in_err-count : goal.returns-in_err-count
+returns-in_err-count c =
+    let p = err_from_is_err_and c.from_residual.result c.from_residual.ensures.1 in
+    rw (p.1, p.2) (not_taken _ _ _ _ c.in_err-count.ensures)

@@ -1,16 +1,16 @@
 -- `train_steps::run` meets its contract. Assumes nothing.
-use mathlib.Core.Path.{◌≡◌, sym, ap, ◌∙◌}
+use mathlib.Core.Path.{◌≡◌, sym, ap, ◌∙◌, refl}
 use Prim.Native.Nat.{ℕ, ◌*◌, ◌≤◌, ◌<◌}
 use native.Mathlib.Omega.{arith}
 use borrow.Author.Tests.{le-leb, lt-leb}
 use mathlib.Core.List.{List, ◌++◌}
 use lib.ListN.{length, drop}
 use lib.Ieee.{Float}
+use Rattle.std.proofs.lemmas.Result.{err_from_is_err_and}
 use Rattle.refusal.specs.declared.Refusal.{Refusal}
-use Rattle.refusal.specs.Outcome.{answer, refusal, refused}
+use Rattle.refusal.specs.Outcome.{answer, refusal, refused, number_of, place_of}
 use Rattle.sheet.specs.Sheet.{Sheet}
 use Rattle.sheet.proofs.Stands.{Known}
-use Rattle.gate.specs.Gate as Gate
 use Rattle.gate.specs.Gate.{gated, gate}
 use Rattle.gate.proofs.Admitted.{admitted, turned_back}
 use Rattle.gate.proofs.Index.{result_is, read_back}
@@ -38,19 +38,21 @@ module _ (src : List ℕ) (list : List Float) where
 
   not_run : (r : Refusal) → refused r ≡ gate src → record { result = refused r; list = list } ≡ run src list
   unfolding run
-  not_run r e = sym (ap (ran list) (turned_back src r.number r.place e))
+  not_run r e = sym (ap (ran list) (turned_back src (number_of r) (place_of r) e))
 
 pub returns-then-list-n : goal.returns-then-list-n
 returns-then-list-n c =
-    too_short _ _ _ c.type_inv.src (sym (ap Gate.outcome c.in-Admitted.is) ∙ result_is _ _ _ _ _ _ c.gate_index.ensures) c.if-list-n.true
+    too_short _ _ _ c.type_inv.src (result_is _ _ _ _ _ _ c.in_ok-count.ensures) c.if-list-n.true
 
 pub write_each-requires : goal.write_each-requires
 write_each-requires c =
-    (c.if-list-n.false, read_back _ _ _ _ _ _ c.gate_index.ensures c.type_inv.src _ (ap Gate.outcome c.in-Admitted.is))
+    (c.if-list-n.false, read_back _ _ _ _ _ _ c.in_ok-count.ensures c.type_inv.src _ refl)
 
-pub returns-else-list-n : goal.returns-else-list-n
-returns-else-list-n c =
-    whole _ _ _ c.type_inv.src (sym (ap Gate.outcome c.in-Admitted.is) ∙ result_is _ _ _ _ _ _ c.gate_index.ensures) c.if-list-n.false _ c.write_each.ensures
+pub returns : goal.returns
+returns c =
+    whole _ _ _ c.type_inv.src (result_is _ _ _ _ _ _ c.in_ok-count.ensures) c.if-list-n.false _ c.write_each.ensures
 
-pub returns-in-Refused : goal.returns-in-Refused
-returns-in-Refused c = not_run _ _ _ (sym (ap Gate.outcome c.in-Refused.is) ∙ result_is _ _ _ _ _ _ c.gate_index.ensures)
+pub returns-in_err-count : goal.returns-in_err-count
+returns-in_err-count c =
+    let p = err_from_is_err_and c.from_residual.result c.from_residual.ensures.1 in
+    rw (p.1, p.2) (not_run _ _ _ (result_is _ _ _ _ _ _ c.in_err-count.ensures))

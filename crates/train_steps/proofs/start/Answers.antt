@@ -1,14 +1,16 @@
 -- `train_steps::start` meets its contract. Assumes nothing.
 use mathlib.Core.Path.{◌≡◌, sym, ap, ◌∙◌}
-use Prim.Native.Nat.{ℕ}
+use Prim.Native.Nat.{ℕ, ◌-◌}
+use borrow.Author.Rules.{rules}
 use mathlib.Core.List.{List}
+use lib.Ieee.{Float}
+use Rattle.std.proofs.lemmas.Result.{err_from_is_err_and}
 use Rattle.refusal.specs.declared.Refusal.{Refusal}
-use Rattle.refusal.specs.Outcome.{answer, refused, map}
+use Rattle.refusal.specs.Outcome.{answer, refused, map, number_of, place_of}
 use Rattle.sheet.specs.Internal.{next_place}
 use Rattle.sheet.proofs.Stands.{Known}
 use Rattle.sheet_values.specs.declared.Beam.{Beam}
 use Rattle.sheet_values.specs.Internal.{beam_at}
-use Rattle.gate.specs.Gate as Gate
 use Rattle.gate.specs.Gate.{gate}
 use Rattle.gate.proofs.Admitted.{admitted, turned_back}
 use Rattle.train_steps.specs.declared.State.{State}
@@ -27,10 +29,12 @@ begun src n known e b f =
 
 not_begun : (src : List ℕ) (r : Refusal) → refused r ≡ gate src → refused r ≡ start src
 unfolding start
-not_begun src r e = sym (ap (map fresh) (turned_back src r.number r.place e))
+not_begun src r e = sym (ap (map fresh) (turned_back src (number_of r) (place_of r) e))
 
-pub returns-in-Admitted : goal.returns-in-Admitted
-returns-in-Admitted c = begun _ _ c.type_inv.src (sym (ap Gate.outcome c.in-Admitted.is) ∙ c.gate.ensures) _ c.beam_of-beam.ensures
+pub returns : goal.returns
+returns c = begun _ _ c.type_inv.src c.in_ok-gate.ensures _ c.beam_of-beam.ensures
 
-pub returns-in-Refused : goal.returns-in-Refused
-returns-in-Refused c = not_begun _ _ (sym (ap Gate.outcome c.in-Refused.is) ∙ c.gate.ensures)
+pub returns-in_err-gate : goal.returns-in_err-gate
+returns-in_err-gate c =
+    let p = err_from_is_err_and c.from_residual.result c.from_residual.ensures.1 in
+    rw (p.1, p.2) (not_begun _ _ c.in_err-gate.ensures)

@@ -7,8 +7,9 @@ use native.Mathlib.Omega.{arith}
 use borrow.Author.Tests.{lt-ltb, le-ltb, not-true, not-false}
 use lib.ListN.{length, drop}
 use lib.Ieee.{Float}
+use Rattle.std.proofs.lemmas.Result.{err_from_is_err_and}
 use Rattle.refusal.specs.declared.Refusal.{Refusal}
-use Rattle.refusal.specs.Outcome.{Outcome, answer, refusal, refused, bind}
+use Rattle.refusal.specs.Outcome.{Outcome, answer, refusal, refused, bind, number_of, place_of}
 use Rattle.sheet.specs.Sheet.{Sheet}
 use Rattle.sheet.specs.Internal.{begin}
 use Rattle.sheet.proofs.Stands.{Known}
@@ -17,7 +18,6 @@ use Rattle.gate_limits.specs.Limits.{wavelength_passes}
 use Rattle.gate.specs.Wavelength.{holds}
 use Rattle.gate.specs.Internal.{layers_hold_at, holds_from, holds_at}
 use Rattle.gate.proofs.Index.{few, result_is, read_back}
-use Rattle.gate.specs.Gate as Gate
 use Rattle.gate.specs.Gate.{gate}
 use Rattle.gate.proofs.Admitted.{admitted, turned_back}
 use Rattle.train_steps.specs.declared.State.{State}
@@ -58,64 +58,59 @@ module _ (src : List ℕ) (st : State) where
 
   not_taken : (r : Refusal) → refused r ≡ gate src → refused r ≡ step src st
   unfolding step
-  not_taken r e = sym (ap (λ (o : Outcome Sheet). bind o (stepped st)) (turned_back src r.number r.place e))
+  not_taken r e = sym (ap (λ (o : Outcome Sheet). bind o (stepped st)) (turned_back src (number_of r) (place_of r) e))
 
 pub returns-then-state-count : goal.returns-then-state-count
 returns-then-state-count c =
-    no_more _ _ _ c.type_inv.src (sym (ap Gate.outcome c.in-Admitted.is) ∙ result_is _ _ _ _ _ _ c.gate_index.ensures) c.if-state-count.true
+    no_more _ _ _ c.type_inv.src (result_is _ _ _ _ _ _ c.in_ok-count.ensures) c.if-state-count.true
 
 pub bounds-begins-i : goal.bounds-begins-i
 bounds-begins-i c =
     let known = c.type_inv.src in
-    let e = ap Gate.outcome c.in-Admitted.is in
-    let admits = sym e ∙ result_is _ _ _ _ _ _ c.gate_index.ensures in
+    let admits = result_is _ _ _ _ _ _ c.in_ok-count.ensures in
     omega (arith, c.if-state-count.false, few _ _ known admits)
 
 pub bounds-sines-i : goal.bounds-sines-i
 bounds-sines-i c =
     let known = c.type_inv.src in
-    let e = ap Gate.outcome c.in-Admitted.is in
-    let admits = sym e ∙ result_is _ _ _ _ _ _ c.gate_index.ensures in
+    let admits = result_is _ _ _ _ _ _ c.in_ok-count.ensures in
     omega (arith, c.if-state-count.false, few _ _ known admits)
 
 pub bounds-cosines-i : goal.bounds-cosines-i
 bounds-cosines-i c =
     let known = c.type_inv.src in
-    let e = ap Gate.outcome c.in-Admitted.is in
-    let admits = sym e ∙ result_is _ _ _ _ _ _ c.gate_index.ensures in
+    let admits = result_is _ _ _ _ _ _ c.in_ok-count.ensures in
     omega (arith, c.if-state-count.false, few _ _ known admits)
 
 pub bounds-counts-i : goal.bounds-counts-i
 bounds-counts-i c =
     let known = c.type_inv.src in
-    let e = ap Gate.outcome c.in-Admitted.is in
-    let admits = sym e ∙ result_is _ _ _ _ _ _ c.gate_index.ensures in
+    let admits = result_is _ _ _ _ _ _ c.in_ok-count.ensures in
     omega (arith, c.if-state-count.false, few _ _ known admits)
 
 pub returns-then-not-holds_from : goal.returns-then-not-holds_from
 returns-then-not-holds_from c =
     let known = c.type_inv.src in
-    let e = ap Gate.outcome c.in-Admitted.is in
-    let admits = sym e ∙ result_is _ _ _ _ _ _ c.gate_index.ensures in
-    let index = read_back _ _ _ _ _ _ c.gate_index.ensures known _ e in
+    let admits = result_is _ _ _ _ _ _ c.in_ok-count.ensures in
+    let index = read_back _ _ _ _ _ _ c.in_ok-count.ensures known _ refl in
     bad_wavelength _ _ _ known admits c.if-state-count.false _ (from_there _ _ _ _ _ _ (index.begun _ c.if-state-count.false) c.holds_from.ensures) (ap not c.if-not-holds_from.true)
 
 pub moved_at-requires : goal.moved_at-requires
 moved_at-requires c =
     let known = c.type_inv.src in
-    let e = ap Gate.outcome c.in-Admitted.is in
-    let admits = sym e ∙ result_is _ _ _ _ _ _ c.gate_index.ensures in
-    let index = read_back _ _ _ _ _ _ c.gate_index.ensures known _ e in
+    let admits = result_is _ _ _ _ _ _ c.in_ok-count.ensures in
+    let index = read_back _ _ _ _ _ _ c.in_ok-count.ensures known _ refl in
     (omega (arith, c.if-state-count.false, few _ _ known admits), (layers_here _ _ _ _ _ _ index _ c.if-state-count.false _ refl, angles_here _ _ _ _ _ _ index _ c.if-state-count.false _ refl))
 
-pub returns-else-not-holds_from : goal.returns-else-not-holds_from
-returns-else-not-holds_from c =
+pub returns : goal.returns
+returns c =
     let known = c.type_inv.src in
-    let e = ap Gate.outcome c.in-Admitted.is in
-    let admits = sym e ∙ result_is _ _ _ _ _ _ c.gate_index.ensures in
-    let index = read_back _ _ _ _ _ _ c.gate_index.ensures known _ e in
+    let admits = result_is _ _ _ _ _ _ c.in_ok-count.ensures in
+    let index = read_back _ _ _ _ _ _ c.in_ok-count.ensures known _ refl in
     let begun = index.begun _ c.if-state-count.false in
     one_more _ _ _ known admits c.if-state-count.false _ (from_there _ _ _ _ _ _ begun c.holds_from.ensures) (ap not c.if-not-holds_from.false) _ begun _ c.moved_at.ensures
 
-pub returns-in-Refused : goal.returns-in-Refused
-returns-in-Refused c = not_taken _ _ _ (sym (ap Gate.outcome c.in-Refused.is) ∙ result_is _ _ _ _ _ _ c.gate_index.ensures)
+pub returns-in_err-count : goal.returns-in_err-count
+returns-in_err-count c =
+    let p = err_from_is_err_and c.from_residual.result c.from_residual.ensures.1 in
+    rw (p.1, p.2) (not_taken _ _ _ (result_is _ _ _ _ _ _ c.in_err-count.ensures))

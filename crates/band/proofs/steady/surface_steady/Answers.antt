@@ -1,6 +1,5 @@
 -- `band::steady::surface_steady` meets its contract. Assumes nothing.
 use Rattle.band.proofs.Always.{surface_is}
-use borrow.Author.Rules.{rules}
 use Rattle.band.proofs.steady.surface_steady.Goals as goal
 
 pub returns : goal.returns
