@@ -36,12 +36,12 @@ pub fn schlick_approx(cos_theta_i: f64, n1: f64, n2: f64, list: &mut [f64]) -> u
 pub fn surface_fresnel_jones(n1: f64, n2: f64, angle_i_rad: f64, list: &mut [f64]) -> u64
     ensures { done result list.new ≡ answered matrices (surface_fresnel_jones n1 n2 angle_i_rad) list.old }
 {
-    let surface = polarization::surface_fresnel_jones(n1, n2, angle_i_rad);
-    if surface.refusal != 0 {
-        return c_call::packed(refusal::INVALID_PARAMETER);
+    match polarization::surface_fresnel_jones(n1, n2, angle_i_rad) {
+        Ok(surface) => {
+            let reflection = surface.reflection;
+            let transmission = surface.transmission;
+            c_call::put_two_jones(reflection, transmission, list)
+        }
+        Err(r) => c_call::packed(r),
     }
-    let m = surface.matrices;
-    let reflection = m.reflection;
-    let transmission = m.transmission;
-    c_call::put_two_jones(reflection, transmission, list)
 }

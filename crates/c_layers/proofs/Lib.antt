@@ -1,6 +1,6 @@
 -- laws
 pub mod Triples
 pub mod Plain
-pub mod Numbers
+pub mod Checked
 pub mod Codes
 mod Chunks

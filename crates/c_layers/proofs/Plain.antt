@@ -1,4 +1,5 @@
 -- A refusal of an evaluation has no place, and its number is not 0. Assumes nothing.
+use Rattle.std.specs.Prelude.{None, Option, Some}
 use Prim.Native.Nat.{ℕ, ◌<◌, ◌%◌}
 use native.Mathlib.Omega.{arith}
 use mathlib.Core.Path.{◌≡◌, refl}
@@ -19,8 +20,6 @@ use Rattle.thin_film_layers.specs.Evaluation.{ordered}
 use Rattle.thin_film_valid.specs.Valid.{valid}
 use Rattle.thin_film_coating.specs.Evaluate.{rust_respond, rust_evaluate_coating, evaluate_coating}
 use Rattle.thin_film.specs.Evaluate.{rust_evaluate_surface, evaluate_surface}
-use Rattle.gate_limits.specs.declared.Interface.{Interface}
-use Rattle.gate_limits.specs.declared.Interface.TheVariants.{Bare, Coated}
 use Rattle.c_layers.specs.Evaluate.{layers, call_coating, evaluate_coded, evaluate}
 
 abbrev pub Plain : {A : Type 0} → Outcome A → Type 0
@@ -52,10 +51,10 @@ module _ (n_incident n_substrate angle wavelength : Float) where
   unfolding evaluate_coating rust_evaluate_surface evaluate_surface
   of_surface s ls = of_coating (coating_of s) (ordered (lt n_substrate n_incident) (layers_of s ls))
 
-  of_coded : (k : Interface) (flat : List Float) → Plain (evaluate_coded k flat n_incident n_substrate angle wavelength)
+  of_coded : (k : Option SurfaceCoating) (flat : List Float) → Plain (evaluate_coded k flat n_incident n_substrate angle wavelength)
   unfolding evaluate_coded
-  of_coded (Coated s) flat = of_surface s (layers flat)
-  of_coded Bare flat = (omega arith, refl)
+  of_coded (Some s) flat = of_surface s (layers flat)
+  of_coded None flat = (omega arith, refl)
 
   pub of_code : (code : ℕ) (design : Float) (flat : List Float) → Plain (evaluate code design n_incident n_substrate angle wavelength flat)
   unfolding evaluate

@@ -5,19 +5,20 @@
 ghost use Rattle.std.specs.Prelude.{◌≡◌, List, ◌<◌, ◌+◌, ◌*◌, ◌≤◌, ◌/◌, ◌-◌, cond, length, get_or, take, drop};
 ghost use Rattle.thin_film_solver.specs.declared.ThinFilmLayer as Layer;
 ghost use Rattle.thin_film_solver.specs.Internal.{solved};
-ghost use Rattle.thin_film_layers.specs.Evaluation.{ordered, no_layer, outcome};
+ghost use Rattle.thin_film_layers.specs.Evaluation.{ordered, no_layer};
 ghost use Rattle.surface_real.specs.Internal.{no_films, stacked};
-ghost use Rattle.thin_film.specs.Evaluate.{evaluate_surface};
-ghost use Rattle.c_layers.specs.Evaluate.{layers, call_coating, evaluate, refusal_number};
+ghost use Rattle.thin_film.specs.Evaluate.{evaluate_surface, refusal_of};
+ghost use Rattle.c_layers.specs.Evaluate.{layers, call_coating, evaluate};
 ghost use Rattle.surface_real.specs.InternalFilms.{Wrote};
 ghost use Rattle.thin_film.specs.Internal.{own_layers};
-ghost use Rattle.c_layers.specs.Internal.{layer_on, number_custom};
+ghost use Rattle.c_layers.specs.Internal.{layer_on, checked_custom};
+ghost use Rattle.refusal.specs.Outcome.{outcome};
 
-use gate_limits::Interface;
+use refusal::Refusal;
 use surface_real::Stack;
 use thin_film::{SurfaceCoating, reading};
 use thin_film_coating::Coating;
-use thin_film_layers::{Evaluation, Prepared};
+use thin_film_layers::Prepared;
 use thin_film_solver::{CoatingResponse, Incidence, ThinFilmLayer};
 
 // The j-th layer.
@@ -171,7 +172,7 @@ fn evaluate_known(
     n_substrate: f64,
     angle_incident_rad: f64,
     wavelength_nm: f64,
-) -> Evaluation
+) -> Result<CoatingResponse, Refusal>
     ensures { outcome result ≡ evaluate_surface coating (layers flat.now) n_incident n_substrate angle_incident_rad wavelength_nm }
 {
     match reading::prepare(
@@ -183,18 +184,16 @@ fn evaluate_known(
         wavelength_nm,
     ) {
         Prepared::Answered(answer) => answer,
-        Prepared::Layers { reversed, light } => Evaluation::Response(solve(
-            coating, flat, reversed, light,
-        )),
+        Prepared::Layers { reversed, light } => Ok(solve(coating, flat, reversed, light)),
     }
 }
 
 // From a code to a coating: a sheet's codes, and 8 for Custom(IdealAr).
-fn coating_of(code: u32, design_wavelength_nm: f64) -> Interface
+fn coating_of(code: u32, design_wavelength_nm: f64) -> Option<SurfaceCoating>
     ensures { result ≡ call_coating code design_wavelength_nm }
 {
     if code == 8 {
-        return Interface::Coated(SurfaceCoating::Custom(Coating::IdealAr));
+        return Some(SurfaceCoating::Custom(Coating::IdealAr));
     }
     gate_limits::coded(code, design_wavelength_nm)
 }
@@ -209,14 +208,14 @@ pub fn evaluate(
     angle_incident_rad: f64,
     wavelength_nm: f64,
     flat: &[f64],
-) -> Evaluation
+) -> Result<CoatingResponse, Refusal>
     ensures { outcome result ≡ evaluate code design_wavelength_nm n_incident n_substrate angle_incident_rad wavelength_nm flat.now }
 {
     if flat.len() % 3 != 0 {
-        return Evaluation::Refused(refusal::INVALID_PARAMETER);
+        return Err(Refusal::InvalidParameter);
     }
     match coating_of(code, design_wavelength_nm) {
-        Interface::Coated(coating) => evaluate_known(
+        Some(coating) => evaluate_known(
             coating,
             flat,
             n_incident,
@@ -224,51 +223,55 @@ pub fn evaluate(
             angle_incident_rad,
             wavelength_nm,
         ),
-        Interface::Bare => Evaluation::Refused(refusal::INVALID_PARAMETER),
+        None => Err(Refusal::InvalidParameter),
     }
 }
 
 // ---- without an evaluation
 
 // More than 64 explicit layers are refused with 3; any other coating of a user's ignores them.
-fn number_custom(coating: Coating, count: usize) -> u32
-    ensures { result ≡ number_custom coating count }
+fn check_custom(coating: Coating, count: usize) -> Result<(), Refusal>
+    ensures { outcome result ≡ checked_custom coating count }
 {
     match coating {
-        Coating::Multilayer => if count > 64 { 3 } else { 0 },
-        Coating::IdealAr => 0,
-        Coating::IdealMirror => 0,
-        Coating::IdealBeamsplitter => 0,
+        Coating::Multilayer => if count > 64 {
+            Err(Refusal::TooManyLayers)
+        } else {
+            Ok(())
+        },
+        Coating::IdealAr => Ok(()),
+        Coating::IdealMirror => Ok(()),
+        Coating::IdealBeamsplitter => Ok(()),
     }
 }
 
-// How a coating beside so many layers is refused: 1, then 3; 0 where it is answered.
-fn number_known(
+// How a coating beside so many layers is refused: 1, then 3.
+fn check_known(
     coating: SurfaceCoating,
     count: usize,
     n_incident: f64,
     n_substrate: f64,
     angle_incident_rad: f64,
     wavelength_nm: f64,
-) -> u32
-    ensures { (beside : List Layer.ThinFilmLayer) → length beside ≡ count → result ≡ refusal_number (evaluate_surface coating beside n_incident n_substrate angle_incident_rad wavelength_nm) }
+) -> Result<(), Refusal>
+    ensures { (beside : List Layer.ThinFilmLayer) → length beside ≡ count → outcome result ≡ refusal_of (evaluate_surface coating beside n_incident n_substrate angle_incident_rad wavelength_nm) }
 {
     if !thin_film_valid::valid(n_incident, n_substrate, angle_incident_rad, wavelength_nm) {
-        return 1;
+        return Err(Refusal::InvalidParameter);
     }
     match coating {
-        SurfaceCoating::Custom(custom) => number_custom(custom, count),
-        SurfaceCoating::IdealAr => 0,
+        SurfaceCoating::Custom(custom) => check_custom(custom, count),
+        SurfaceCoating::IdealAr => Ok(()),
         SurfaceCoating::MgF2 {
             design_wavelength_nm: _,
-        } => 0,
-        SurfaceCoating::BroadbandAr => 0,
-        SurfaceCoating::HighReflectanceMirror => 0,
+        } => Ok(()),
+        SurfaceCoating::BroadbandAr => Ok(()),
+        SurfaceCoating::HighReflectanceMirror => Ok(()),
     }
 }
 
-// The number that evaluate refuses with, and 0 where it answers; no layer is read for it.
-pub fn refusal_number(
+// What evaluate refuses with, or nothing where it answers; no layer is read for it.
+pub fn check(
     code: u32,
     design_wavelength_nm: f64,
     n_incident: f64,
@@ -276,14 +279,14 @@ pub fn refusal_number(
     angle_incident_rad: f64,
     wavelength_nm: f64,
     flat: &[f64],
-) -> u32
-    ensures { result ≡ refusal_number (evaluate code design_wavelength_nm n_incident n_substrate angle_incident_rad wavelength_nm flat.now) }
+) -> Result<(), Refusal>
+    ensures { outcome result ≡ refusal_of (evaluate code design_wavelength_nm n_incident n_substrate angle_incident_rad wavelength_nm flat.now) }
 {
     if flat.len() % 3 != 0 {
-        return 1;
+        return Err(Refusal::InvalidParameter);
     }
     match coating_of(code, design_wavelength_nm) {
-        Interface::Coated(coating) => number_known(
+        Some(coating) => check_known(
             coating,
             flat.len() / 3,
             n_incident,
@@ -291,6 +294,6 @@ pub fn refusal_number(
             angle_incident_rad,
             wavelength_nm,
         ),
-        Interface::Bare => 1,
+        None => Err(Refusal::InvalidParameter),
     }
 }

@@ -10,6 +10,7 @@ ghost use Rattle.c_call.specs.Layout.{rows};
 ghost use Rattle.c_mueller.specs.Mueller.{jones, converted};
 
 use polarization_mueller::JonesMatrix;
+use refusal::Refusal;
 use thin_film_complex::Complex;
 
 // The Jones matrix of 8 numbers: m00, m01, m10, m11, each as re, im.
@@ -45,7 +46,7 @@ pub fn to_mueller(numbers: &[f64], list: &mut [f64]) -> u64
     ensures { done result list.new ≡ answered rows (converted to_mueller numbers.now) list.old }
 {
     if numbers.len() != 8 {
-        return c_call::packed(refusal::INVALID_PARAMETER);
+        return c_call::packed(Refusal::InvalidParameter);
     }
     c_call::put_mueller(jones(numbers).to_mueller(), list)
 }
@@ -55,7 +56,7 @@ pub fn mueller_born_wolf(numbers: &[f64], list: &mut [f64]) -> u64
     ensures { done result list.new ≡ answered rows (converted to_mueller_born_wolf numbers.now) list.old }
 {
     if numbers.len() != 8 {
-        return c_call::packed(refusal::INVALID_PARAMETER);
+        return c_call::packed(Refusal::InvalidParameter);
     }
     c_call::put_mueller(
         polarization_born_wolf::to_mueller_born_wolf(jones(numbers)),

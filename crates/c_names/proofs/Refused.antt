@@ -2,7 +2,7 @@
 use mathlib.Core.Path.{◌≡◌, refl}
 use mathlib.Core.Bool.{Bool, true, false, cond}
 use mathlib.Core.List.{List}
-use mathlib.Core.Option.{Option, none, some}
+use Rattle.std.specs.Prelude.{Option, None, Some}
 use Prim.Native.Nat.{ℕ, ◌^◌, ◌<◌}
 use native.Mathlib.Omega.{arith}
 use lib.Dec.{ltb, lit<}
@@ -34,12 +34,12 @@ name_sound name = long (ltb 32 (length name)) refl
     long false e = over (ltb (first_over name) (length name)) refl (omega (arith, ltb-false 32 (length name) e))
 
 pub small : (coating : Option SurfaceCoating) → named_code coating < 2 ^ 32
-small none = lit< tt
-small (some S.IdealAr) = lit< tt
-small (some (S.MgF2 design)) = lit< tt
-small (some S.BroadbandAr) = lit< tt
-small (some S.HighReflectanceMirror) = lit< tt
-small (some (S.Custom C.Multilayer)) = lit< tt
-small (some (S.Custom C.IdealBeamsplitter)) = lit< tt
-small (some (S.Custom C.IdealMirror)) = lit< tt
-small (some (S.Custom C.IdealAr)) = lit< tt
+small None = lit< tt
+small (Some S.IdealAr) = lit< tt
+small (Some (S.MgF2 design)) = lit< tt
+small (Some S.BroadbandAr) = lit< tt
+small (Some S.HighReflectanceMirror) = lit< tt
+small (Some (S.Custom C.Multilayer)) = lit< tt
+small (Some (S.Custom C.IdealBeamsplitter)) = lit< tt
+small (Some (S.Custom C.IdealMirror)) = lit< tt
+small (Some (S.Custom C.IdealAr)) = lit< tt

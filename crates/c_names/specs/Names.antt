@@ -1,14 +1,11 @@
 -- What dihkelu_coating_from_name returns, and what dihkelu_coating_name and dihkelu_trim return and leave. Definitions only.
-use Rattle.std.specs.Prelude.{◌≡◌, ℕ, cond, List, ◌++◌, leb, length, drop, Float}
-use Rattle.std.proofs.Math.Option.{Option, none, some}
+use Rattle.std.specs.Prelude.{◌≡◌, ℕ, cond, List, ◌++◌, leb, length, drop, Float, Option, None, Some}
 use Rattle.refusal.specs.Outcome.{Outcome, answer, refusal, map}
 use Rattle.thin_film_coating.specs.declared.Coating.TheVariants as C
 use Rattle.thin_film.specs.declared.SurfaceCoating.{SurfaceCoating}
 use Rattle.thin_film.specs.declared.SurfaceCoating.TheVariants as S
 use Rattle.thin_film.specs.Coating.{standard_wavelength}
 use Rattle.name_coating.specs.Name.{from_format_name, format_name}
-use Rattle.gate_limits.specs.declared.Interface.{Interface}
-use Rattle.gate_limits.specs.declared.Interface.TheVariants.{Bare, Coated}
 use Rattle.c_layers.specs.Evaluate.{call_coating}
 use Rattle.name_bytes.specs.Trim.{span}
 use Rattle.c_call.specs.Call.{packed}
@@ -26,8 +23,8 @@ code_of (S.Custom C.IdealAr) = 8
 
 -- 0 for no coating
 abbrev pub named_code : Option SurfaceCoating → ℕ
-named_code none = 0
-named_code (some coating) = code_of coating
+named_code None = 0
+named_code (Some coating) = code_of coating
 
 -- the design wavelength of a coating that has one; of a name it is 550
 abbrev pub design_of : SurfaceCoating → Float
@@ -39,13 +36,13 @@ design_of (S.Custom c) = standard_wavelength
 
 -- the claim: dihkelu_evaluate has the coating by its code; proofs/Codes.antt has the proof
 abbrev pub CodesClaim : Type 0
-CodesClaim = (coating : SurfaceCoating) → call_coating (code_of coating) (design_of coating) ≡ Coated coating
+CodesClaim = (coating : SurfaceCoating) → call_coating (code_of coating) (design_of coating) ≡ Some coating
 
 -- ---- dihkelu_coating_name
 -- to_format_name; 2 where there is no coating
-abbrev pub name_of : Interface → Outcome (List ℕ)
-name_of (Coated coating) = answer (format_name coating)
-name_of Bare = refusal 2 0
+abbrev pub name_of : Option SurfaceCoating → Outcome (List ℕ)
+name_of (Some coating) = answer (format_name coating)
+name_of None = refusal 2 0
 
 -- of the coating that dihkelu_evaluate has by a code; no name depends on the design wavelength
 abbrev pub coating_name : ℕ → Outcome (List ℕ)

@@ -11,8 +11,6 @@ ghost use Rattle.c_layers.specs.Evaluate.{call_coating};
 ghost use Rattle.c_call.specs.Call.{returned};
 ghost use Rattle.c_names.specs.Names.{code_of, named_code, left, laid, name_left, coating_name, cut, trim_left};
 
-use gate_limits::Interface;
-use name_coating::Named;
 use thin_film::SurfaceCoating;
 use thin_film_coating::Coating;
 
@@ -48,20 +46,20 @@ pub fn coating_from_name(name: &[u8]) -> u64
     ensures { result ≡ returned (map named_code (from_format_name name.now)) }
 {
     match name_coating::from_format_name(name) {
-        Named::Coating(coating) => code_of(coating) as u64,
-        Named::Nothing => 0,
-        Named::Refused(r) => c_call::packed(r),
+        Ok(Some(coating)) => code_of(coating) as u64,
+        Ok(None) => 0,
+        Err(r) => c_call::packed(r),
     }
 }
 
 // ---- to_format_name
 
 // The coating that dihkelu_evaluate has by a code; an MgF2 at 550 nm.
-fn coating_of(code: u32) -> Interface
+fn coating_of(code: u32) -> Option<SurfaceCoating>
     ensures { result ≡ call_coating code standard_wavelength }
 {
     if code == 8 {
-        return Interface::Coated(SurfaceCoating::Custom(Coating::IdealAr));
+        return Some(SurfaceCoating::Custom(Coating::IdealAr));
     }
     gate_limits::coded(code, 550.0)
 }
@@ -103,8 +101,8 @@ pub fn coating_name(code: u32, output: &mut [u8]) -> u64
     ensures { left result output.new ≡ name_left (coating_name code) output.old }
 {
     match coating_of(code) {
-        Interface::Coated(coating) => put_name(coating, output),
-        Interface::Bare => 0x2_0000_0000,
+        Some(coating) => put_name(coating, output),
+        None => 0x2_0000_0000,
     }
 }
 

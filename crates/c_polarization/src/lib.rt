@@ -13,6 +13,7 @@ ghost use Rattle.c_polarization.specs.Numbers.{of, of_two, vector, stokes, muell
 
 use polarization_mueller::{JonesMatrix, MuellerMatrix};
 use polarization_stokes::{JonesVector, StokesVector};
+use refusal::Refusal;
 use thin_film_complex::Complex;
 
 // ---- what was lent
@@ -143,7 +144,7 @@ pub fn to_stokes(numbers: &[f64], list: &mut [f64]) -> u64
     ensures { done result list.new ≡ answered parameters (of 4 (λ given. to_stokes (vector given)) numbers.now) list.old }
 {
     if numbers.len() != 4 {
-        return c_call::packed(refusal::INVALID_PARAMETER);
+        return c_call::packed(Refusal::InvalidParameter);
     }
     put_stokes(vector(numbers).to_stokes(), list)
 }
@@ -153,7 +154,7 @@ pub fn jones_normalize(numbers: &[f64], list: &mut [f64]) -> u64
     ensures { done result list.new ≡ answered parts (of 4 (λ given. normalize (vector given)) numbers.now) list.old }
 {
     if numbers.len() != 4 {
-        return c_call::packed(refusal::INVALID_PARAMETER);
+        return c_call::packed(Refusal::InvalidParameter);
     }
     put_vector(vector(numbers).normalize(), list)
 }
@@ -163,7 +164,7 @@ pub fn jones_intensity(numbers: &[f64], list: &mut [f64]) -> u64
     ensures { done result list.new ≡ answered alone (of 4 (λ given. intensity (vector given)) numbers.now) list.old }
 {
     if numbers.len() != 4 {
-        return c_call::packed(refusal::INVALID_PARAMETER);
+        return c_call::packed(Refusal::InvalidParameter);
     }
     c_call::put_one(vector(numbers).intensity(), list)
 }
@@ -173,7 +174,7 @@ pub fn diattenuator(numbers: &[f64], list: &mut [f64]) -> u64
     ensures { done result list.new ≡ answered entries (of 4 (λ given. diattenuator (vector given).ex (vector given).ey) numbers.now) list.old }
 {
     if numbers.len() != 4 {
-        return c_call::packed(refusal::INVALID_PARAMETER);
+        return c_call::packed(Refusal::InvalidParameter);
     }
     diattenuating(vector(numbers), list)
 }
@@ -185,7 +186,7 @@ pub fn stokes_figures(numbers: &[f64], list: &mut [f64]) -> u64
     ensures { done result list.new ≡ answered figures (of 4 (λ given. stokes given) numbers.now) list.old }
 {
     if numbers.len() != 4 {
-        return c_call::packed(refusal::INVALID_PARAMETER);
+        return c_call::packed(Refusal::InvalidParameter);
     }
     put_figures(stokes(numbers), list)
 }
@@ -197,10 +198,10 @@ pub fn jones_apply(matrix: &[f64], numbers: &[f64], list: &mut [f64]) -> u64
     ensures { done result list.new ≡ answered parts (of_two 8 4 (λ given other. apply (Matrix.jones given) (vector other)) matrix.now numbers.now) list.old }
 {
     if matrix.len() != 8 {
-        return c_call::packed(refusal::INVALID_PARAMETER);
+        return c_call::packed(Refusal::InvalidParameter);
     }
     if numbers.len() != 4 {
-        return c_call::packed(refusal::INVALID_PARAMETER);
+        return c_call::packed(Refusal::InvalidParameter);
     }
     put_vector(jones(matrix).apply(vector(numbers)), list)
 }
@@ -210,10 +211,10 @@ pub fn jones_mul(matrix: &[f64], numbers: &[f64], list: &mut [f64]) -> u64
     ensures { done result list.new ≡ answered entries (of_two 8 8 (λ given other. mul (Matrix.jones given) (Matrix.jones other)) matrix.now numbers.now) list.old }
 {
     if matrix.len() != 8 {
-        return c_call::packed(refusal::INVALID_PARAMETER);
+        return c_call::packed(Refusal::InvalidParameter);
     }
     if numbers.len() != 8 {
-        return c_call::packed(refusal::INVALID_PARAMETER);
+        return c_call::packed(Refusal::InvalidParameter);
     }
     c_call::put_jones(jones(matrix).mul(jones(numbers)), list)
 }
@@ -223,10 +224,10 @@ pub fn mueller_apply(matrix: &[f64], numbers: &[f64], list: &mut [f64]) -> u64
     ensures { done result list.new ≡ answered parameters (of_two 16 4 (λ given other. apply_mueller (mueller given) (stokes other)) matrix.now numbers.now) list.old }
 {
     if matrix.len() != 16 {
-        return c_call::packed(refusal::INVALID_PARAMETER);
+        return c_call::packed(Refusal::InvalidParameter);
     }
     if numbers.len() != 4 {
-        return c_call::packed(refusal::INVALID_PARAMETER);
+        return c_call::packed(Refusal::InvalidParameter);
     }
     put_stokes(mueller(matrix).apply(stokes(numbers)), list)
 }

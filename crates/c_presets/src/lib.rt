@@ -8,6 +8,7 @@ ghost use Rattle.c_call.specs.Call.{done, written, answered};
 ghost use Rattle.c_stack.specs.Stack.{flat, stacked};
 ghost use Rattle.c_presets.specs.Presets.{mirror};
 
+use refusal::Refusal;
 use thin_film_coating::Coating;
 
 // One quarter-wave layer of index sqrt(n_ambient * n_substrate): n, k, thickness. Returns 3, or 8 for a list that is
@@ -53,7 +54,7 @@ pub fn bragg_mirror(
     ensures { done result list.new ≡ answered stacked (mirror n_high n_low pairs design_wavelength_nm) list.old }
 {
     if pairs > 31 {
-        return c_call::packed(refusal::TOO_MANY_LAYERS);
+        return c_call::packed(Refusal::TooManyLayers);
     }
     let count = pairs as usize;
     let numbers = 3 * (count * 2 + 1);

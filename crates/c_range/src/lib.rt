@@ -6,8 +6,6 @@ ghost use Rattle.c_call.specs.Call.{done, answered};
 ghost use Rattle.reflectance_range.specs.Range.{reflectance_range};
 ghost use Rattle.c_range.specs.Range.{ranged};
 
-use reflectance_range::RangeReply;
-
 // The two numbers at the front of a list. Returns their count, or a refusal: 13, then 8 for a list
 // that is too short.
 pub fn reflectance_range(
@@ -21,7 +19,7 @@ pub fn reflectance_range(
 {
     let reply = reflectance_range::reflectance_range(n1_low, n1_high, n2_low, n2_high);
     match reply {
-        RangeReply::Range(r) => c_call::put_both(2, r.low, r.high, list),
-        RangeReply::Refused(r) => c_call::packed(r),
+        Ok(r) => c_call::put_both(2, r.low, r.high, list),
+        Err(r) => c_call::packed(r),
     }
 }

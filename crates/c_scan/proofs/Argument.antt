@@ -9,16 +9,15 @@ use lib.ListN.{length}
 use lib.Ieee.{Float}
 use lib.Ieee.Scale.{finite}
 use Rattle.ieee.specs.Functions.{finite_positive}
-use Rattle.refusal.specs.Outcome.{invalid_parameter}
+use Rattle.refusal.specs.Outcome.{Outcome, answer, invalid_parameter, too_many_layers}
 use Rattle.thin_film_solver.specs.declared.ThinFilmLayer.{ThinFilmLayer}
 use Rattle.thin_film_valid.specs.Valid.{valid}
 use Rattle.thin_film_coating.specs.declared.Coating.TheVariants as C
 use Rattle.thin_film_coating.specs.Evaluate.{rust_evaluate_coating}
 use Rattle.thin_film.specs.declared.SurfaceCoating.{SurfaceCoating}
 use Rattle.thin_film.specs.declared.SurfaceCoating.TheVariants as S
-use Rattle.thin_film.specs.Evaluate.{rust_evaluate_surface, evaluate_surface}
-use Rattle.c_layers.specs.Evaluate.{refusal_number}
-use Rattle.c_layers.proofs.Numbers.{number, passed}
+use Rattle.thin_film.specs.Evaluate.{rust_evaluate_surface, evaluate_surface, refusal_of}
+use Rattle.c_layers.proofs.Checked.{checked, passed}
 use Rattle.c_scan.specs.Argument.{invalid_argument, ArgumentClaim}
 
 abbrev first : Bool → Bool → Bool → Bool → ℕ
@@ -38,27 +37,27 @@ one_not true true false d h = refl
 one_not true false c d h = refl
 one_not false b c d h = refl
 
--- 0 or 3
-no_one : (s : SurfaceCoating) (count : ℕ) → number s count ≡ 1 → ⊥
-no_one (S.Custom C.IdealAr) count e = omega arith
-no_one (S.Custom C.IdealMirror) count e = omega arith
-no_one (S.Custom C.IdealBeamsplitter) count e = omega arith
+-- 3, or none
+no_one : (s : SurfaceCoating) (count : ℕ) → checked s count ≡ invalid_parameter → ⊥
+no_one (S.Custom C.IdealAr) count e = cc
+no_one (S.Custom C.IdealMirror) count e = cc
+no_one (S.Custom C.IdealBeamsplitter) count e = cc
 no_one (S.Custom C.Multilayer) count e = go (leb count 64) e
   where
-    go : (b : Bool) → ◌≡◌ {A = ℕ} (cond b 0 3) 1 → ⊥
-    go true e = omega arith
-    go false e = omega arith
-no_one S.IdealAr count e = omega arith
-no_one (S.MgF2 design) count e = omega arith
-no_one S.BroadbandAr count e = omega arith
-no_one S.HighReflectanceMirror count e = omega arith
+    go : (b : Bool) → ◌≡◌ {A = Outcome (Unit {0})} (cond b (answer tt) too_many_layers) invalid_parameter → ⊥
+    go true e = cc
+    go false e = let z : ◌≡◌ {A = ℕ} 3 1 = cc in omega arith
+no_one S.IdealAr count e = cc
+no_one (S.MgF2 design) count e = cc
+no_one S.BroadbandAr count e = cc
+no_one S.HighReflectanceMirror count e = cc
 
 module _ (surface : SurfaceCoating) (layers : List ThinFilmLayer) (n_incident n_substrate angle wavelength : Float) where
   none_fails : invalid_argument n_incident n_substrate angle wavelength ≡ 0 → evaluate_surface surface layers n_incident n_substrate angle wavelength ≡ invalid_parameter → ⊥
   unfolding invalid_argument valid
   none_fails e r =
       let v = all_pass (finite_positive n_incident) (finite_positive n_substrate) (finite angle) (finite_positive wavelength) e in
-      no_one surface (length layers) (passed n_incident n_substrate angle wavelength v surface layers ∙ ap refusal_number r)
+      no_one surface (length layers) (passed n_incident n_substrate angle wavelength v surface layers ∙ ap refusal_of r)
 
   one_fails : (invalid_argument n_incident n_substrate angle wavelength ≡ 0 → ⊥) → evaluate_surface surface layers n_incident n_substrate angle wavelength ≡ invalid_parameter
   unfolding invalid_argument valid rust_evaluate_surface evaluate_surface rust_evaluate_coating

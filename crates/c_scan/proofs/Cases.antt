@@ -7,20 +7,25 @@ use native.Mathlib.Omega.{arith}
 use lib.ListN.{length, get_or, drop, length-append, drop_of_length-le}
 use lib.Seq.{drop-cons}
 use lib.Ieee.{Float}
-use Rattle.refusal.specs.Outcome.{Outcome, answer, refusal, map, bind}
+use Rattle.std.specs.Prelude.{Result, Ok, Err}
+use Rattle.refusal.specs.declared.Refusal.{Refusal}
+use Rattle.refusal.specs.Outcome.{Outcome, answer, refusal, map, bind, refused, number_of}
 use Rattle.thin_film_solver.specs.declared.CoatingResponse.{CoatingResponse}
-use Rattle.c_layers.specs.Evaluate.{refusal_number}
-use Rattle.c_layers.proofs.Plain.{Plain}
+use Rattle.thin_film.specs.Evaluate.{refusal_of}
 use Rattle.c_scan.specs.Scan.{at_case, responses}
 
 -- ---- one case
-pub was_answered : (o : Outcome CoatingResponse) (n : ℕ) → Plain o → n ≡ refusal_number o → n ≡ 0 → (r : CoatingResponse) × (o ≡ answer r)
-was_answered (answer r) n p e z = (r, refl)
-was_answered (refusal number place) n p e z = absurd (omega (arith, p.0))
+pub is_ok : {E : Type 0} (r : Result (Unit {0}) E) → ((e : E) → r ≡ Err e → ⊥) → r ≡ Ok tt
+is_ok (Ok a) h = refl
+is_ok (Err e) h = absurd (h e refl)
 
-pub was_refused : (o : Outcome CoatingResponse) (n : ℕ) → n ≡ refusal_number o → (n ≡ 0 → ⊥) → (place : ℕ) × (o ≡ refusal n place)
-was_refused (answer r) n e z = absurd (z e)
-was_refused (refusal number place) n e z = (place, ap (λ (m : ℕ). refusal m place) (sym e))
+pub was_answered : (o : Outcome CoatingResponse) → answer tt ≡ refusal_of o → (r : CoatingResponse) × (o ≡ answer r)
+was_answered (answer r) e = (r, refl)
+was_answered (refusal number place) e = absurd cc
+
+pub was_refused : (o : Outcome CoatingResponse) (r : Refusal) → refused r ≡ refusal_of o → (place : ℕ) × (o ≡ refusal (number_of r) place)
+was_refused (answer a) r e = absurd cc
+was_refused (refusal number place) r e = let n : number ≡ number_of r = cc in (place, ap (λ (m : ℕ). refusal m place) n)
 
 -- ---- outcomes
 abbrev after : List CoatingResponse → Outcome (List CoatingResponse) → Outcome (List CoatingResponse)

@@ -8,8 +8,7 @@ use lib.Dec.{eqb, ltb, lit<}
 use lib.ListN.{length, drop}
 use lib.Ieee.{Float}
 use borrow.Author.Tests.{le-leb, lt-leb, eq-eqb, ne_eqb, lt-ltb, le-ltb, eqb-true, ltb-true}
-use Rattle.refusal.specs.Outcome.{Outcome, answer, refusal, map, bind, refused}
-use Rattle.refusal.specs.declared.Refusal.{Refusal}
+use Rattle.refusal.specs.Outcome.{Outcome, answer, refusal, map, bind}
 use Rattle.thin_film_solver.specs.declared.CoatingResponse.{CoatingResponse}
 use Rattle.c_layers.specs.Evaluate.{evaluate}
 use Rattle.c_layers.proofs.Plain.{Plain, of_code}
@@ -17,7 +16,7 @@ use Rattle.c_call.specs.Call.{done, answered}
 use Rattle.c_call.specs.Layout.{response_numbers}
 use Rattle.c_call.proofs.Returned.{Sound}
 use Rattle.c_scan.specs.Scan.{at_case, responses, too_many_cases, paired, evaluate_list, all_numbers, scanned}
-use Rattle.c_scan.specs.Internal.{cases, first_refused, numbers_of}
+use Rattle.c_scan.specs.Internal.{cases, refusal_of_all, numbers_of}
 
 and_first : (a b : Bool) → (a && b) ≡ true → a ≡ true
 and_first true b e = refl
@@ -74,21 +73,21 @@ few_answer : (o : Outcome (List CoatingResponse)) → Few o → (rs : List Coati
 few_answer o f rs e = subst Few e f
 
 -- ---- what is returned and left
-pub is_refused : (o : Outcome (List CoatingResponse)) (r : Refusal) → r ≡ first_refused o → (r.number ≡ 0 → ⊥) → refused r ≡ o
-is_refused (answer rs) r e h = absurd (h (ap (λ (z : Refusal). z.number) e))
-is_refused (refusal number place) r e h = ap refused e
+pub is_refused : (o : Outcome (List CoatingResponse)) (number place : ℕ) → refusal number place ≡ refusal_of_all o → refusal number place ≡ o
+is_refused (answer rs) number place e = cc
+is_refused (refusal n p) number place e = ap (map (λ (x : Unit {0}). [])) e
 
 module _ (count : ℕ) (list : List Float) where
-  pub short : (o : Outcome (List CoatingResponse)) (r : Refusal) → Cases 0 count o → r ≡ first_refused o → r.number ≡ 0 → length list < 16 * count → done 0x8_0000_0000 list ≡ answered scanned o list
-  short (answer rs) r h e z l = simp (lt-leb (length (all_numbers rs)) (length list) (omega (arith, sixteen rs)))
-  short (refusal number place) r h e z l = absurd (omega (arith, h.0, ap (λ (z : Refusal). z.number) e))
+  pub short : (o : Outcome (List CoatingResponse)) → Cases 0 count o → answer tt ≡ refusal_of_all o → length list < 16 * count → done 0x8_0000_0000 list ≡ answered scanned o list
+  short (answer rs) h e l = simp (lt-leb (length (all_numbers rs)) (length list) (omega (arith, sixteen rs)))
+  short (refusal number place) h e l = absurd cc
 
-  pub whole : (o : Outcome (List CoatingResponse)) (r : Refusal) (out : List Float) → Cases 0 count o → r ≡ first_refused o → r.number ≡ 0 → 16 * count ≤ length list → out ≡ numbers_of o ++ drop (16 * count) list → done (16 * count) out ≡ answered scanned o list
-  whole (answer rs) r out h e z l is =
+  pub whole : (o : Outcome (List CoatingResponse)) (out : List Float) → Cases 0 count o → answer tt ≡ refusal_of_all o → 16 * count ≤ length list → out ≡ numbers_of o ++ drop (16 * count) list → done (16 * count) out ≡ answered scanned o list
+  whole (answer rs) out h e l is =
       let n : length (all_numbers rs) ≡ 16 * count = omega (arith, sixteen rs) in
       simp (le-leb (length (all_numbers rs)) (length list) (omega arith))
       (ap (λ (k : ℕ). done k out) (sym n) ∙ ap (done (length (all_numbers rs))) (is ∙ ap (λ (k : ℕ). all_numbers rs ++ drop k list) (sym n)))
-  whole (refusal number place) r out h e z l is = absurd (omega (arith, h.0, ap (λ (z : Refusal). z.number) e))
+  whole (refusal number place) out h e l is = absurd cc
 
 -- ---- the cases of a call
 module _ (code : ℕ) (design n_incident n_substrate : Float) (angles wavelengths flat : List Float) where

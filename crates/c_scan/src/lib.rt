@@ -7,18 +7,21 @@ ghost use Rattle.c_layers.specs.Evaluate.{evaluate};
 ghost use Rattle.c_call.specs.Call.{done, answered};
 ghost use Rattle.c_scan.specs.Scan.{evaluate_list, scanned};
 ghost use Rattle.c_scan.specs.Argument.{invalid_argument};
-ghost use Rattle.c_scan.specs.Internal.{cases, first_refused, placed, numbers_of, Room};
+ghost use Rattle.c_scan.specs.Internal.{cases, all_answered, refusal_of_all, placed, numbers_of, Room};
 
 use refusal::Refusal;
-use thin_film_layers::Evaluation;
 
-// Lists of unequal length, or 2^28 cases and more: the place is none that a case has.
-const NO_CASES: Refusal = Refusal {
-    number: 1,
-    place: 0x1000_0000,
-};
+// The place of a refusal of all cases: none of them has it.
+const NO_CASE: usize = 0x1000_0000;
 
-// The first case that is refused, at its index; the number is 0 where none is. No layer is read.
+// A case that is refused: its refusal, and its index.
+#[derive(Clone, Copy)]
+struct RefusedCase {
+    refusal: Refusal,
+    index: usize,
+}
+
+// The first case that is refused. No layer is read.
 fn first_refused(
     code: u32,
     design_wavelength_nm: f64,
@@ -27,13 +30,12 @@ fn first_refused(
     angles_rad: &[f64],
     wavelengths_nm: &[f64],
     layers: &[f64],
-) -> Refusal
+) -> Result<(), RefusedCase>
     requires { length angles_rad.now ≡ length wavelengths_nm.now }
-    ensures { result ≡ first_refused (cases code design_wavelength_nm n_incident n_substrate angles_rad.now wavelengths_nm.now layers.now) }
+    ensures { all_answered result ≡ refusal_of_all (cases code design_wavelength_nm n_incident n_substrate angles_rad.now wavelengths_nm.now layers.now) }
 {
-    let mut i = 0;
-    while i < angles_rad.len() {
-        let number = c_layers::refusal_number(
+    for i in 0..angles_rad.len() {
+        if let Err(refusal) = c_layers::check(
             code,
             design_wavelength_nm,
             n_incident,
@@ -41,16 +43,11 @@ fn first_refused(
             angles_rad[i],
             wavelengths_nm[i],
             layers,
-        );
-        if number != 0 {
-            return Refusal { number, place: i };
+        ) {
+            return Err(RefusedCase { refusal, index: i });
         }
-        i += 1;
     }
-    Refusal {
-        number: 0,
-        place: 0,
-    }
+    Ok(())
 }
 
 // The numbers of one case at a place of a list that has room for them; nothing where it is refused.
@@ -77,10 +74,10 @@ fn place_case(
         wavelength_nm,
         layers,
     ) {
-        Evaluation::Response(r) => {
+        Ok(r) => {
             let _wrote = c_call::put_response(r, &mut list[at..]);
         }
-        Evaluation::Refused(_) => {}
+        Err(_) => {}
     }
 }
 
@@ -98,8 +95,7 @@ fn place(
     requires { Room (cases code design_wavelength_nm n_incident n_substrate angles_rad.now wavelengths_nm.now layers.now) angles_rad.now wavelengths_nm.now list.old }
     ensures { list.new ≡ numbers_of (cases code design_wavelength_nm n_incident n_substrate angles_rad.now wavelengths_nm.now layers.now) ++ drop (16 * length angles_rad.now) list.old }
 {
-    let mut i = 0;
-    while i < angles_rad.len() {
+    for i in 0..angles_rad.len() {
         place_case(
             16 * i,
             code,
@@ -111,7 +107,6 @@ fn place(
             layers,
             list,
         );
-        i += 1;
     }
 }
 
@@ -129,7 +124,7 @@ fn paired(
     requires { (length angles_rad.now ≡ length wavelengths_nm.now) × (length angles_rad.now < 0x1000_0000) }
     ensures { done result list.new ≡ answered scanned (cases code design_wavelength_nm n_incident n_substrate angles_rad.now wavelengths_nm.now layers.now) list.old }
 {
-    let first = first_refused(
+    if let Err(first) = first_refused(
         code,
         design_wavelength_nm,
         n_incident,
@@ -137,9 +132,8 @@ fn paired(
         angles_rad,
         wavelengths_nm,
         layers,
-    );
-    if first.number != 0 {
-        return c_call::packed(first);
+    ) {
+        return c_call::packed_at(first.refusal, first.index);
     }
     let count = 16 * angles_rad.len();
     if list.len() < count {
@@ -174,10 +168,10 @@ pub fn evaluate_list(
     ensures { done result list.new ≡ answered scanned (evaluate_list code design_wavelength_nm n_incident n_substrate angles_rad.now wavelengths_nm.now layers.now) list.old }
 {
     if angles_rad.len() != wavelengths_nm.len() {
-        return c_call::packed(NO_CASES);
+        return c_call::packed_at(Refusal::InvalidParameter, NO_CASE);
     }
     if angles_rad.len() >= 0x1000_0000 {
-        return c_call::packed(NO_CASES);
+        return c_call::packed_at(Refusal::InvalidParameter, NO_CASE);
     }
     paired(
         code,

@@ -1,25 +1,25 @@
 -- The films of a stack as layers, and what the layers' numbers leave in a list. Assumes nothing.
 use mathlib.Core.Path.{◌≡◌, sym, ap, ◌∙◌, subst}
-use mathlib.Core.List.{List, ◌++◌, map, map-append}
+use mathlib.Core.List.{List, [], ◌++◌, map, map-append}
 use Prim.Native.Nat.{ℕ, ◌+◌, ◌*◌, ◌-◌, ◌≤◌, ◌<◌}
 use native.Mathlib.Omega.{arith}
 use lib.ListN.{length, get_or, set, take, drop, replicate, length-map}
 use lib.Seq.{take_at, length-take-le}
 use lib.Ieee.{Float}
 use borrow.Author.Tests.{le-leb, lt-leb}
+use Rattle.refusal.specs.declared.Refusal.{Refusal}
 use Rattle.refusal.specs.Outcome as Outcome
-use Rattle.refusal.specs.Outcome.{Outcome, answer, refusal}
+use Rattle.refusal.specs.Outcome.{Outcome, answer, refusal, refused}
 use Rattle.thin_film_grammar.specs.declared.Film.{Film}
 use Rattle.thin_film_grammar.specs.Claim.{too_long, wrong, early, many, read}
 use Rattle.thin_film_reader.specs.declared.Reading.{Reading}
-use Rattle.thin_film_reader.specs.Read.{handed}
+use Rattle.thin_film_reader.specs.Read.{placed}
 use Rattle.thin_film_reader.specs.InternalFilms.{no_film}
 use Rattle.thin_film_solver.specs.declared.ThinFilmLayer.{ThinFilmLayer}
 use Rattle.thin_film_layers.specs.Evaluation.{no_layer}
 use Rattle.thin_film_shorthand.specs.Stack.{stack}
 use Rattle.thin_film_shorthand.specs.Claim.{Right, bad_number, given}
 use Rattle.thin_film_shorthand.proofs.Made.{get_d_map}
-use Rattle.thin_film_shorthand.proofs.Given.{Fine}
 use Rattle.thin_film_shorthand.proofs.Claim.{shorthand}
 use Rattle.c_call.specs.Call.{done, packed, written}
 use Rattle.c_call.proofs.Returned.{Sound}
@@ -48,13 +48,20 @@ few_sound (answer layers) h = tt
 few_sound (refusal number place) h = (h.0, omega (arith, h.1))
 
 -- ---- the films that are handed over
+same : (x y : Reading) → answer x ≡ answer y → x ≡ y
+same x y e = cc
+
 module _ (f : Film → ThinFilmLayer) where
-  pub taken : (o : Outcome (List Film)) (r : Reading) → Fine o → r ≡ handed o → r.refusal.number ≡ 0 → answer (take r.count (map f r.films)) ≡ Outcome.map (map f) o
-  taken (answer l) r fine e z =
-      ap (λ (x : Reading). answer (take x.count (map f x.films))) e
+  pub turned_back : (o : Outcome (List Film)) (r : Refusal) → refused r ≡ Outcome.map placed o → refused r ≡ Outcome.map (map f) o
+  turned_back (answer l) r e = cc
+  turned_back (refusal number place) r e = ap (Outcome.map (λ (x : Reading). [])) e
+
+  pub taken : (o : Outcome (List Film)) (r : Reading) → answer r ≡ Outcome.map placed o → answer (take r.count (map f r.films)) ≡ Outcome.map (map f) o
+  taken (answer l) r e =
+      ap (λ (x : Reading). answer (take x.count (map f x.films))) (same r (placed l) e)
       ∙ ap (λ (t : List ThinFilmLayer). answer (take (length l) t)) (map-append f l (replicate (64 - length l) no_film))
       ∙ ap answer (take_at (map f l) (map f (replicate (64 - length l) no_film)) (length l) (length-map l f))
-  taken (refusal number place) r fine e z = absurd (fine (sym (ap (λ (x : Reading). x.refusal.number) e) ∙ z))
+  taken (refusal number place) r e = cc
 
   -- a turn of the loop
   pub turn : (films : List Film) (count : ℕ) (before list : List Float) (i : ℕ) (a : Film) (y : ThinFilmLayer) → count ≤ length films → 3 * count ≤ length before → i < count → Half (map f films) count before list i

@@ -6,6 +6,7 @@ ghost use Rattle.c_call.specs.Call.{done, written, answered};
 ghost use Rattle.thin_film_shorthand.specs.Stack.{layer, stack};
 ghost use Rattle.c_stack.specs.Stack.{flat, stacked};
 
+use refusal::Refusal;
 use thin_film_grammar::Film;
 
 // The layers of the first films at the front of a list that has room for them.
@@ -63,14 +64,21 @@ pub fn stack(
     ensures { done result list.new ≡ answered stacked (stack text.now n_h n_l n_m design_wavelength_nm) list.old }
 {
     if !thin_film_shorthand::valid(n_h, n_l, n_m, design_wavelength_nm) {
-        return c_call::packed(refusal::INVALID_PARAMETER);
+        return c_call::packed(Refusal::InvalidParameter);
     }
-    let reading = thin_film_reader::read(text);
-    let refusal = reading.refusal;
-    if refusal.number != 0 {
-        return c_call::packed(refusal);
+    match thin_film_reader::read(text) {
+        Ok(reading) => {
+            let films = reading.films;
+            put(
+                films,
+                reading.count,
+                n_h,
+                n_l,
+                n_m,
+                design_wavelength_nm,
+                list,
+            )
+        }
+        Err(r) => c_call::packed(r),
     }
-    let films = reading.films;
-    let count = reading.count;
-    put(films, count, n_h, n_l, n_m, design_wavelength_nm, list)
 }

@@ -1,4 +1,6 @@
 -- The refusals of a surface's answers, and what a reply tells of them. Assumes nothing.
+use Rattle.thin_film.specs.declared.SurfaceCoating.{SurfaceCoating}
+use Rattle.std.specs.Prelude.{None, Option, Some}
 use mathlib.Core.Path.{◌≡◌, refl, sym, ap, ◌∙◌, subst}
 use mathlib.Core.List.{List}
 use Prim.Native.Nat.{ℕ}
@@ -14,8 +16,6 @@ use Rattle.thin_film.specs.Evaluate.{evaluate_surface}
 use Rattle.polarization.specs.Surface.{indices_valid, bare, surface_fresnel_jones}
 use Rattle.gate_limits.specs.declared.Surface as Value
 use Rattle.surface.specs.declared.Answers.{Answers}
-use Rattle.gate_limits.specs.declared.Interface.{Interface}
-use Rattle.gate_limits.specs.declared.Interface.TheVariants.{Bare, Coated}
 use Rattle.gate_limits.specs.Coating.{interface}
 use Rattle.surface.specs.Answers.{coated_answers, bare_answers, answers_of}
 use Rattle.sheet.specs.Sheet.{nth, Sheet}
@@ -23,14 +23,12 @@ use Rattle.sheet.specs.Claim.{Bytes}
 use Rattle.sheet_values.specs.Values.{value, films, surface_value, met_with, met_at}
 use Rattle.gate.specs.Gate.{gated}
 use Rattle.gate.specs.Wavelength.{holds}
-use Rattle.sheet_surfaces.specs.declared.SurfaceReply.{SurfaceReply}
-use Rattle.sheet_surfaces.specs.Surfaces.{answers_to, surface_answers, given}
+use Rattle.sheet_surfaces.specs.Surfaces.{answers_to, surface_answers}
 use Rattle.sheet_retuned.specs.Retuned.{retuned_before, answers_at}
 use Rattle.c_layers.proofs.Plain.{Plain, either, mapped, of_surface}
 use Rattle.c_call.specs.Call.{Done, Apart, answered}
 use Rattle.c_call.specs.Layout.{surface_answered}
 use Rattle.c_call.proofs.Returned.{Sound, sound_apart}
-use Rattle.dihkelu.specs.Internal.{taken}
 use Rattle.dihkelu.proofs.Places.{plain_sound, gate_sound}
 
 module _ (wavelength : Float) (s : Value.Surface) (layers : List ThinFilmLayer) where
@@ -42,10 +40,10 @@ module _ (wavelength : Float) (s : Value.Surface) (layers : List ThinFilmLayer) 
       let θ = s.angle_rad in
       either (indices_valid n₁ n₂ θ) (answer (bare n₁ n₂ (sin θ) (cos θ))) invalid_parameter tt (omega arith, refl)
 
-  of_interface : (k : Interface) → Plain (answers_of k wavelength s layers)
+  of_interface : (k : Option SurfaceCoating) → Plain (answers_of k wavelength s layers)
   unfolding answers_of bare_answers
-  of_interface Bare = mapped _ (surface_fresnel_jones s.n_incident s.n_substrate s.angle_rad) fresnel
-  of_interface (Coated coating) = mapped coated_answers (evaluate_surface coating layers s.n_incident s.n_substrate s.angle_rad wavelength) (of_surface s.n_incident s.n_substrate s.angle_rad wavelength coating layers)
+  of_interface None = mapped _ (surface_fresnel_jones s.n_incident s.n_substrate s.angle_rad) fresnel
+  of_interface (Some coating) = mapped coated_answers (evaluate_surface coating layers s.n_incident s.n_substrate s.angle_rad wavelength) (of_surface s.n_incident s.n_substrate s.angle_rad wavelength coating layers)
 
 -- ---- a surface of a sheet
 pub answers_sound : (src : List ℕ) → Bytes src → (i : ℕ) → Sound (surface_answers src i)
@@ -72,19 +70,3 @@ answers_at_sound src bytes i w = go (gated src) (gate_sound src bytes)
         (either (ltb i (length x.surfaces)) _ (refusal 7 0)
         (either (holds w (drop i x.surfaces)) _ (refusal 11 0) (of_interface v (surface_value y) (films v y.layers) (interface (surface_value y).coating)) (omega arith, refl)) (omega arith, refl))
     go (refusal number place) h = h
-
--- ---- the reply's number is 0 exactly for an answer
-pub taken_given : (o : Outcome Answers) → Sound o → taken (given o) ≡ o
-unfolding given
-taken_given (answer a) s = refl
-taken_given (refusal number place) s = rw (ne_eqb number 0 (λ e. omega (arith, s.0, e)))
-
-module _ (o : Outcome Answers) (s : Sound o) (r : SurfaceReply) (e : r ≡ given o) where
-  pub taken_is : taken r ≡ o
-  taken_is = ap taken e ∙ taken_given o s
-
-  pub taken_apart : Apart (taken r)
-  taken_apart = subst Apart (sym taken_is) (sound_apart o s)
-
-  pub whole : (d : Done) (list : List Float) → d ≡ answered surface_answered (taken r) list → d ≡ answered surface_answered o list
-  whole d list is = is ∙ ap (λ (z : Outcome Answers). answered surface_answered z list) taken_is

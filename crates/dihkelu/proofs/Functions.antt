@@ -1,8 +1,8 @@
 -- What the numbers tell that the calls of single functions return. Assumes nothing.
+use Rattle.std.specs.Prelude.{None, Option, Some}
 use mathlib.Core.Path.{◌≡◌, refl, sym}
 use mathlib.Core.Bool.{Bool, true, false, cond}
 use mathlib.Core.List.{List, ◌++◌}
-use mathlib.Core.Option.{Option}
 use Prim.Native.Nat.{ℕ, ◌^◌, ◌<◌}
 use native.Mathlib.Omega.{arith}
 use borrow.Author.Tests.{leb-true}
@@ -15,8 +15,6 @@ use Rattle.thin_film_presets.specs.Layers.{bragg_layers}
 use Rattle.thin_film_coating.specs.Coating.{quarter_wave_layers}
 use Rattle.thin_film.specs.declared.SurfaceCoating.{SurfaceCoating}
 use Rattle.thin_film.specs.Coating.{standard_wavelength}
-use Rattle.gate_limits.specs.declared.Interface.{Interface}
-use Rattle.gate_limits.specs.declared.Interface.TheVariants.{Bare, Coated}
 use Rattle.c_layers.specs.Evaluate.{call_coating}
 use Rattle.polarization.specs.Surface.{surface_fresnel_jones}
 use Rattle.name_coating.specs.Name.{from_format_name}
@@ -64,9 +62,9 @@ coating_name_tells (answer name) h output = go (leb (length name) (length output
     go true = tells_fine (answer (length name)) (omega (arith, h))
     go false = tells_fine (refusal 8 0) (lit< tt, lit< tt)
 
-coating_name_fine : (i : Interface) → Fine Short (name_of i)
-coating_name_fine (Coated coating) = short coating
-coating_name_fine Bare = (lit< tt, lit< tt)
+coating_name_fine : (i : Option SurfaceCoating) → Fine Short (name_of i)
+coating_name_fine (Some coating) = short coating
+coating_name_fine None = (lit< tt, lit< tt)
 
 pub function_numbers : FunctionNumbers
 function_numbers = record {

@@ -7,7 +7,7 @@ use native.Mathlib.Omega.{arith}
 use lib.ListN.{drop}
 use lib.Ieee.{Float}
 use Rattle.refusal.specs.declared.Refusal.{Refusal}
-use Rattle.refusal.specs.Outcome.{Outcome, answer, refusal, refused, bind}
+use Rattle.refusal.specs.Outcome.{Outcome, answer, refusal, refused, bind, number_of, place_of}
 use Rattle.sheet.specs.Sheet.{Sheet}
 use Rattle.sheet.specs.Read.{surfaces_of}
 use Rattle.sheet.specs.Internal.{next_place}
@@ -25,7 +25,7 @@ use Rattle.c_call.proofs.Returned.{whole_place}
 use Rattle.dihkelu.specs.Train.{called, state, went, started, moved}
 
 module _ {A : Type 0} (number : A → ℕ) (next : A → State) (o : Outcome A) (lent : State) where
-  pub refuses : (r : Refusal) (n : ℕ) → refused r ≡ o → Apart o → n ≡ packed r.number (r.place % 2 ^ 32) → called n lent ≡ went number next o lent
+  pub refuses : (r : Refusal) (n : ℕ) → refused r ≡ o → Apart o → n ≡ packed (number_of r) (place_of r % 2 ^ 32) → called n lent ≡ went number next o lent
   refuses r n e h is = ap (λ (k : ℕ). called k lent) (is ∙ whole_place r o e h) ∙ ap (λ (z : Outcome A). went number next z lent) e
 
   pub answers : (a : A) → answer a ≡ o → called (number a) (next a) ≡ went number next o lent

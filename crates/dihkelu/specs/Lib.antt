@@ -5,4 +5,3 @@ pub mod Band
 pub mod Numbers
 pub mod Functions
 pub mod Version
-pub mod Internal

@@ -21,7 +21,7 @@ ghost use Rattle.reflectance_range.specs.Range.{reflectance_range};
 ghost use Rattle.c_range.specs.Range.{ranged};
 ghost use Rattle.quarter_waves.specs.Waves.{quarter_waves};
 ghost use Rattle.c_quarter_waves.specs.Waves.{counted};
-ghost use Rattle.refusal.specs.Outcome.{map};
+ghost use Rattle.refusal.specs.Outcome.{map, outcome};
 ghost use Rattle.fresnel.specs.Fresnel.{fresnel_dielectric, fresnel_unpolarized, schlick_approx};
 ghost use Rattle.polarization.specs.Surface.{surface_fresnel_jones};
 ghost use Rattle.c_fresnel.specs.Fresnel.{reflectances, totals, matrices};
@@ -38,19 +38,15 @@ ghost use Rattle.train_steps.specs.Train.{step, retune, run};
 ghost use Rattle.band.specs.Band.{band};
 ghost use Rattle.sheet_surfaces.specs.Surfaces.{surface_answers};
 ghost use Rattle.sheet_retuned.specs.Retuned.{answers_at};
-ghost use Rattle.dihkelu.specs.Internal.{taken};
 ghost use Rattle.dihkelu.specs.Train.{called, state, started, moved, run_done};
 ghost use Rattle.sheet_edition_1.specs.Edition.{to_edition_1};
 ghost use Rattle.dihkelu.specs.Edition.{copied, rewritten};
 ghost use Rattle.dihkelu.specs.Band.{banded};
 ghost use Rattle.dihkelu.specs.Version.{version};
 
-use band::BandReply;
-use gate::Gated;
-use sheet_edition_1::Rewritten;
-use sheet_surfaces::SurfaceReply;
-use thin_film_layers::Evaluation;
-use train_steps::{State, TrainReply};
+use refusal::Refusal;
+use surface::Answers;
+use train_steps::State;
 
 // ---- the library
 
@@ -88,8 +84,8 @@ pub fn dihkelu_evaluate(
         layers,
     );
     match evaluation {
-        Evaluation::Response(r) => c_call::put_response(r, list),
-        Evaluation::Refused(r) => c_call::packed(r),
+        Ok(r) => c_call::put_response(r, list),
+        Err(r) => c_call::packed(r),
     }
 }
 
@@ -374,13 +370,13 @@ pub fn dihkelu_half_wave_plate(fast_axis_rad: f64, list: &mut [f64]) -> u64
 // ---- the gate and the train
 
 // An answer of the gate as one number.
-fn number_of(g: Gated) -> u64
-    requires { Apart (Gate.outcome g) }
-    ensures { result ≡ returned (Gate.outcome g) }
+fn number_of(g: Result<u32, Refusal>) -> u64
+    requires { Apart (outcome g) }
+    ensures { result ≡ returned (outcome g) }
 {
     match g {
-        Gated::Admitted(count) => count as u64,
-        Gated::Refused(r) => c_call::packed(r),
+        Ok(count) => count as u64,
+        Err(r) => c_call::packed(r),
     }
 }
 
@@ -403,7 +399,7 @@ pub fn dihkelu_start(
     ensures { called result (state surfaces_done.new s.new p.new wavelength_nm.new) ≡ started (gated sheet.now) (state surfaces_done.old s.old p.old wavelength_nm.old) }
 {
     match gate::gate(sheet) {
-        Gated::Admitted(count) => {
+        Ok(count) => {
             let beam = sheet_values::beam_of(sheet);
             *surfaces_done = 0;
             *s = beam.s;
@@ -411,7 +407,7 @@ pub fn dihkelu_start(
             *wavelength_nm = beam.wavelength_nm;
             count as u64
         }
-        Gated::Refused(r) => c_call::packed(r),
+        Err(r) => c_call::packed(r),
     }
 }
 
@@ -433,14 +429,14 @@ pub fn dihkelu_step(
         wavelength_nm: *wavelength_nm,
     };
     match train_steps::step(sheet, state) {
-        TrainReply::State(next) => {
+        Ok(next) => {
             *surfaces_done = next.done;
             *s = next.s;
             *p = next.p;
             *wavelength_nm = next.wavelength_nm;
             next.done as u64
         }
-        TrainReply::Refused(r) => c_call::packed(r),
+        Err(r) => c_call::packed(r),
     }
 }
 
@@ -461,11 +457,11 @@ pub fn dihkelu_retune(
         wavelength_nm: *wavelength_nm,
     };
     match train_steps::retune(sheet, state, new_wavelength_nm) {
-        TrainReply::State(next) => {
+        Ok(next) => {
             *wavelength_nm = next.wavelength_nm;
             next.done as u64
         }
-        TrainReply::Refused(r) => c_call::packed(r),
+        Err(r) => c_call::packed(r),
     }
 }
 
@@ -486,8 +482,8 @@ pub fn dihkelu_edition_1(sheet: &[u8], output: &mut [u8]) -> u64
     ensures { copied result output.new ≡ rewritten (to_edition_1 sheet.now output.old) }
 {
     match sheet_edition_1::to_edition_1(sheet, output) {
-        Rewritten::Length(n) => n as u64,
-        Rewritten::Refused(r) => c_call::packed(r),
+        Ok(n) => n as u64,
+        Err(r) => c_call::packed(r),
     }
 }
 
@@ -499,24 +495,22 @@ pub fn dihkelu_band(sheet: &[u8], wavelengths_nm: &[f64], weights: &[u32], list:
     ensures { done result list.new ≡ answered banded (band sheet.now wavelengths_nm.now weights.now) list.old }
 {
     match band::band(sheet, wavelengths_nm, weights) {
-        BandReply::Powers(b) => c_call::put_both(b.lines as u64, b.s, b.p, list),
-        BandReply::Refused(r) => c_call::packed(r),
+        Ok(b) => c_call::put_both(b.lines as u64, b.s, b.p, list),
+        Err(r) => c_call::packed(r),
     }
 }
 
 // ---- a surface's answers
 
 // Answers, or the refusal that stands beside them.
-fn put_surface(reply: SurfaceReply, list: &mut [f64]) -> u64
-    requires { Apart (taken reply) }
-    ensures { done result list.new ≡ answered surface_answered (taken reply) list.old }
+fn put_surface(reply: Result<Answers, Refusal>, list: &mut [f64]) -> u64
+    requires { Apart (outcome reply) }
+    ensures { done result list.new ≡ answered surface_answered (outcome reply) list.old }
 {
-    let refusal = reply.refusal;
-    if refusal.number != 0 {
-        return c_call::packed(refusal);
+    match reply {
+        Ok(answers) => c_call::put_answers(answers, list),
+        Err(r) => c_call::packed(r),
     }
-    let answers = reply.answers;
-    c_call::put_answers(answers, list)
 }
 
 // Of a sheet's surface, counted from 0: writes its answers and returns the count of their numbers; or

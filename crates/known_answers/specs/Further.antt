@@ -1,22 +1,22 @@
 -- Further answers that were worked out from document 01 and the Rust, beside those that 01 stars: at the ends of guards, of ranges of bytes
 -- and of searches. One proposition, computed.
 -- Each constant stands here by its own bits, not by the name of the guard that it tries.
-use Rattle.std.specs.Prelude.{◌≡◌, List, [], ◌∷◌, ℕ, replicate, Float}
-use Rattle.std.proofs.Math.Option.{none, some}
+use Rattle.std.specs.Prelude.{◌≡◌, List, [], ◌∷◌, ℕ, replicate, Float, None, Some, Result, Err}
 use Rattle.std.specs.Float.{binary64}
 use Rattle.std.specs.Float.Ieee.{of_bits}
 use Rattle.ieee.specs.Functions.{zero_f, one, quarter}
 use Rattle.thin_film_complex.specs.declared.Complex.{Complex}
 use Rattle.thin_film_complex.specs.Complex.{real, zero, div}
-use Rattle.refusal.specs.Outcome.{answer, refusal}
+use Rattle.refusal.specs.declared.Refusal.{Refusal}
+use Rattle.refusal.specs.declared.Refusal.TheVariants.{InvalidParameter}
+use Rattle.refusal.specs.Outcome.{answer, refusal, outcome}
 use Rattle.thin_film.specs.declared.SurfaceCoating.TheVariants as S
 use Rattle.thin_film.specs.Coating.{mgf2_default}
 use Rattle.fresnel.specs.Fresnel.{fresnel_dielectric}
 use Rattle.polarization_stokes.specs.declared.JonesVector.{JonesVector}
 use Rattle.polarization_stokes.specs.Stokes.{degree_of_polarization}
 use Rattle.polarization_stokes.specs.Jones.{normalize}
-use Rattle.polarization_mueller.specs.Jones.{jones}
-use Rattle.polarization.specs.Surface as Surface
+use Rattle.polarization.specs.declared.SurfaceJones.{SurfaceJones}
 use Rattle.polarization.specs.Surface.{surface_fresnel_jones}
 use Rattle.name_bytes.specs.Trim.{trimmed}
 use Rattle.name_bytes.specs.Ascii.{upper_byte}
@@ -53,10 +53,9 @@ pub record FurtherAnswers : Type 0 where
   -- degrees: above 1e-15 there is one
   pub degree_over_edge : degree_of_polarization
       (record { s0 = of_bits binary64 0x3CD2_03AF_9EE7_5617; s1 = of_bits binary64 0x3CD2_03AF_9EE7_5617; s2 = zero_f; s3 = zero_f }) ≡ one
-  -- what stands beside a refusal of surface_fresnel_jones, as for an index of zero: zeros
+  -- what stands beside a refusal of surface_fresnel_jones, as for an index of zero: nothing
   pub no_index : surface_fresnel_jones zero_f one zero_f ≡ refusal 1 0
-  pub beside_a_refusal : Surface.returned (refusal 1 0) ≡
-      record { refusal = 1; matrices = record { reflection = jones zero zero zero zero; transmission = jones zero zero zero zero } }
+  pub beside_a_refusal : (r : Result SurfaceJones Refusal) → outcome r ≡ surface_fresnel_jones zero_f one zero_f → r ≡ Err InvalidParameter
   -- upper case: a to z alone, so neither the byte before nor the one behind
   pub before_a : upper_byte 96 ≡ 96
   pub upper_a : upper_byte 97 ≡ 65
@@ -67,14 +66,14 @@ pub record FurtherAnswers : Type 0 where
   pub no_blanks : trimmed (8 ∷ 14 ∷ 31 ∷ 33 ∷ 160 ∷ 31 ∷ 14 ∷ 8 ∷ []) ≡ 8 ∷ 14 ∷ 31 ∷ 33 ∷ 160 ∷ 31 ∷ 14 ∷ 8 ∷ []
   -- names: byte 127 is ASCII, 128 is not; the length comes first; "MGF2" is sought before "BBAR", that before a mirror's names, those
   -- before "AR"
-  pub last_ascii : from_format_name (127 ∷ []) ≡ answer (some S.IdealAr)
+  pub last_ascii : from_format_name (127 ∷ []) ≡ answer (Some S.IdealAr)
   pub over_ascii : from_format_name (65 ∷ 128 ∷ []) ≡ refusal 2 1
-  pub longest : from_format_name (replicate 32 65) ≡ answer (some S.IdealAr)
+  pub longest : from_format_name (replicate 32 65) ≡ answer (Some S.IdealAr)
   pub too_long : from_format_name (replicate 33 200) ≡ refusal 2 32
-  pub blank_name : from_format_name (32 ∷ 32 ∷ []) ≡ answer none
-  pub bbar_mgf2 : from_format_name (98 ∷ 98 ∷ 97 ∷ 114 ∷ 109 ∷ 103 ∷ 102 ∷ 50 ∷ []) ≡ answer (some mgf2_default)
-  pub refl_bbar : from_format_name (82 ∷ 69 ∷ 70 ∷ 76 ∷ 98 ∷ 98 ∷ 97 ∷ 114 ∷ []) ≡ answer (some S.BroadbandAr)
-  pub he_ne : from_format_name (104 ∷ 101 ∷ 45 ∷ 110 ∷ 101 ∷ []) ≡ answer (some S.BroadbandAr)
-  pub ar_refl : from_format_name (97 ∷ 114 ∷ 82 ∷ 69 ∷ 70 ∷ 76 ∷ []) ≡ answer (some S.HighReflectanceMirror)
-  pub hr : from_format_name (104 ∷ 114 ∷ []) ≡ answer (some S.HighReflectanceMirror)
-  pub mirror_2 : from_format_name (77 ∷ 73 ∷ 82 ∷ 82 ∷ 79 ∷ 82 ∷ 50 ∷ []) ≡ answer (some S.IdealAr)
+  pub blank_name : from_format_name (32 ∷ 32 ∷ []) ≡ answer None
+  pub bbar_mgf2 : from_format_name (98 ∷ 98 ∷ 97 ∷ 114 ∷ 109 ∷ 103 ∷ 102 ∷ 50 ∷ []) ≡ answer (Some mgf2_default)
+  pub refl_bbar : from_format_name (82 ∷ 69 ∷ 70 ∷ 76 ∷ 98 ∷ 98 ∷ 97 ∷ 114 ∷ []) ≡ answer (Some S.BroadbandAr)
+  pub he_ne : from_format_name (104 ∷ 101 ∷ 45 ∷ 110 ∷ 101 ∷ []) ≡ answer (Some S.BroadbandAr)
+  pub ar_refl : from_format_name (97 ∷ 114 ∷ 82 ∷ 69 ∷ 70 ∷ 76 ∷ []) ≡ answer (Some S.HighReflectanceMirror)
+  pub hr : from_format_name (104 ∷ 114 ∷ []) ≡ answer (Some S.HighReflectanceMirror)
+  pub mirror_2 : from_format_name (77 ∷ 73 ∷ 82 ∷ 82 ∷ 79 ∷ 82 ∷ 50 ∷ []) ≡ answer (Some S.IdealAr)

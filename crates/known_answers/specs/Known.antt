@@ -1,6 +1,5 @@
 -- 01, 'Known answers': all that are starred, as one proposition over the definitions that the contracts cite.
-use Rattle.std.specs.Prelude.{◌≡◌, true, [], ◌∷◌, Float}
-use Rattle.std.proofs.Math.Option.{none, some}
+use Rattle.std.specs.Prelude.{◌≡◌, true, [], ◌∷◌, Float, None, Some}
 use Rattle.std.specs.Float.{binary64}
 use Rattle.std.specs.Float.Ieee.{of_bits}
 use Rattle.ieee.specs.Functions.{zero_f, one, two, three, quarter, half, finite_positive}
@@ -68,6 +67,6 @@ pub record KnownAnswers : Type 0 where
   pub linear_degree : (s1 s2 s3 : Float) → degree_of_linear_polarization (record { s0 = dark; s1 = s1; s2 = s2; s3 = s3 }) ≡ zero_f
   pub circular_degree : (s1 s2 s3 : Float) → degree_of_circular_polarization (record { s0 = dark; s1 = s1; s2 = s2; s3 = s3 }) ≡ zero_f
   -- " mgf2 " is MgF2 550; "CUSTOM" is IdealAr; "none" is none
-  pub mgf2 : from_format_name (32 ∷ 109 ∷ 103 ∷ 102 ∷ 50 ∷ 32 ∷ []) ≡ answer (some mgf2_default)
-  pub custom : from_format_name (67 ∷ 85 ∷ 83 ∷ 84 ∷ 79 ∷ 77 ∷ []) ≡ answer (some S.IdealAr)
-  pub no_name : from_format_name (110 ∷ 111 ∷ 110 ∷ 101 ∷ []) ≡ answer none
+  pub mgf2 : from_format_name (32 ∷ 109 ∷ 103 ∷ 102 ∷ 50 ∷ 32 ∷ []) ≡ answer (Some mgf2_default)
+  pub custom : from_format_name (67 ∷ 85 ∷ 83 ∷ 84 ∷ 79 ∷ 77 ∷ []) ≡ answer (Some S.IdealAr)
+  pub no_name : from_format_name (110 ∷ 111 ∷ 110 ∷ 101 ∷ []) ≡ answer None

@@ -1,4 +1,5 @@
 -- Demand 1. Assumes nothing.
+use Rattle.std.specs.Prelude.{None, Option, Some}
 use mathlib.Core.Path.{◌≡◌, refl, sym, ap, ◌∙◌, subst}
 use mathlib.Core.Bool.{Bool, true, false, ◌&&◌, ◌||◌, cond}
 use mathlib.Core.Logic.{◌⊎◌, inl, inr, ⊎_elim}
@@ -41,8 +42,6 @@ use Rattle.reflectance_range.specs.Range.{index_valid, range_valid, reflectance_
 use Rattle.thin_film_shorthand.specs.Claim as Shorthand
 use Rattle.thin_film_shorthand.proofs.Claim.{shorthand}
 use Rattle.thin_film.specs.Evaluate.{rust_evaluate_surface, evaluate_surface}
-use Rattle.gate_limits.specs.declared.Interface.{Interface}
-use Rattle.gate_limits.specs.declared.Interface.TheVariants as I
 use Rattle.gate_limits.specs.Coating.{coded}
 use Rattle.c_layers.specs.Evaluate.{layers, call_coating, evaluate_coded, evaluate}
 use Rattle.c_scan.specs.Scan.{at_case, responses, paired, evaluate_list, all_numbers, scanned}
@@ -409,9 +408,9 @@ module _ (code : ℕ) (design n_incident n_substrate : Float) (flat : List Float
   unfolding evaluate evaluate_coded rust_evaluate_surface evaluate_surface evaluate_coating
   case_only angle wavelength = either (1 ∷ 3 ∷ []) (eqb (length flat % 3) 0) (evaluate_coded (call_coating code design) flat n_incident n_substrate angle wavelength) invalid_parameter (by (call_coating code design)) tt
     where
-      by : (k : Interface) → Only (1 ∷ 3 ∷ []) (evaluate_coded k flat n_incident n_substrate angle wavelength)
-      by (I.Coated s) = coating_only (record { n_incident = n_incident; n_substrate = n_substrate; angle = angle; wavelength = wavelength }) (coating_of s) (ordered (lt n_substrate n_incident) (layers_of s (layers flat)))
-      by I.Bare = tt
+      by : (k : Option SurfaceCoating) → Only (1 ∷ 3 ∷ []) (evaluate_coded k flat n_incident n_substrate angle wavelength)
+      by (Some s) = coating_only (record { n_incident = n_incident; n_substrate = n_substrate; angle = angle; wavelength = wavelength }) (coating_of s) (ordered (lt n_substrate n_incident) (layers_of s (layers flat)))
+      by None = tt
 
   next_only : (i : ℕ) (o : Outcome CoatingResponse) (rest : Outcome (List CoatingResponse)) → Only (1 ∷ 3 ∷ []) o → Only (1 ∷ 3 ∷ []) rest → Only (1 ∷ 3 ∷ []) (bind (at_case i o) (λ r. map (λ rs. r ∷ rs) rest))
   next_only i (answer r) (answer rs) h k = tt
@@ -449,9 +448,9 @@ of_name = record {
   each = ((replicate 33 65, (32, refl)), tt);
 }
 
-name_only : (i : Interface) → Only (2 ∷ []) (name_of i)
-name_only (I.Coated coating) = tt
-name_only I.Bare = tt
+name_only : (i : Option SurfaceCoating) → Only (2 ∷ []) (name_of i)
+name_only (Some coating) = tt
+name_only None = tt
 
 of_coating_name : Refuses coating_name (2 ∷ [])
 unfolding call_coating coded

@@ -3,7 +3,6 @@ use mathlib.Core.Path.{◌∙◌}
 use Rattle.thin_film_layers.proofs.Order.{answered, solves}
 use Rattle.thin_film.proofs.Own.{evaluates}
 use Rattle.c_layers.proofs.Triples.{count}
-use borrow.Author.Rules.{rules}
 use Rattle.c_layers.proofs.evaluate_known.Goals as goal
 
 pub returns-in-Answered : goal.returns-in-Answered

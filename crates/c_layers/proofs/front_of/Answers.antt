@@ -1,5 +1,4 @@
 -- `c_layers::front_of` meets its contract. Assumes nothing.
-use borrow.Author.Rules.{rules}
 use Rattle.c_layers.proofs.front_of.Goals as goal
 
 pub returns-then-reversed : goal.returns-then-reversed

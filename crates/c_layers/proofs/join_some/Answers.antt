@@ -1,7 +1,6 @@
 -- `c_layers::join_some` meets its contract. Assumes nothing.
 use mathlib.Core.Path.{◌≡◌, ◌∙◌}
 use mathlib.Core.List.{List}
-use Prim.Native.Nat.{ℕ}
 use native.Mathlib.Omega.{arith}
 use lib.ListN.{length, take, drop, replicate, length-replicate, length-drop}
 use lib.Seq.{length-take-le, get_or-take, get_or-drop}
@@ -13,7 +12,6 @@ use Rattle.surface_real.proofs.Stacking.{media_joined, media_written}
 use Rattle.c_layers.specs.Evaluate.{layers}
 use Rattle.c_layers.specs.Internal.{layer_on}
 use Rattle.c_layers.proofs.Triples.{count}
-use borrow.Author.Rules.{rules}
 use Rattle.c_layers.proofs.join_some.Goals as goal
 
 pub returns : goal.returns

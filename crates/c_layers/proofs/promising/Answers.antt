@@ -1,8 +1,7 @@
 -- `c_layers::promising` is safe and ends. Assumes nothing.
-use Prim.Native.Nat.{ℕ, ◌-◌, ◌≤◌, ◌/◌}
+use Prim.Native.Nat.{ℕ, ◌/◌}
 use native.Mathlib.Omega.{arith}
 use lib.ListN.{length}
-use borrow.Author.Rules.{rules}
 use Rattle.c_layers.proofs.promising.Goals as goal
 
 pub layer_at-layer-requires : goal.layer_at-layer-requires

@@ -1,16 +1,12 @@
 -- `c_layers::solve` meets its contract. Assumes nothing.
-use mathlib.Core.Path.{◌≡◌, sym, ap, ◌∙◌}
-use mathlib.Core.Bool.{Bool}
-use mathlib.Core.List.{List, []}
+use mathlib.Core.Path.{sym, ap, ◌∙◌}
+use mathlib.Core.List.{List}
 use Prim.Native.Nat.{ℕ}
 use lib.Dec.{eqb}
-use lib.ListN.{length}
 use Rattle.thin_film_solver.specs.declared.ThinFilmLayer.{ThinFilmLayer}
 use Rattle.thin_film_solver.specs.Internal.{solved}
 use Rattle.thin_film_layers.specs.Evaluation.{ordered}
-use Rattle.thin_film.specs.Coating.{layers_of}
 use Rattle.thin_film.proofs.Own.{beside, own}
-use borrow.Author.Rules.{rules}
 use borrow.Author.Tests.{eq-eqb, ne_eqb}
 use Rattle.c_layers.proofs.solve.Goals as goal
 

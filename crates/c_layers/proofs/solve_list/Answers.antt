@@ -1,6 +1,5 @@
 -- `c_layers::solve_list` meets its contract. Assumes nothing.
 use Rattle.response_real.proofs.Whole.{known_stack}
-use borrow.Author.Rules.{rules}
 use Rattle.c_layers.proofs.solve_list.Goals as goal
 
 pub returns-then-quick : goal.returns-then-quick

@@ -1,17 +1,16 @@
 -- `c_layers::stack_of` meets its contract. Assumes nothing.
-use mathlib.Core.Path.{◌≡◌, sym}
+use mathlib.Core.Path.{sym}
 use mathlib.Core.Bool.{Bool}
 use mathlib.Core.List.{List}
-use Prim.Native.Nat.{ℕ, ◌+◌, ◌-◌, ◌<◌, ◌≤◌, ◌/◌}
+use Prim.Native.Nat.{◌/◌}
 use native.Mathlib.Omega.{arith}
 use lib.ListN.{length}
 use lib.Ieee.{Float}
 use Rattle.thin_film_layers.specs.Evaluation.{ordered}
-use Rattle.surface_real.proofs.Turns.{Left, begun, last}
+use Rattle.surface_real.proofs.Turns.{begun, last}
 use Rattle.c_layers.specs.Evaluate.{layers}
 use Rattle.c_layers.proofs.Triples.{count}
 use Rattle.c_layers.proofs.Chunks.{inside, met, turn}
-use borrow.Author.Rules.{rules}
 use Rattle.c_layers.proofs.stack_of.Goals as goal
 
 pub loop-i-init : goal.loop-i-init

@@ -1,17 +1,8 @@
 -- `c_layers::stack_of` meets its contract. Assumes nothing.
-use mathlib.Core.Path.{◌≡◌, sym}
-use mathlib.Core.Bool.{Bool}
-use mathlib.Core.List.{List}
-use Prim.Native.Nat.{ℕ, ◌+◌, ◌-◌, ◌<◌, ◌≤◌, ◌/◌}
-use native.Mathlib.Omega.{arith}
-use lib.ListN.{length}
-use lib.Ieee.{Float}
+use Prim.Native.Nat.{◌-◌, ◌≤◌}
 use Rattle.thin_film_layers.specs.Evaluation.{ordered}
-use Rattle.surface_real.proofs.Turns.{Left, begun, last}
+use Rattle.surface_real.proofs.Turns.{Left}
 use Rattle.c_layers.specs.Evaluate.{layers}
-use Rattle.c_layers.proofs.Triples.{count}
-use Rattle.c_layers.proofs.Chunks.{inside, met, turn}
-use borrow.Author.Rules.{rules}
 use Rattle.c_layers.proofs.stack_of.Given as goal
 
 abbrev pub invariant-loop-i : goal.invariant-loop-i

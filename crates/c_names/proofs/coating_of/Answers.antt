@@ -2,7 +2,6 @@
 use mathlib.Core.Path.{◌∙◌}
 use borrow.Author.Tests.{ne_eqb}
 use Rattle.c_layers.specs.Evaluate.{call_coating}
-use borrow.Author.Rules.{rules}
 use Rattle.c_names.proofs.coating_of.Goals as goal
 
 pub returns-then-code-eq8 : goal.returns-then-code-eq8

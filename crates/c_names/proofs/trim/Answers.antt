@@ -1,6 +1,5 @@
 -- `c_names::trim` meets its contract. Assumes nothing.
 use mathlib.Core.Path.{ap}
-use borrow.Author.Rules.{rules}
 use Rattle.name_bytes.specs.declared.Span.{Span}
 use Rattle.c_names.specs.Names.{cut}
 use Rattle.c_names.proofs.trim.Goals as goal

@@ -1,6 +1,5 @@
 -- `c_presets::bragg_mirror` meets its contract. Assumes nothing.
 use Rattle.c_presets.proofs.Mirror.{too_many, too_short, wrote}
-use borrow.Author.Rules.{rules}
 use Rattle.c_presets.proofs.bragg_mirror.Goals as goal
 
 pub returns-then-pairs-gt31 : goal.returns-then-pairs-gt31

@@ -1,12 +1,9 @@
 -- `c_presets::place` meets its contract. Assumes nothing.
-use Prim.Native.Nat.{◌+◌, ◌*◌, ◌-◌}
 use lib.Dec.{lit<}
 use lib.ListN.{set}
 use lib.Seq.{lt-length-set}
-use Rattle.thin_film_presets.specs.Layers.{bragg_layers}
-use Rattle.c_stack.proofs.Flat.{Half, start, inside}
+use Rattle.c_stack.proofs.Flat.{start, inside}
 use Rattle.c_presets.proofs.Mirror.{turn, ended}
-use borrow.Author.Rules.{rules}
 use Rattle.c_presets.proofs.place.Goals as goal
 
 pub loop-i-init : goal.loop-i-init

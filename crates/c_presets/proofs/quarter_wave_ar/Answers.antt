@@ -2,7 +2,6 @@
 use mathlib.Core.Path.{◌∙◌}
 use Rattle.thin_film_coating.specs.Coating.{quarter_wave_layers}
 use Rattle.c_stack.specs.Stack.{flat}
-use borrow.Author.Rules.{rules}
 use Rattle.c_presets.proofs.quarter_wave_ar.Goals as goal
 
 pub returns : goal.returns

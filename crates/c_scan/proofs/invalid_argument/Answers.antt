@@ -1,8 +1,6 @@
 -- `c_scan::invalid_argument` meets its contract. Assumes nothing.
 use mathlib.Core.Path.{sym, ◌∙◌}
-use borrow.Author.Tests.{not-true, not-false}
 use Rattle.c_scan.specs.Argument.{invalid_argument}
-use borrow.Author.Rules.{rules}
 use Rattle.c_scan.proofs.invalid_argument.Goals as goal
 
 pub returns-then-not-finite_positive : goal.returns-then-not-finite_positive

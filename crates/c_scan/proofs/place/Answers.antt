@@ -1,6 +1,5 @@
 -- `c_scan::place` meets its contract. Assumes nothing.
 use native.Mathlib.Omega.{arith}
-use Rattle.c_layers.proofs.Plain.{of_code}
 use Rattle.c_scan.proofs.Filled.{begun, turn, ended}
 use Rattle.c_scan.proofs.place.Goals as goal
 
@@ -17,7 +16,7 @@ pub place_case-requires : goal.place_case-requires
 place_case-requires c = omega (arith, c.loop-i.invariant.long, c.requires.fits)
 
 pub loop-i-preserved : goal.loop-i-preserved
-loop-i-preserved c = turn _ _ _ _ c.requires.none_refused c.requires.as_many c.requires.fits (λ angle wavelength. of_code _ _ angle wavelength _ _ _) _ _ _ _ c.loop-i-test.true c.loop-i.invariant c.place_case.ensures
+loop-i-preserved c = turn _ _ _ _ c.requires.none_refused c.requires.as_many c.requires.fits _ _ _ _ c.loop-i-test.true c.loop-i.invariant c.place_case.ensures
 
 pub shape_of-list : goal.shape_of-list
 shape_of-list c = c.loop-i.invariant.long

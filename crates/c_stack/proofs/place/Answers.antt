@@ -1,12 +1,9 @@
 -- `c_stack::place` meets its contract. Assumes nothing.
-use mathlib.Core.List.{map}
-use Prim.Native.Nat.{◌-◌}
 use lib.Dec.{lit<}
 use lib.ListN.{set}
 use lib.Seq.{lt-length-set}
-use borrow.Author.Rules.{rules}
 use Rattle.thin_film_shorthand.specs.Stack.{layer}
-use Rattle.c_stack.proofs.Flat.{Half, start, inside, end}
+use Rattle.c_stack.proofs.Flat.{start, inside, end}
 use Rattle.c_stack.proofs.Stacked.{turn}
 use Rattle.c_stack.proofs.place.Goals as goal
 

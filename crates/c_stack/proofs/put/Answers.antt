@@ -1,7 +1,6 @@
 -- `c_stack::put` meets its contract. Assumes nothing.
 use mathlib.Core.Path.{refl}
 use lib.ListN.{length-map}
-use borrow.Author.Rules.{rules}
 use Rattle.c_stack.proofs.Stacked.{short, whole}
 use Rattle.c_stack.proofs.put.Goals as goal
 

@@ -1,27 +1,16 @@
 -- `dihkelu::dihkelu_answers` meets its contract. Assumes nothing.
-use mathlib.Core.Path.{◌≡◌}
-use mathlib.Core.List.{List}
-use Prim.Native.Nat.{ℕ}
-use lib.Ieee.{Float}
-use borrow.Author.Rules.{rules}
-use Rattle.sheet.proofs.Stands.{Known, bytes_from}
-use Rattle.sheet_surfaces.specs.declared.SurfaceReply.{SurfaceReply}
-use Rattle.sheet_surfaces.specs.Surfaces.{surface_answers, given}
-use Rattle.c_call.specs.Call.{Done, Apart, answered}
+use mathlib.Core.Path.{sym, ap, ◌∙◌, subst}
+use Rattle.refusal.specs.Outcome.{Outcome}
+use Rattle.sheet.proofs.Stands.{bytes_from}
+use Rattle.surface.specs.declared.Answers.{Answers}
+use Rattle.c_call.specs.Call.{Apart, answered}
 use Rattle.c_call.specs.Layout.{surface_answered}
-use Rattle.dihkelu.specs.Internal.{taken}
-use Rattle.dihkelu.proofs.Answered.{answers_sound, taken_apart, whole}
+use Rattle.c_call.proofs.Returned.{sound_apart}
+use Rattle.dihkelu.proofs.Answered.{answers_sound}
 use Rattle.dihkelu.proofs.dihkelu_answers.Goals as goal
 
-module _ (src : List ℕ) (known : Known src) (i : ℕ) (r : SurfaceReply) (e : r ≡ given (surface_answers src i)) where
-  apart : Apart (taken r)
-  apart = taken_apart (surface_answers src i) (answers_sound src (bytes_from src known) i) r e
-
-  told : (d : Done) (list : List Float) → d ≡ answered surface_answered (taken r) list → d ≡ answered surface_answered (surface_answers src i) list
-  told = whole (surface_answers src i) (answers_sound src (bytes_from src known) i) r e
-
 pub put_surface-requires : goal.put_surface-requires
-put_surface-requires c = apart _ c.type_inv.sheet _ _ c.surface_answers.ensures
+put_surface-requires c = subst Apart (sym c.surface_answers.ensures) (sound_apart _ (answers_sound _ (bytes_from _ c.type_inv.sheet) _))
 
 pub returns : goal.returns
-returns c = told _ c.type_inv.sheet _ _ c.surface_answers.ensures _ _ c.put_surface.ensures
+returns c = c.put_surface.ensures ∙ ap (λ (o : Outcome Answers). answered surface_answered o c.args.list.now) c.surface_answers.ensures

@@ -4,32 +4,31 @@ use mathlib.Core.List.{List}
 use Prim.Native.Nat.{ℕ, ◌%◌, ◌^◌}
 use borrow.Author.Rules.{rules}
 use Rattle.refusal.specs.declared.Refusal.{Refusal}
-use Rattle.refusal.specs.Outcome.{Outcome, refused}
+use Rattle.refusal.specs.Outcome.{Outcome, refused, outcome, number_of, place_of}
 use Rattle.sheet.proofs.Stands.{Known, bytes_from}
-use Rattle.sheet_edition_1.specs.declared.Rewritten.{Rewritten}
-use Rattle.sheet_edition_1.specs.declared.Rewritten.TheVariants as R
-use Rattle.sheet_edition_1.specs.Edition.{Written, outcome, to_edition_1}
+use Rattle.sheet_edition_1.specs.Edition.{Written, to_edition_1}
 use Rattle.c_call.specs.Call.{packed, Apart}
 use Rattle.c_call.proofs.Returned.{whole_place}
 use Rattle.dihkelu.specs.Edition.{copied, rewritten}
 use Rattle.dihkelu.proofs.Rewritten.{Small, fine_apart, fine}
 use Rattle.dihkelu.proofs.dihkelu_edition_1.Goals as goal
+use Rattle.std.specs.Prelude.{Ok, Err, Result}
 
-module _ (src output out : List ℕ) (g : Rewritten) (e : record { result = outcome g; output = out } ≡ to_edition_1 src output) where
-  long : (n : ℕ) → g ≡ R.Length n → copied n out ≡ rewritten (to_edition_1 src output)
-  long n is = ap (λ (z : Rewritten). rewritten record { result = outcome z; output = out }) (sym is) ∙ ap rewritten e
+module _ (src output out : List ℕ) (g : Result ℕ Refusal) (e : record { result = outcome g; output = out } ≡ to_edition_1 src output) where
+  long : (n : ℕ) → g ≡ Ok n → copied n out ≡ rewritten (to_edition_1 src output)
+  long n is = ap (λ (z : Result ℕ Refusal). rewritten record { result = outcome z; output = out }) (sym is) ∙ ap rewritten e
 
-  refuses : Known src → (r : Refusal) → g ≡ R.Refused r → (n : ℕ) → n ≡ packed r.number (r.place % 2 ^ 32) → copied n out ≡ rewritten (to_edition_1 src output)
+  refuses : Known src → (r : Refusal) → g ≡ Err r → (n : ℕ) → n ≡ packed (number_of r) (place_of r % 2 ^ 32) → copied n out ≡ rewritten (to_edition_1 src output)
   refuses known r is n n_is =
       ap (λ (k : ℕ). copied k out) (n_is ∙ whole_place r (outcome g) (ap outcome (sym is)) apart)
-      ∙ ap (λ (z : Rewritten). rewritten record { result = outcome z; output = out }) (sym is)
+      ∙ ap (λ (z : Result ℕ Refusal). rewritten record { result = outcome z; output = out }) (sym is)
       ∙ ap rewritten e
     where
       apart : Apart (outcome g)
       apart = subst Apart (sym (ap (λ (z : Written). z.result) e)) (fine_apart Small (to_edition_1 src output).result (fine src (bytes_from src known) output))
 
-pub returns-in-Length : goal.returns-in-Length
-returns-in-Length c = long _ _ _ _ c.to_edition_1.ensures _ c.in-Length.is
+pub returns-in-Ok : goal.returns-in-Ok
+returns-in-Ok c = long _ _ _ _ c.to_edition_1.ensures _ c.in-Ok.is
 
-pub returns-in-Refused : goal.returns-in-Refused
-returns-in-Refused c = refuses _ _ _ _ c.to_edition_1.ensures c.type_inv.sheet _ c.in-Refused.is _ c.packed.ensures
+pub returns-in-Err : goal.returns-in-Err
+returns-in-Err c = refuses _ _ _ _ c.to_edition_1.ensures c.type_inv.sheet _ c.in-Err.is _ c.packed.ensures

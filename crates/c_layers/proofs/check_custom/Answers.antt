@@ -1,7 +1,6 @@
--- `c_layers::number_custom` meets its contract. Assumes nothing.
+-- `c_layers::check_custom` meets its contract. Assumes nothing.
 use borrow.Author.Tests.{le-leb, lt-leb}
-use borrow.Author.Rules.{rules}
-use Rattle.c_layers.proofs.number_custom.Goals as goal
+use Rattle.c_layers.proofs.check_custom.Goals as goal
 
 pub returns-then-count-gt64 : goal.returns-then-count-gt64
 returns-then-count-gt64 c = simp (c.in-Multilayer.is, lt-leb _ _ c.if-count-gt64.true)
