@@ -4,18 +4,15 @@
 #![tactic(auto)]
 
 ghost use Rattle.std.specs.Prelude.{◌≡◌, cond, leb, take};
-ghost use Rattle.refusal.specs.Outcome.{answer, too_many_layers};
+ghost use Rattle.refusal.specs.Outcome.{answer, too_many_layers, outcome};
 ghost use Rattle.thin_film_solver.specs.Solve as Solve;
-ghost use Rattle.thin_film_layers.specs.Evaluation.{outcome};
 ghost use Rattle.thin_film_coating.specs.Evaluate.{evaluate_coating};
 ghost use Rattle.thin_film.specs.Evaluate.{evaluate_surface};
 
+use refusal::Refusal;
 use thin_film::SurfaceCoating;
 use thin_film_coating::Coating;
-use thin_film_layers::Evaluation;
-use thin_film_solver::ThinFilmLayer;
-
-mod lend;
+use thin_film_solver::{CoatingResponse, ThinFilmLayer};
 
 // Coating::evaluate on the first count of the items.
 pub fn evaluate_coating(
@@ -26,16 +23,14 @@ pub fn evaluate_coating(
     n_substrate: f64,
     angle_incident_rad: f64,
     wavelength_nm: f64,
-) -> Evaluation
+) -> Result<CoatingResponse, Refusal>
     ensures { outcome result ≡ cond (leb count 72) (evaluate_coating coating (take count items) n_incident n_substrate angle_incident_rad wavelength_nm) too_many_layers }
 {
     if count > 72 {
-        return Evaluation::Refused(refusal::TOO_MANY_LAYERS);
+        return Err(Refusal::TooManyLayers);
     }
-    lend::coating(
-        coating,
-        items,
-        count,
+    coating.evaluate(
+        &items[..count],
         n_incident,
         n_substrate,
         angle_incident_rad,
@@ -52,16 +47,14 @@ pub fn evaluate_surface(
     n_substrate: f64,
     angle_incident_rad: f64,
     wavelength_nm: f64,
-) -> Evaluation
+) -> Result<CoatingResponse, Refusal>
     ensures { outcome result ≡ cond (leb count 72) (evaluate_surface coating (take count items) n_incident n_substrate angle_incident_rad wavelength_nm) too_many_layers }
 {
     if count > 72 {
-        return Evaluation::Refused(refusal::TOO_MANY_LAYERS);
+        return Err(Refusal::TooManyLayers);
     }
-    lend::surface(
-        coating,
-        items,
-        count,
+    coating.evaluate(
+        &items[..count],
         n_incident,
         n_substrate,
         angle_incident_rad,
@@ -77,18 +70,17 @@ pub fn evaluate_multilayer(
     n_substrate: f64,
     angle_incident_rad: f64,
     wavelength_nm: f64,
-) -> Evaluation
+) -> Result<CoatingResponse, Refusal>
     ensures { outcome result ≡ cond (leb count 72) (answer (Solve.evaluate n_incident n_substrate angle_incident_rad wavelength_nm (take count items))) too_many_layers }
 {
     if count > 72 {
-        return Evaluation::Refused(refusal::TOO_MANY_LAYERS);
+        return Err(Refusal::TooManyLayers);
     }
-    Evaluation::Response(lend::multilayer(
-        items,
-        count,
+    Ok(thin_film_layers::evaluate_tmm_multilayer(
         n_incident,
         n_substrate,
         angle_incident_rad,
         wavelength_nm,
+        &items[..count],
     ))
 }

@@ -2,19 +2,22 @@
 // A word has the bytes of two words of a sheet, and is read by the sheet's reader.
 #![tactic(auto)]
 
-ghost use Rattle.std.specs.Prelude.{◌≡◌};
+ghost use Rattle.std.specs.Prelude.{◌≡◌, slice_set};
 ghost use Rattle.std.specs.Float.{binary64};
 ghost use Rattle.std.specs.Float.Ieee.{of_bits};
+ghost use Rattle.refusal.specs.Outcome.{number_of, place_of};
 ghost use Rattle.test_records.specs.Parts.{four, jones, response, of_jones, of_response};
 ghost use Rattle.test_records.specs.Words.{word, small, behind, header, words_of, arguments, results, pattern, written, agree, recorded};
 
 use polarization_mueller::{JonesMatrix, MuellerMatrix};
+use refusal::Refusal;
 use thin_film_complex::Complex;
 use thin_film_solver::CoatingResponse;
 
 // ---- from bytes
 
 // The i-th word, counted from 0; 0 past the last.
+#[tactic(auto, unfolding(sheet::specs::Words::word, sheet::specs::Words::float))]
 pub fn word_at(b: &[u8], i: usize) -> u64
     ensures { result ≡ word b.now i }
 {
@@ -26,6 +29,7 @@ pub fn word_at(b: &[u8], i: usize) -> u64
 }
 
 // The float of the i-th word.
+#[tactic(auto, unfolding(sheet::specs::Words::word, sheet::specs::Words::float))]
 pub fn float_at(b: &[u8], i: usize) -> f64
     ensures { result ≡ of_bits binary64 (word b.now i) }
 {
@@ -46,6 +50,7 @@ pub struct Four {
 }
 
 // Those of the words from the i-th on.
+#[tactic(auto, unfolding(sheet::specs::Words::word, sheet::specs::Words::float))]
 pub fn four_at(b: &[u8], i: usize) -> Four
     ensures { result ≡ four b.now i }
 {
@@ -67,6 +72,7 @@ pub fn four_at(b: &[u8], i: usize) -> Four
 }
 
 // The Jones matrix in the eight words from the i-th on.
+#[tactic(auto, unfolding(sheet::specs::Words::word, sheet::specs::Words::float))]
 pub fn jones_at(b: &[u8], i: usize) -> JonesMatrix
     ensures { result ≡ jones b.now i }
 {
@@ -111,6 +117,7 @@ pub fn response_at(b: &[u8]) -> CoatingResponse
 }
 
 // The low half of the i-th word.
+#[tactic(auto, unfolding(sheet::specs::Words::word))]
 pub fn small_at(b: &[u8], i: usize) -> u32
     ensures { result ≡ small b.now i }
 {
@@ -122,6 +129,7 @@ pub fn small_at(b: &[u8], i: usize) -> u32
 }
 
 // The bytes behind the i-th word, which is their count; none where they do not all stand there.
+#[tactic(auto, unfolding(crate::specs::Words::behind))]
 pub fn bytes_at(b: &[u8], i: usize) -> &[u8]
     ensures { result.now ≡ behind b.now i }
 {
@@ -158,13 +166,11 @@ pub fn header_of(b: &[u8]) -> Header
 }
 
 // The n words behind the first so many; none where they do not all stand there.
+#[tactic(auto, unfolding(crate::specs::Words::words_of))]
 fn words_of(body: &[u8], first: usize, n: usize) -> &[u8]
     ensures { result.now ≡ words_of body.now first n }
 {
-    if first > body.len() / 8 {
-        return &body[..0];
-    }
-    if n > body.len() / 8 - first {
+    if first > body.len() / 8 || n > body.len() / 8 - first {
         return &body[..0];
     }
     let start = 8 * first;
@@ -189,6 +195,7 @@ pub fn results(h: Header, body: &[u8]) -> &[u8]
 // ---- an answer
 
 // The pattern of a float; every NaN has the same.
+#[tactic(auto, unfolding(crate::specs::Words::pattern))]
 pub fn bits(x: f64) -> u64
     ensures { result ≡ pattern x }
 {
@@ -203,11 +210,9 @@ pub fn bits(x: f64) -> u64
 pub fn write(out: &mut [u64; 256], at: usize, x: &[f64])
     ensures { out.new ≡ written out.old at x.now }
 {
+    let room = out.len().saturating_sub(at);
     for (i, value) in x.iter().enumerate() {
-        if at >= 256 {
-            return;
-        }
-        if i >= 256 - at {
+        if i >= room {
             return;
         }
         out[at + i] = bits(*value);
@@ -278,6 +283,16 @@ pub fn write_response(out: &mut [u64; 256], at: usize, r: CoatingResponse)
     write(out, at, &w);
 }
 
+// Writes a refusal's number and place, from the first word on; how many words they are.
+pub fn write_refusal(out: &mut [u64; 256], r: Refusal) -> usize
+    ensures count { result ≡ 2 }
+    ensures words { out.new ≡ slice_set (slice_set out.old 0 (number_of r)) 1 (place_of r) }
+{
+    out[0] = r.number() as u64;
+    out[1] = r.place() as u64;
+    2
+}
+
 // Whether some words are the recorded ones.
 fn alike(got: &[u64], want: &[u8]) -> bool
     ensures { result ≡ agree got.now want.now 0 }
@@ -294,8 +309,5 @@ fn alike(got: &[u64], want: &[u8]) -> bool
 pub fn same(got: &[u64], n: usize, want: &[u8]) -> bool
     ensures { result ≡ recorded got.now n want.now }
 {
-    if got.len() < n {
-        return false;
-    }
-    alike(&got[..n], want)
+    n <= got.len() && alike(&got[..n], want)
 }

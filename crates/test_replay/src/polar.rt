@@ -114,26 +114,21 @@ fn jones_value(f: usize, x: Four, left: JonesMatrix, right: JonesMatrix) -> Jone
 
 fn coating_jones(a: &[u8], out: &mut [u64; 256]) -> usize {
     let r = polarization::surface_coating_jones(test_records::response_at(a));
-    let reflection = r.reflection;
-    let transmission = r.transmission;
-    test_records::write_jones(out, 0, reflection);
-    test_records::write_jones(out, 8, transmission);
+    test_records::write_jones(out, 0, r.reflection);
+    test_records::write_jones(out, 8, r.transmission);
     16
 }
 
 fn fresnel_jones(x: Four, out: &mut [u64; 256]) -> usize {
-    let r = polarization::surface_fresnel_jones(x.a, x.b, x.c);
-    out[0] = r.refusal as u64;
-    if r.refusal > 0 {
-        out[1] = 0;
-        return 2;
+    match polarization::surface_fresnel_jones(x.a, x.b, x.c) {
+        Ok(matrices) => {
+            out[0] = 0;
+            test_records::write_jones(out, 1, matrices.reflection);
+            test_records::write_jones(out, 9, matrices.transmission);
+            17
+        }
+        Err(r) => test_records::write_refusal(out, r),
     }
-    let matrices = r.matrices;
-    let reflection = matrices.reflection;
-    let transmission = matrices.transmission;
-    test_records::write_jones(out, 1, reflection);
-    test_records::write_jones(out, 9, transmission);
-    17
 }
 
 // 120 to 139.

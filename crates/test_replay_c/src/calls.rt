@@ -1,11 +1,17 @@
 // The functions 180 to 198 and from 205 on, the exports, and 155, which is one of them too. Each gives what a call returns and all of the list, of the state or of the output that it
 // was lent, in so many words; none where it is not one of these or its list is too long to lend.
 
-// What a call returned, and the first n numbers of the list; the words behind them do not count.
-fn returned(out: &mut [u64; 256], number: u64, list: &[f64; 200], n: usize) -> usize {
-    out[0] = number;
-    test_records::write(out, 1, list);
-    if n > 200 { 0 } else { n + 1 }
+// Lends the first n numbers of a list to a call: what the call returned, and those numbers. The words behind them do not count.
+fn lent<F: FnOnce(&mut [f64]) -> u64>(out: &mut [u64; 256], n: usize, call: F) -> usize
+    requires { F.IsAlwaysCallable call }
+{
+    let mut list = [-7.25f64; 200];
+    if n > 200 {
+        return 0;
+    }
+    out[0] = call(&mut list[..n]);
+    test_records::write(out, 1, &list);
+    n + 1
 }
 
 fn gate_call(src: &[u8], out: &mut [u64; 256]) -> usize {
@@ -60,12 +66,23 @@ fn retune_call(a: &[u8], out: &mut [u64; 256]) -> usize {
 }
 
 fn run_call(n: usize, src: &[u8], out: &mut [u64; 256]) -> usize {
-    let mut list = [-7.25f64; 200];
-    if n > 200 {
-        return 0;
-    }
-    let number = dihkelu::dihkelu_run(src, &mut list[..n]);
-    returned(out, number, &list, n)
+    lent(out, n, |list| dihkelu::dihkelu_run(src, list))
+}
+
+fn answers_call(n: usize, surface: u32, src: &[u8], out: &mut [u64; 256]) -> usize {
+    lent(out, n, |list| dihkelu::dihkelu_answers(src, surface, list))
+}
+
+fn answers_at_call(
+    n: usize,
+    wavelength_nm: f64,
+    surface: u32,
+    src: &[u8],
+    out: &mut [u64; 256],
+) -> usize {
+    lent(out, n, |list| {
+        dihkelu::dihkelu_answers_at(src, surface, wavelength_nm, list)
+    })
 }
 
 // A sum turned by one bit, and a byte added without carry.
@@ -75,16 +92,10 @@ fn turned(sum: u64, byte: u8) -> u64 {
 
 // The first n bytes of an output as one word.
 fn folded(output: &[u8; 40000], n: usize) -> u64 {
-    let mut sum = 0;
-    let mut i = 0;
-    while i < n {
-        if i >= 40000 {
-            return sum;
-        }
-        sum = turned(sum, output[i]);
-        i += 1;
-    }
-    sum
+    output
+        .iter()
+        .take(n)
+        .fold(0, |sum, byte| turned(sum, *byte))
 }
 
 fn edition_1_call(n: usize, src: &[u8], out: &mut [u64; 256]) -> usize {
@@ -97,78 +108,46 @@ fn edition_1_call(n: usize, src: &[u8], out: &mut [u64; 256]) -> usize {
     2
 }
 
-fn answers_call(n: usize, surface: u32, src: &[u8], out: &mut [u64; 256]) -> usize {
-    let mut list = [-7.25f64; 200];
-    if n > 200 {
-        return 0;
-    }
-    let number = dihkelu::dihkelu_answers(src, surface, &mut list[..n]);
-    returned(out, number, &list, n)
-}
-
-fn answers_at_call(
-    n: usize,
-    wavelength_nm: f64,
-    surface: u32,
-    src: &[u8],
-    out: &mut [u64; 256],
-) -> usize {
-    let mut list = [-7.25f64; 200];
-    if n > 200 {
-        return 0;
-    }
-    let number = dihkelu::dihkelu_answers_at(src, surface, wavelength_nm, &mut list[..n]);
-    returned(out, number, &list, n)
-}
-
 // So many numbers, the first of which is at a word of the record.
 fn floats_at(a: &[u8], from: u32) -> [f64; 200] {
     let mut floats = [0.0f64; 200];
-    let mut i = 0;
-    while i < 200 {
-        floats[i] = test_records::float_at(a, from as usize + i);
-        i += 1;
+    for (i, float) in floats.iter_mut().enumerate() {
+        *float = test_records::float_at(a, from as usize + i);
     }
     floats
 }
 
 fn evaluate_call(n: usize, a: &[u8], out: &mut [u64; 256]) -> usize {
-    let mut list = [-7.25f64; 200];
-    let layers = floats_at(a, 8);
     let count = test_records::small_at(a, 7) as usize;
-    if n > 200 {
-        return 0;
-    }
     if count > 200 {
         return 0;
     }
-    let number = dihkelu::dihkelu_evaluate(
-        test_records::small_at(a, 1),
-        test_records::float_at(a, 2),
-        test_records::float_at(a, 3),
-        test_records::float_at(a, 4),
-        test_records::float_at(a, 5),
-        test_records::float_at(a, 6),
-        &layers[..count],
-        &mut list[..n],
-    );
-    returned(out, number, &list, n)
+    let layers = &floats_at(a, 8)[..count];
+    lent(out, n, |list| {
+        dihkelu::dihkelu_evaluate(
+            test_records::small_at(a, 1),
+            test_records::float_at(a, 2),
+            test_records::float_at(a, 3),
+            test_records::float_at(a, 4),
+            test_records::float_at(a, 5),
+            test_records::float_at(a, 6),
+            layers,
+            list,
+        )
+    })
 }
 
 fn stack_call(n: usize, a: &[u8], out: &mut [u64; 256]) -> usize {
-    let mut list = [-7.25f64; 200];
-    if n > 200 {
-        return 0;
-    }
-    let number = dihkelu::dihkelu_stack(
-        test_records::bytes_at(a, 5),
-        test_records::float_at(a, 1),
-        test_records::float_at(a, 2),
-        test_records::float_at(a, 3),
-        test_records::float_at(a, 4),
-        &mut list[..n],
-    );
-    returned(out, number, &list, n)
+    lent(out, n, |list| {
+        dihkelu::dihkelu_stack(
+            test_records::bytes_at(a, 5),
+            test_records::float_at(a, 1),
+            test_records::float_at(a, 2),
+            test_records::float_at(a, 3),
+            test_records::float_at(a, 4),
+            list,
+        )
+    })
 }
 
 // Ten numbers, the first of which is the third of the record.
@@ -188,44 +167,35 @@ fn numbers_at(a: &[u8]) -> [f64; 10] {
 }
 
 fn to_mueller_call(n: usize, count: usize, a: &[u8], out: &mut [u64; 256]) -> usize {
-    let mut list = [-7.25f64; 200];
-    let numbers = numbers_at(a);
-    if n > 200 {
-        return 0;
-    }
     if count > 10 {
         return 0;
     }
-    let number = dihkelu::dihkelu_to_mueller(&numbers[..count], &mut list[..n]);
-    returned(out, number, &list, n)
+    let numbers = &numbers_at(a)[..count];
+    lent(out, n, |list| dihkelu::dihkelu_to_mueller(numbers, list))
 }
 
 fn born_wolf_call(n: usize, count: usize, a: &[u8], out: &mut [u64; 256]) -> usize {
-    let mut list = [-7.25f64; 200];
-    let numbers = numbers_at(a);
-    if n > 200 {
-        return 0;
-    }
     if count > 10 {
         return 0;
     }
-    let number = dihkelu::dihkelu_mueller_born_wolf(&numbers[..count], &mut list[..n]);
-    returned(out, number, &list, n)
+    let numbers = &numbers_at(a)[..count];
+    lent(
+        out,
+        n,
+        |list| dihkelu::dihkelu_mueller_born_wolf(numbers, list),
+    )
 }
 
 fn range_call(n: usize, a: &[u8], out: &mut [u64; 256]) -> usize {
-    let mut list = [-7.25f64; 200];
-    if n > 200 {
-        return 0;
-    }
-    let number = dihkelu::dihkelu_reflectance_range(
-        test_records::float_at(a, 1),
-        test_records::float_at(a, 2),
-        test_records::float_at(a, 3),
-        test_records::float_at(a, 4),
-        &mut list[..n],
-    );
-    returned(out, number, &list, n)
+    lent(out, n, |list| {
+        dihkelu::dihkelu_reflectance_range(
+            test_records::float_at(a, 1),
+            test_records::float_at(a, 2),
+            test_records::float_at(a, 3),
+            test_records::float_at(a, 4),
+            list,
+        )
+    })
 }
 
 fn quarter_waves_call(a: &[u8], out: &mut [u64; 256]) -> usize {
@@ -244,10 +214,8 @@ fn quarter_waves_call(a: &[u8], out: &mut [u64; 256]) -> usize {
 // So many wavelengths, the first of which is the fourth word of the record.
 fn wavelengths_at(a: &[u8]) -> [f64; 66] {
     let mut wavelengths = [0.0f64; 66];
-    let mut i = 0;
-    while i < 66 {
-        wavelengths[i] = test_records::float_at(a, i + 3);
-        i += 1;
+    for (i, wavelength) in wavelengths.iter_mut().enumerate() {
+        *wavelength = test_records::float_at(a, i + 3);
     }
     wavelengths
 }
@@ -255,68 +223,50 @@ fn wavelengths_at(a: &[u8]) -> [f64; 66] {
 // So many weights, the first of which is at a word of the record.
 fn weights_at(a: &[u8], from: u32) -> [u32; 66] {
     let mut weights = [0u32; 66];
-    let mut i = 0;
-    while i < 66 {
-        weights[i] = test_records::small_at(a, from as usize + i);
-        i += 1;
+    for (i, weight) in weights.iter_mut().enumerate() {
+        *weight = test_records::small_at(a, from as usize + i);
     }
     weights
 }
 
 fn band_call(n: usize, lines: u32, a: &[u8], out: &mut [u64; 256]) -> usize {
-    let mut list = [-7.25f64; 200];
     let count = test_records::small_at(a, 2);
-    if n > 200 {
+    if lines > 66 || count > 66 {
         return 0;
     }
-    if lines > 66 {
-        return 0;
-    }
-    if count > 66 {
-        return 0;
-    }
-    let wavelengths = wavelengths_at(a);
-    let weights = weights_at(a, lines + 3);
+    let wavelengths = &wavelengths_at(a)[..lines as usize];
+    let weights = &weights_at(a, lines + 3)[..count as usize];
     let src = test_records::bytes_at(a, (lines + count + 3) as usize);
-    let m = lines as usize;
-    let k = count as usize;
-    let number = dihkelu::dihkelu_band(src, &wavelengths[..m], &weights[..k], &mut list[..n]);
-    returned(out, number, &list, n)
+    lent(out, n, |list| {
+        dihkelu::dihkelu_band(src, wavelengths, weights, list)
+    })
 }
 
 fn evaluate_list_call(n: usize, a: &[u8], out: &mut [u64; 256]) -> usize {
-    let mut list = [-7.25f64; 200];
     let angles = test_records::small_at(a, 5);
     let wavelengths = test_records::small_at(a, 6);
-    if n > 200 {
-        return 0;
-    }
-    if angles > 200 {
-        return 0;
-    }
-    if wavelengths > 200 {
+    if angles > 200 || wavelengths > 200 {
         return 0;
     }
     let count = test_records::small_at(a, (angles + wavelengths + 7) as usize) as usize;
     if count > 200 {
         return 0;
     }
-    let angles_rad = floats_at(a, 7);
-    let wavelengths_nm = floats_at(a, angles + 7);
-    let layers = floats_at(a, angles + wavelengths + 8);
-    let k = angles as usize;
-    let m = wavelengths as usize;
-    let number = dihkelu::dihkelu_evaluate_list(
-        test_records::small_at(a, 1),
-        test_records::float_at(a, 2),
-        test_records::float_at(a, 3),
-        test_records::float_at(a, 4),
-        &angles_rad[..k],
-        &wavelengths_nm[..m],
-        &layers[..count],
-        &mut list[..n],
-    );
-    returned(out, number, &list, n)
+    let angles_rad = &floats_at(a, 7)[..angles as usize];
+    let wavelengths_nm = &floats_at(a, angles + 7)[..wavelengths as usize];
+    let layers = &floats_at(a, angles + wavelengths + 8)[..count];
+    lent(out, n, |list| {
+        dihkelu::dihkelu_evaluate_list(
+            test_records::small_at(a, 1),
+            test_records::float_at(a, 2),
+            test_records::float_at(a, 3),
+            test_records::float_at(a, 4),
+            angles_rad,
+            wavelengths_nm,
+            layers,
+            list,
+        )
+    })
 }
 
 fn invalid_argument_call(a: &[u8], out: &mut [u64; 256]) -> usize {

@@ -1,20 +1,24 @@
 // The functions 208 to 228, the calls that are single functions. Each gives what a call returns and all of the list that it was
 // lent, in so many words; none where it is not one of these or its list is too long to lend.
 
-// What a call returned, and the first n numbers of the list; the words behind them do not count.
-fn returned(out: &mut [u64; 256], number: u64, list: &[f64; 200], n: usize) -> usize {
-    out[0] = number;
-    test_records::write(out, 1, list);
-    if n > 200 { 0 } else { n + 1 }
+// Lends the first n numbers of a list to a call: what the call returned, and those numbers. The words behind them do not count.
+fn lent<F: FnOnce(&mut [f64]) -> u64>(out: &mut [u64; 256], n: usize, call: F) -> usize
+    requires { F.IsAlwaysCallable call }
+{
+    let mut list = [-7.25f64; 200];
+    if n > 200 {
+        return 0;
+    }
+    out[0] = call(&mut list[..n]);
+    test_records::write(out, 1, &list);
+    n + 1
 }
 
 // Eighteen numbers, the first of which is at a word of the record.
 fn numbers_at(a: &[u8], from: u32) -> [f64; 18] {
     let mut numbers = [0.0f64; 18];
-    let mut i = 0;
-    while i < 18 {
-        numbers[i] = test_records::float_at(a, from as usize + i);
-        i += 1;
+    for (i, number) in numbers.iter_mut().enumerate() {
+        *number = test_records::float_at(a, from as usize + i);
     }
     numbers
 }
@@ -61,47 +65,28 @@ fn of_lists(f: usize, first: &[f64], second: &[f64], list: &mut [f64]) -> u64 {
 }
 
 fn three_call(f: usize, n: usize, a: &[u8], out: &mut [u64; 256]) -> usize {
-    let mut list = [-7.25f64; 200];
     let x = test_records::float_at(a, 1);
     let y = test_records::float_at(a, 2);
     let z = test_records::float_at(a, 3);
-    if n > 200 {
-        return 0;
-    }
-    let number = of_three(f, x, y, z, &mut list[..n]);
-    returned(out, number, &list, n)
+    lent(out, n, |list| of_three(f, x, y, z, list))
 }
 
 fn angle_call(f: usize, n: usize, a: &[u8], out: &mut [u64; 256]) -> usize {
-    let mut list = [-7.25f64; 200];
     let angle = test_records::float_at(a, 1);
-    if n > 200 {
-        return 0;
-    }
-    let number = of_angle(f, angle, &mut list[..n]);
-    returned(out, number, &list, n)
+    lent(out, n, |list| of_angle(f, angle, list))
 }
 
 fn list_call(f: usize, n: usize, a: &[u8], out: &mut [u64; 256]) -> usize {
-    let mut list = [-7.25f64; 200];
     let count = test_records::small_at(a, 1) as usize;
-    if n > 200 {
-        return 0;
-    }
     if count > 18 {
         return 0;
     }
-    let numbers = numbers_at(a, 2);
-    let number = of_list(f, &numbers[..count], &mut list[..n]);
-    returned(out, number, &list, n)
+    let numbers = &numbers_at(a, 2)[..count];
+    lent(out, n, |list| of_list(f, numbers, list))
 }
 
 fn lists_call(f: usize, n: usize, a: &[u8], out: &mut [u64; 256]) -> usize {
-    let mut list = [-7.25f64; 200];
     let first = test_records::small_at(a, 1);
-    if n > 200 {
-        return 0;
-    }
     if first > 18 {
         return 0;
     }
@@ -109,26 +94,19 @@ fn lists_call(f: usize, n: usize, a: &[u8], out: &mut [u64; 256]) -> usize {
     if second > 18 {
         return 0;
     }
-    let matrix = numbers_at(a, 2);
-    let numbers = numbers_at(a, first + 3);
-    let k = first as usize;
-    let number = of_lists(f, &matrix[..k], &numbers[..second], &mut list[..n]);
-    returned(out, number, &list, n)
+    let matrix = &numbers_at(a, 2)[..first as usize];
+    let numbers = &numbers_at(a, first + 3)[..second];
+    lent(out, n, |list| of_lists(f, matrix, numbers, list))
 }
 
 fn bragg_mirror_call(n: usize, a: &[u8], out: &mut [u64; 256]) -> usize {
-    let mut list = [-7.25f64; 200];
-    if n > 200 {
-        return 0;
-    }
-    let number = dihkelu::dihkelu_bragg_mirror(
-        test_records::float_at(a, 1),
-        test_records::float_at(a, 2),
-        test_records::small_at(a, 3),
-        test_records::float_at(a, 4),
-        &mut list[..n],
-    );
-    returned(out, number, &list, n)
+    let n_high = test_records::float_at(a, 1);
+    let n_low = test_records::float_at(a, 2);
+    let pairs = test_records::small_at(a, 3);
+    let design_wavelength_nm = test_records::float_at(a, 4);
+    lent(out, n, |list| {
+        dihkelu::dihkelu_bragg_mirror(n_high, n_low, pairs, design_wavelength_nm, list)
+    })
 }
 
 fn name_call(name: &[u8], out: &mut [u64; 256]) -> usize {
@@ -136,29 +114,16 @@ fn name_call(name: &[u8], out: &mut [u64; 256]) -> usize {
     1
 }
 
-fn word_of(byte: u8) -> u64 {
-    byte as u64
-}
-
-// The first n bytes of an output, each as a word, behind what the call returned.
-fn put_bytes(out: &mut [u64; 256], output: &[u8; 200], n: usize) {
-    let mut i = 0;
-    while i < n {
-        if i >= 200 {
-            return;
-        }
-        out[1 + i] = word_of(output[i]);
-        i += 1;
-    }
-}
-
+// What the call returned, and each byte of the output as a word.
 fn coating_name_call(n: usize, code: u32, out: &mut [u64; 256]) -> usize {
     let mut output = [0xa5u8; 200];
     if n > 200 {
         return 0;
     }
     out[0] = dihkelu::dihkelu_coating_name(code, &mut output[..n]);
-    put_bytes(out, &output, n);
+    for (i, byte) in output[..n].iter().enumerate() {
+        out[i + 1] = *byte as u64;
+    }
     n + 1
 }
 

@@ -2,10 +2,10 @@
 ghost use Rattle.std.specs.Prelude.{◌≤◌};
 
 use polarization_mueller::JonesMatrix;
+use refusal::Refusal;
 use test_records::Four;
 use thin_film::{SurfaceCoating, Text};
 use thin_film_coating::{Built, Coating, Layers};
-use thin_film_layers::Evaluation;
 use thin_film_solver::{CoatingResponse, ThinFilmLayer};
 
 fn one(out: &mut [u64; 256], x: f64) -> usize {
@@ -109,8 +109,8 @@ fn built_out(out: &mut [u64; 256], at: usize, b: Built) -> usize
     }
     out[at] = code_of(c);
     out[at + 1] = count as u64;
-    for i in 0..count {
-        layer_out(out, at + 2 + 3 * i, items[i]);
+    for (i, layer) in items[..count].iter().enumerate() {
+        layer_out(out, at + 2 + 3 * i, *layer);
     }
     at + 2 + 3 * count
 }
@@ -131,14 +131,10 @@ fn response_out(out: &mut [u64; 256], r: CoatingResponse) -> usize {
     17
 }
 
-fn evaluation_out(out: &mut [u64; 256], e: Evaluation) -> usize {
+fn evaluation_out(out: &mut [u64; 256], e: Result<CoatingResponse, Refusal>) -> usize {
     match e {
-        Evaluation::Response(r) => response_out(out, r),
-        Evaluation::Refused(r) => {
-            out[0] = r.number as u64;
-            out[1] = r.place as u64;
-            2
-        }
+        Ok(r) => response_out(out, r),
+        Err(r) => test_records::write_refusal(out, r),
     }
 }
 
@@ -175,14 +171,14 @@ fn product(x: JonesMatrix, y: JonesMatrix) -> JonesMatrix {
     }
 }
 
-fn coating_evaluation(a: &[u8]) -> Evaluation {
+fn coating_evaluation(a: &[u8]) -> Result<CoatingResponse, Refusal> {
     let x = test_records::four_at(a, 1);
     let n = test_records::small_at(a, 5) as usize;
     let c = coating(test_records::small_at(a, 0));
     test_layers::evaluate_coating(c, items_at(a, 6), n, x.a, x.b, x.c, x.d)
 }
 
-fn surface_evaluation(a: &[u8]) -> Evaluation {
+fn surface_evaluation(a: &[u8]) -> Result<CoatingResponse, Refusal> {
     let x = test_records::four_at(a, 2);
     let n = test_records::small_at(a, 6) as usize;
     test_layers::evaluate_surface(surface_at(a), items_at(a, 7), n, x.a, x.b, x.c, x.d)
@@ -191,10 +187,9 @@ fn surface_evaluation(a: &[u8]) -> Evaluation {
 fn multilayer_response(a: &[u8]) -> CoatingResponse {
     let x = test_records::four_at(a, 0);
     let n = test_records::small_at(a, 4) as usize;
-    match test_layers::evaluate_multilayer(items_at(a, 5), n, x.a, x.b, x.c, x.d) {
-        Evaluation::Response(r) => r,
-        Evaluation::Refused(_) => thin_film_solver::no_response(),
-    }
+    test_layers::evaluate_multilayer(items_at(a, 5), n, x.a, x.b, x.c, x.d).unwrap_or(
+        thin_film_solver::no_response(),
+    )
 }
 
 // 60 to 63.

@@ -6,8 +6,6 @@
 mod films;
 mod names;
 
-use test_tally::Next;
-
 // How many words the function gave; 0 where it is not one of these.
 fn call(f: usize, a: &[u8], out: &mut [u64; 256]) -> usize {
     if f < 80 {
@@ -17,27 +15,6 @@ fn call(f: usize, a: &[u8], out: &mut [u64; 256]) -> usize {
     }
 }
 
-// One record: whether there was one.
-fn replay(all: &mut [u32; 256], agreed: &mut [u32; 256], body: &mut [u8; 6144]) -> bool {
-    match test_tally::next_record(body) {
-        Next::End => false,
-        Next::Record(h) => {
-            let mut got = [0u64; 256];
-            let n = call(h.function, test_records::arguments(h, body), &mut got);
-            test_tally::tally(h, body, &got, n, all, agreed);
-            true
-        }
-    }
-}
-
 fn main() {
-    let mut all = [0u32; 256];
-    let mut agreed = [0u32; 256];
-    let mut body = [0u8; 6144];
-    for _ in 0..0xffff_ffffu32 {
-        if !replay(&mut all, &mut agreed, &mut body) {
-            break;
-        }
-    }
-    test_tally::print_tally(&all, &agreed);
+    test_tally::replay(&mut [0u8; 6144], call);
 }

@@ -1,6 +1,6 @@
 // The functions 140 to 142: of coating names.
 use super::films::{surface_at, text_out};
-use name_coating::Named;
+use refusal::Refusal;
 use thin_film::SurfaceCoating;
 
 fn code_of(s: SurfaceCoating) -> u64 {
@@ -31,15 +31,11 @@ fn coating_out(out: &mut [u64; 256], code: u64, design: f64) -> usize {
     3
 }
 
-fn named_out(out: &mut [u64; 256], n: Named) -> usize {
+fn named_out(out: &mut [u64; 256], n: Result<Option<SurfaceCoating>, Refusal>) -> usize {
     match n {
-        Named::Coating(s) => coating_out(out, code_of(s), design_of(s)),
-        Named::Nothing => coating_out(out, 0, 0.0),
-        Named::Refused(r) => {
-            out[0] = r.number as u64;
-            out[1] = r.place as u64;
-            2
-        }
+        Ok(Some(s)) => coating_out(out, code_of(s), design_of(s)),
+        Ok(None) => coating_out(out, 0, 0.0),
+        Err(r) => test_records::write_refusal(out, r),
     }
 }
 

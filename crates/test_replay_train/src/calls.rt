@@ -3,15 +3,8 @@
 ghost use Rattle.std.specs.Prelude.{◌≤◌};
 
 use super::answers::answers_out;
-use gate::Gated;
 use refusal::Refusal;
-use train_steps::{State, TrainReply};
-
-fn refusal_out(out: &mut [u64; 256], r: Refusal) -> usize {
-    out[0] = r.number as u64;
-    out[1] = r.place as u64;
-    2
-}
+use train_steps::State;
 
 fn state_out(out: &mut [u64; 256], state: State) -> usize {
     let w = [state.s, state.p, state.wavelength_nm];
@@ -23,75 +16,28 @@ fn state_out(out: &mut [u64; 256], state: State) -> usize {
 
 fn gate_call(src: &[u8], out: &mut [u64; 256]) -> usize {
     match gate::gate(src) {
-        Gated::Admitted(count) => {
+        Ok(count) => {
             out[0] = 0;
             out[1] = count as u64;
             2
         }
-        Gated::Refused(r) => refusal_out(out, r),
+        Err(r) => test_records::write_refusal(out, r),
     }
 }
 
-fn start_call(src: &[u8], out: &mut [u64; 256]) -> usize {
-    match train_steps::start(src) {
-        TrainReply::State(state) => state_out(out, state),
-        TrainReply::Refused(r) => refusal_out(out, r),
-    }
-}
-
-fn step_call(src: &[u8], state: State, out: &mut [u64; 256]) -> usize {
-    match train_steps::step(src, state) {
-        TrainReply::State(next) => state_out(out, next),
-        TrainReply::Refused(r) => refusal_out(out, r),
-    }
-}
-
-fn retune_call(src: &[u8], state: State, wavelength_nm: f64, out: &mut [u64; 256]) -> usize {
-    match train_steps::retune(src, state, wavelength_nm) {
-        TrainReply::State(next) => state_out(out, next),
-        TrainReply::Refused(r) => refusal_out(out, r),
-    }
-}
-
-// The state that an action returns, and the number that it was refused with, or 0.
-#[derive(Clone, Copy)]
-struct Moved {
-    state: State,
-    number: u64,
-}
-
-fn stepped(src: &[u8], state: State) -> Moved {
-    match train_steps::step(src, state) {
-        TrainReply::State(next) => Moved {
-            state: next,
-            number: 0,
-        },
-        TrainReply::Refused(r) => Moved {
-            state,
-            number: r.number as u64,
-        },
-    }
-}
-
-fn retuned(src: &[u8], state: State, wavelength_nm: f64) -> Moved {
-    match train_steps::retune(src, state, wavelength_nm) {
-        TrainReply::State(next) => Moved {
-            state: next,
-            number: 0,
-        },
-        TrainReply::Refused(r) => Moved {
-            state,
-            number: r.number as u64,
-        },
+fn moved_out(out: &mut [u64; 256], moved: Result<State, Refusal>) -> usize {
+    match moved {
+        Ok(state) => state_out(out, state),
+        Err(r) => test_records::write_refusal(out, r),
     }
 }
 
 // The action of the i-th word: a step, or a retune to the wavelength of that pattern.
-fn act(src: &[u8], state: State, a: &[u8], i: usize) -> Moved {
+fn act(src: &[u8], state: State, a: &[u8], i: usize) -> Result<State, Refusal> {
     if test_records::word_at(a, i) == 0xFFFF_FFFF_FFFF_FFFF {
-        stepped(src, state)
+        train_steps::step(src, state)
     } else {
-        retuned(src, state, test_records::float_at(a, i))
+        train_steps::retune(src, state, test_records::float_at(a, i))
     }
 }
 
@@ -116,13 +62,16 @@ fn acts_from(src: &[u8], first: State, n: usize, a: &[u8], out: &mut [u64; 256])
 {
     let mut state = first;
     let mut sum: u64 = 0;
-    let mut i = 0;
-    while i < n {
-        let moved = act(src, state, a, i + 1);
-        state = moved.state;
-        sum = digested(sum, moved.number, state);
-        out[i + 6] = moved.number;
-        i += 1;
+    for i in 0..n {
+        let number = match act(src, state, a, i + 1) {
+            Ok(next) => {
+                state = next;
+                0
+            }
+            Err(r) => r.number() as u64,
+        };
+        sum = digested(sum, number, state);
+        out[i + 6] = number;
     }
     out[5] = sum;
     state_out(out, state);
@@ -135,26 +84,14 @@ fn actions_call(n: usize, a: &[u8], out: &mut [u64; 256]) -> usize {
     }
     let src = test_records::bytes_at(a, n + 1);
     match train_steps::start(src) {
-        TrainReply::State(state) => acts_from(src, state, n, a, out),
-        TrainReply::Refused(r) => refusal_out(out, r),
+        Ok(state) => acts_from(src, state, n, a, out),
+        Err(r) => test_records::write_refusal(out, r),
     }
 }
 
 // Whether a list has the number that it was filled with from a place on.
 fn untouched(list: &[f64; 160], from: usize) -> bool {
-    let mut i = from;
-    while i < 160 {
-        if list[i] != -7.25 {
-            return false;
-        }
-        i += 1;
-    }
-    true
-}
-
-// All of a list; how much of it counts is for the caller to say.
-fn list_out(out: &mut [u64; 256], list: &[f64; 160]) {
-    test_records::write(out, 2, list);
+    list.iter().skip(from).all(|x| *x == -7.25)
 }
 
 // A run that lends the first n places of a list.
@@ -163,11 +100,10 @@ fn run_call(src: &[u8], n: usize, out: &mut [u64; 256]) -> usize {
     if n > 160 {
         return 0;
     }
-    let ran = train_steps::run(src, &mut list[..n]);
-    match ran {
-        Gated::Admitted(count) => {
+    match train_steps::run(src, &mut list[..n]) {
+        Ok(count) => {
             let words = 2 * (count as usize);
-            list_out(out, &list);
+            test_records::write(out, 2, &list);
             out[0] = 0;
             out[1] = count as u64;
             if untouched(&list, words) {
@@ -176,9 +112,9 @@ fn run_call(src: &[u8], n: usize, out: &mut [u64; 256]) -> usize {
                 0
             }
         }
-        Gated::Refused(r) => {
+        Err(r) => {
             if untouched(&list, 0) {
-                refusal_out(out, r)
+                test_records::write_refusal(out, r)
             } else {
                 0
             }
@@ -187,13 +123,9 @@ fn run_call(src: &[u8], n: usize, out: &mut [u64; 256]) -> usize {
 }
 
 fn answers_call(src: &[u8], i: u32, out: &mut [u64; 256]) -> usize {
-    let reply = sheet_surfaces::surface_answers(src, i);
-    let refusal = reply.refusal;
-    let answers = reply.answers;
-    if refusal.number == 0 {
-        answers_out(out, answers)
-    } else {
-        refusal_out(out, refusal)
+    match sheet_surfaces::surface_answers(src, i) {
+        Ok(answers) => answers_out(out, answers),
+        Err(r) => test_records::write_refusal(out, r),
     }
 }
 
@@ -212,19 +144,18 @@ pub fn call(f: usize, a: &[u8], out: &mut [u64; 256]) -> usize {
     let n = test_records::small_at(a, 0);
     match f {
         160 => gate_call(test_records::bytes_at(a, 0), out),
-        170 => start_call(test_records::bytes_at(a, 0), out),
-        171 => step_call(test_records::bytes_at(a, 4), state_at(a, 0), out),
+        170 => moved_out(out, train_steps::start(test_records::bytes_at(a, 0))),
+        171 => {
+            let src = test_records::bytes_at(a, 4);
+            moved_out(out, train_steps::step(src, state_at(a, 0)))
+        }
         172 => run_call(test_records::bytes_at(a, 1), n as usize, out),
         173 => answers_call(test_records::bytes_at(a, 1), n, out),
         174 => actions_call(n as usize, a, out),
         175 => {
+            let src = test_records::bytes_at(a, 5);
             let wavelength_nm = test_records::float_at(a, 0);
-            retune_call(
-                test_records::bytes_at(a, 5),
-                state_at(a, 1),
-                wavelength_nm,
-                out,
-            )
+            moved_out(out, train_steps::retune(src, state_at(a, 1), wavelength_nm))
         }
         _ => 0,
     }

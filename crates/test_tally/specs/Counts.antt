@@ -1,17 +1,15 @@
 -- The records of a replay, and its counts, one for each of 256 functions. Definitions only.
-use Rattle.std.specs.Prelude.{ℕ, zero, suc, ◌+◌, ◌-◌, ◌/◌, ◌%◌, ◌^◌, Bool, true, false, cond, ◌&&◌, List, ◌==◌, nat_le, nat_lt, slice_index, slice_set}
+use Rattle.std.specs.Prelude.{ℕ, zero, suc, ◌+◌, ◌-◌, ◌/◌, ◌%◌, ◌^◌, Bool, true, false, cond, ◌&&◌, List, Option, Some, None, ◌==◌, nat_le, nat_lt, slice_index, slice_set}
 use Rattle.test_records.specs.declared.Header.{Header}
-use Rattle.test_tally.specs.declared.Next.{Next}
-use Rattle.test_tally.specs.declared.Next.TheVariants as N
 
 -- a record's words fit into so many bytes
 unfoldable pub fits : Header → ℕ → Bool
 fits h bytes = cond (nat_lt (bytes / 8) h.args) false (nat_le h.results (bytes / 8 - h.args))
 
 -- a record that was read stands wholly in so many bytes
-abbrev pub stands : Next → ℕ → Bool
-stands (N.Record h) bytes = fits h bytes
-stands N.End bytes = true
+abbrev pub stands : Option Header → ℕ → Bool
+stands (Some h) bytes = fits h bytes
+stands None bytes = true
 
 -- whether every answer of a function so far agreed; there are 256 functions
 abbrev pub clean : ℕ → List ℕ → List ℕ → Bool

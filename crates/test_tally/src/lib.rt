@@ -2,7 +2,7 @@
 // first record that does not, whole.
 #![tactic(auto)]
 
-ghost use Rattle.std.specs.Prelude.{◌≡◌, true, ◌&&◌, length};
+ghost use Rattle.std.specs.Prelude.{◌≡◌, true, ◌&&◌, length, replicate};
 ghost use Rattle.test_records.specs.Words.{arguments, results, recorded};
 ghost use Rattle.test_tally.specs.Counts.{fits, stands, clean, all_clean, one_more, tallied};
 
@@ -10,14 +10,8 @@ use test_records::Header;
 
 // ---- records
 
-// What comes next on standard input.
-#[derive(Clone, Copy)]
-pub enum Next {
-    Record(Header),
-    End,
-}
-
 // Reads the next record's words; whether they were all there.
+#[tactic(auto, unfolding(crate::specs::Counts::fits))]
 fn read_words(h: Header, body: &mut [u8]) -> bool
     ensures { result ≡ (result && fits h (length body.old)) }
 {
@@ -31,20 +25,20 @@ fn read_words(h: Header, body: &mut [u8]) -> bool
     io::read_full(0, &mut body[..n]) == n
 }
 
-// The next record, whose words stand in body then.
-pub fn next_record(body: &mut [u8]) -> Next
+// The next record on standard input, whose words stand in body then; None at the end.
+pub fn next_record(body: &mut [u8]) -> Option<Header>
     ensures { stands result (length body.old) ≡ true }
 {
     let mut first = [0u8; 8];
     if io::read_full(0, &mut first) != 8 {
-        return Next::End;
+        return None;
     }
     let h = test_records::header_of(&first);
     if read_words(h, body) {
-        return Next::Record(h);
+        return Some(h);
     }
     io::write_all(1, b"a record is cut off or too long\n");
-    Next::End
+    None
 }
 
 // ---- differences
@@ -91,15 +85,7 @@ fn compared(f: usize, a: &[u8], want: &[u8], got: &[u64; 256], count: usize, fir
     false
 }
 
-// Whether every answer of a function so far agreed.
-fn clean(f: usize, all: &[u32; 256], agreed: &[u32; 256]) -> bool
-    ensures { result ≡ clean f all.now agreed.now }
-{
-    if f < 256 {
-        return all[f] == agreed[f];
-    }
-    false
-}
+// ---- counts
 
 // One more answer of a function; there are fewer records than a count holds.
 fn count(f: usize, counts: &mut [u32; 256])
@@ -107,28 +93,6 @@ fn count(f: usize, counts: &mut [u32; 256])
 {
     if f < 256 {
         counts[f] = std::num::wrapping_add_u32(counts[f], 1);
-    }
-}
-
-// Compares the first words of an answer to a record with those recorded, and counts it.
-pub fn tally(
-    h: Header,
-    body: &[u8],
-    got: &[u64; 256],
-    n: usize,
-    all: &mut [u32; 256],
-    agreed: &mut [u32; 256],
-)
-    ensures { (all.new, agreed.new) ≡ tallied h.function (recorded got.now n (results h body.now)) all.old agreed.old }
-{
-    let f = h.function;
-    let first = clean(f, all, agreed);
-    let a = test_records::arguments(h, body);
-    let want = test_records::results(h, body);
-    let same = compared(f, a, want, got, n, first);
-    count(f, all);
-    if same {
-        count(f, agreed);
     }
 }
 
@@ -142,22 +106,77 @@ fn print_line(f: usize, agreed: u32, all: u32) {
     io::write_all(1, b" agree\n");
 }
 
-fn both(a: bool, b: bool) -> bool
-    ensures { result ≡ (a && b) }
-{
-    if a { b } else { false }
+// For each of 256 functions how many answers there were, and how many of them agreed.
+#[derive(Drop)]
+pub struct Tally {
+    pub all: [u32; 256],
+    pub agreed: [u32; 256],
 }
 
-// Prints a line for each function that was called; whether every answer agreed.
-pub fn print_tally(all: &[u32; 256], agreed: &[u32; 256]) -> bool
-    ensures { result ≡ all_clean 256 all.now agreed.now }
-{
-    let mut every = true;
-    for f in 0..256 {
-        if all[f] > 0 {
-            print_line(f, agreed[f], all[f]);
+impl Tally {
+    // No answer yet.
+    pub fn new() -> Tally
+        ensures none { result.all ≡ replicate 256 0 }
+        ensures none_agreed { result.agreed ≡ replicate 256 0 }
+    {
+        Tally {
+            all: [0; 256],
+            agreed: [0; 256],
         }
-        every = both(every, clean(f, all, agreed));
     }
-    every
+
+    // Whether every answer of a function so far agreed.
+    fn clean(&self, f: usize) -> bool
+        ensures { result ≡ clean f self.now.all self.now.agreed }
+    {
+        f < 256 && self.all[f] == self.agreed[f]
+    }
+
+    // Compares the first n words of an answer to a record with those recorded, and counts it.
+    pub fn add(&mut self, h: Header, body: &[u8], got: &[u64; 256], n: usize)
+        ensures { (self.new.all, self.new.agreed) ≡ tallied h.function (recorded got.now n (results h body.now)) self.old.all self.old.agreed }
+    {
+        let f = h.function;
+        let first = self.clean(f);
+        let a = test_records::arguments(h, body);
+        let want = test_records::results(h, body);
+        let same = compared(f, a, want, got, n, first);
+        count(f, &mut self.all);
+        if same {
+            count(f, &mut self.agreed);
+        }
+    }
+
+    // Prints a line for each function that was called; whether every answer agreed.
+    pub fn print(&self) -> bool
+        ensures { result ≡ all_clean 256 self.now.all self.now.agreed }
+    {
+        let mut every = true;
+        for f in 0..256 {
+            if self.all[f] > 0 {
+                print_line(f, self.agreed[f], self.all[f]);
+            }
+            every &= self.clean(f);
+        }
+        every
+    }
+}
+
+// ---- a whole replay
+
+// Answers the records on standard input, whose words fit into body, and prints how many answers agree. An answer writes its words and
+// says how many there are.
+pub fn replay<F: Fn(usize, &[u8], &mut [u64; 256]) -> usize>(body: &mut [u8], answer: F)
+    requires { F.IsAlwaysCallable answer }
+{
+    let mut tally = Tally::new();
+    for _ in 0..0xffff_ffffu32 {
+        let Some(h) = next_record(body) else {
+            break;
+        };
+        let mut got = [0u64; 256];
+        let n = answer(h.function, test_records::arguments(h, body), &mut got);
+        tally.add(h, body, &got, n);
+    }
+    tally.print();
 }

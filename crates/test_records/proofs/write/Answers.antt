@@ -7,11 +7,8 @@ use Rattle.test_records.proofs.write.Goals as goal
 pub loop-i-init : goal.loop-i-init
 loop-i-init c = begun _ _ _
 
-pub returns-then-at-ge256 : goal.returns-then-at-ge256
-returns-then-at-ge256 c = sym (full _ _ _ (omega arith)) ∙ c.loop-i.invariant
-
-pub returns-then-i-at : goal.returns-then-i-at
-returns-then-i-at c = sym (full _ _ _ (omega arith)) ∙ c.loop-i.invariant
+pub returns-then-i-room : goal.returns-then-i-room
+returns-then-i-room c = sym (full _ _ _ (omega arith)) ∙ c.loop-i.invariant
 
 pub loop-i-preserved : goal.loop-i-preserved
 loop-i-preserved c = onward _ _ _ _ _ _ (omega arith) c.loop-i-test.true c.bits.ensures ∙ c.loop-i.invariant

@@ -1,2 +1,0 @@
--- laws
-pub mod Lent

@@ -1,2 +1,0 @@
--- Facts on the records of a replay.
-pub mod Counts
