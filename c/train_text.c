@@ -10,16 +10,17 @@ typedef struct {
     uint64_t layers;
 } sheet_surfaces_NumberedSurface;
 
+// What was asked for, or why it is refused.
 typedef struct {
     enum {
-        sheet_surfaces_NthSurface_Surface,
-        sheet_surfaces_NthSurface_Refused,
+        result_sheet_surfaces_NumberedSurface_refusal_Refusal_Ok,
+        result_sheet_surfaces_NumberedSurface_refusal_Refusal_Err,
     } tag;
     union {
-        sheet_surfaces_NumberedSurface Surface;
-        refusal_Refusal Refused;
+        sheet_surfaces_NumberedSurface Ok;
+        refusal_Refusal Err;
     } as;
-} sheet_surfaces_NthSurface;
+} result_sheet_surfaces_NumberedSurface_refusal_Refusal;
 
 typedef struct {
     uint8_t at[20];
@@ -39,18 +40,6 @@ typedef struct {
     double at[128];
 } f64_x128;
 
-// How many bytes were written, or a refusal: 8.
-typedef struct {
-    enum {
-        train_text_Printed_Written,
-        train_text_Printed_Refused,
-    } tag;
-    union {
-        uint64_t Written;
-        refusal_Refusal Refused;
-    } as;
-} train_text_Printed;
-
 typedef struct {
     uint8_t at[4096];
 } u8_x4096;
@@ -61,22 +50,24 @@ typedef struct {
 // the sheet's bytes and gates them anew.
 
 // The i-th surface.
-static sheet_surfaces_NthSurface sheet_surfaces_nth_surface(slice_u8 src, uint32_t i) {
-    gate_Gated value = gate_gate(src);
-    if (value.tag == gate_Gated_Admitted) {
-        uint32_t count = value.as.Admitted;
-        if (count <= i) {
-            return (sheet_surfaces_NthSurface){.tag = sheet_surfaces_NthSurface_Refused,
-                    .as.Refused = {.number = 7, .place = 0}};
-        }
-        uint64_t at = sheet_place_of(src, i);
-        gate_limits_Surface surface = sheet_values_surface_at(src, at);
-        uint64_t layers = sheet_layer_run(src, at);
-        return (sheet_surfaces_NthSurface){.tag = sheet_surfaces_NthSurface_Surface,
-                .as.Surface = {.surface = surface, .layers = layers}};
+static result_sheet_surfaces_NumberedSurface_refusal_Refusal sheet_surfaces_nth_surface(slice_u8 src, uint32_t i) {
+    result_u32_refusal_Refusal value = gate_gate(src);
+    if (value.tag == result_u32_refusal_Refusal_Err) {
+        return (result_sheet_surfaces_NumberedSurface_refusal_Refusal){
+                .tag = result_sheet_surfaces_NumberedSurface_refusal_Refusal_Err, .as.Err = value.as.Err};
     }
-    refusal_Refusal r = value.as.Refused;
-    return (sheet_surfaces_NthSurface){.tag = sheet_surfaces_NthSurface_Refused, .as.Refused = r};
+    uint32_t count = value.as.Ok;
+    if (count <= i) {
+        return (result_sheet_surfaces_NumberedSurface_refusal_Refusal){
+                .tag = result_sheet_surfaces_NumberedSurface_refusal_Refusal_Err,
+                .as.Err = {.tag = refusal_Refusal_NoSurface}};
+    }
+    uint64_t at = sheet_place_of(src, i);
+    gate_limits_Surface surface = sheet_values_surface_at(src, at);
+    uint64_t layers = sheet_layer_run(src, at);
+    return (result_sheet_surfaces_NumberedSurface_refusal_Refusal){
+            .tag = result_sheet_surfaces_NumberedSurface_refusal_Refusal_Ok,
+            .as.Ok = {.surface = surface, .layers = layers}};
 }
 
 // ==== train_steps
@@ -89,15 +80,15 @@ static double train_steps_sum(double s, double p) {
 }
 
 // A train before the first surface of its sheet.
-static train_steps_TrainReply train_steps_start(slice_u8 src) {
-    gate_Gated value = gate_gate(src);
-    if (value.tag == gate_Gated_Admitted) {
-        sheet_values_Beam beam = sheet_values_beam_of(src);
-        return (train_steps_TrainReply){.tag = train_steps_TrainReply_State,
-                .as.State = {.done = 0, .s = beam.s, .p = beam.p, .wavelength_nm = beam.wavelength_nm}};
+static result_train_steps_State_refusal_Refusal train_steps_start(slice_u8 src) {
+    result_u32_refusal_Refusal value = gate_gate(src);
+    if (value.tag == result_u32_refusal_Refusal_Err) {
+        return (result_train_steps_State_refusal_Refusal){.tag = result_train_steps_State_refusal_Refusal_Err,
+                .as.Err = value.as.Err};
     }
-    refusal_Refusal r = value.as.Refused;
-    return (train_steps_TrainReply){.tag = train_steps_TrainReply_Refused, .as.Refused = r};
+    sheet_values_Beam beam = sheet_values_beam_of(src);
+    return (result_train_steps_State_refusal_Refusal){.tag = result_train_steps_State_refusal_Refusal_Ok,
+            .as.Ok = {.done = 0, .s = beam.s, .p = beam.p, .wavelength_nm = beam.wavelength_nm}};
 }
 
 // ==== train_text
@@ -155,10 +146,11 @@ static train_text_Digits train_text_decimal(uint64_t n) {
 static uint64_t train_text_append(slice_mut_u8 page, uint64_t at, slice_u8 bytes) {
     uint64_t i = 0;
     while (i < bytes.count) {
-        page.at[at + i] = bytes.at[i];
+        uint8_t b = bytes.at[i];
+        page.at[at + i] = b;
         i = i + 1;
     }
-    return at + i;
+    return at + bytes.count;
 }
 
 static uint64_t train_text_append_bits(slice_mut_u8 page, uint64_t at, double x) {
@@ -215,9 +207,9 @@ static uint64_t train_text_refused_line(slice_mut_u8 page, uint64_t number, uint
 
 // Whether the i-th surface follows the reflected light.
 static bool train_text_reflects(slice_u8 src, uint32_t i) {
-    sheet_surfaces_NthSurface value = sheet_surfaces_nth_surface(src, i);
-    if (value.tag == sheet_surfaces_NthSurface_Surface) {
-        sheet_surfaces_NumberedSurface y = value.as.Surface;
+    result_sheet_surfaces_NumberedSurface_refusal_Refusal value = sheet_surfaces_nth_surface(src, i);
+    if (value.tag == result_sheet_surfaces_NumberedSurface_refusal_Refusal_Ok) {
+        sheet_surfaces_NumberedSurface y = value.as.Ok;
         gate_limits_Surface surface = y.surface;
         return surface.reflected;
     }
@@ -242,43 +234,45 @@ static uint64_t train_text_lines(slice_u8 src, double first_s, double first_p, u
 
 // The text of a sheet whose run wrote a list.
 static uint64_t train_text_admitted(slice_u8 src, uint64_t count, const f64_x128 *list, slice_mut_u8 page) {
-    train_steps_TrainReply value = train_steps_start(src);
-    if (value.tag == train_steps_TrainReply_State) {
-        train_steps_State state = value.as.State;
+    result_train_steps_State_refusal_Refusal value = train_steps_start(src);
+    if (value.tag == result_train_steps_State_refusal_Refusal_Ok) {
+        train_steps_State state = value.as.Ok;
         return train_text_lines(src, state.s, state.p, count, list, page);
     }
-    refusal_Refusal r = value.as.Refused;
-    return train_text_refused_line(page, (uint64_t)r.number, r.place);
+    refusal_Refusal r = value.as.Err;
+    return train_text_refused_line(page, (uint64_t)refusal_Refusal_number(r), refusal_Refusal_place(r));
 }
 
 static uint64_t train_text_write_text(slice_u8 src, slice_mut_u8 page) {
     f64_x128 list = {{0}};
-    gate_Gated value = train_steps_run(src, (slice_mut_f64){list.at, 128});
-    if (value.tag == gate_Gated_Admitted) {
-        uint32_t count = value.as.Admitted;
+    result_u32_refusal_Refusal value = train_steps_run(src, (slice_mut_f64){list.at, 128});
+    if (value.tag == result_u32_refusal_Refusal_Ok) {
+        uint32_t count = value.as.Ok;
         return train_text_admitted(src, (uint64_t)count, &list, page);
     }
-    refusal_Refusal r = value.as.Refused;
-    return train_text_refused_line(page, (uint64_t)r.number, r.place);
+    refusal_Refusal r = value.as.Err;
+    return train_text_refused_line(page, (uint64_t)refusal_Refusal_number(r), refusal_Refusal_place(r));
 }
 
 // Bytes at the front of a buffer that has room for them.
 static void train_text_copy(slice_u8 bytes, slice_mut_u8 buffer) {
     uint64_t i = 0;
     while (i < bytes.count) {
-        buffer.at[i] = bytes.at[i];
+        uint8_t b = bytes.at[i];
+        buffer.at[i] = b;
         i = i + 1;
     }
 }
 
 // What `train` prints of a sheet, at the front of a buffer. A buffer that is too short is refused with
 // 8 and left as it is; 4096 bytes are enough for every sheet.
-static train_text_Printed train_text_train_text(slice_u8 src, slice_mut_u8 buffer) {
+static result_u64_refusal_Refusal train_text_train_text(slice_u8 src, slice_mut_u8 buffer) {
     u8_x4096 page = {{0}};
     uint64_t n = train_text_write_text(src, (slice_mut_u8){page.at, 4096});
     if (buffer.count < n) {
-        return (train_text_Printed){.tag = train_text_Printed_Refused, .as.Refused = {.number = 8, .place = 0}};
+        return (result_u64_refusal_Refusal){.tag = result_u64_refusal_Refusal_Err,
+                .as.Err = {.tag = refusal_Refusal_TooShort}};
     }
     train_text_copy((slice_u8){page.at, n}, buffer);
-    return (train_text_Printed){.tag = train_text_Printed_Written, .as.Written = n};
+    return (result_u64_refusal_Refusal){.tag = result_u64_refusal_Refusal_Ok, .as.Ok = n};
 }

@@ -143,6 +143,15 @@ class Refused(unittest.TestCase):
         with self.assertRaises(program.Unknown):
             program.program("program (lcons")
 
+    def test_a_field_that_is_a_word_of_c(self):
+        item = source.Item([])
+        item.names = ["case"]
+        types = emit.Types({"a::A": ("fields", [("int", 64)])}, {"a::A": item})
+        with self.assertRaises(program.Unknown):
+            types.fields("a::A")
+        item.names = ["index"]
+        self.assertEqual(types.fields("a::A"), ["index"])
+
     def test_a_function_that_the_sources_have_otherwise(self):
         functions, named = program.program(f'program (lcons (fn-def "gate::gate" (fnItem 0 lnil 0 {listed([f"(local {U64} valueLocal)"])} (seq {assign("0", f"(rvOpd {ONE})")} return))) lnil) x')
         items, _ = source.sources(ROOT)
@@ -362,7 +371,7 @@ class Made(unittest.TestCase):
         c = (ROOT / "c" / "dihkelu.c").read_text()
         gate = items["gate::gate"]
         self.assertEqual(gate.parameters, ["src"])
-        self.assertIn("\n".join(gate.comment) + "\nstatic gate_Gated gate_gate(slice_u8 src) {", c)
+        self.assertIn("\n".join(gate.comment) + "\nstatic result_u32_refusal_Refusal gate_gate(slice_u8 src) {", c)
         root = items["math_sqrt::root_by_digits"]
         self.assertEqual(root.bindings, ["q", "left", "step", "t"])
         self.assertIn("    while (1 < step) {\n        step = step / 2;\n        uint64_t t = 2 * q + step;\n", c)

@@ -155,9 +155,9 @@ WRONG = [
     ("&& for &", r"(?<=[\w)]) & (?=[\w(])", " && "),
     ("a ! dropped", r"(?<=[( ])!(?=[\w(])", ""),
     ("true for false", r"\b(?:true|false)\b", swap("true", "false")),
-    ("another variant tested", r"(?<=== )(\w+)_(Admitted|Refused|Response|State|Powers)\b",
-     lambda m: f"{m[1]}_{'Refused' if m[2] != 'Refused' else 'Admitted'}"),
-    ("a part of another variant", r"\.as\.(?:Refused|Admitted)\b(?! =)", swap(".as.Refused", ".as.Admitted")),
+    ("another variant tested", r"(?<=== )(\w+)_(Ok|Err)\b",
+     lambda m: f"{m[1]}_{'Err' if m[2] == 'Ok' else 'Ok'}"),
+    ("a part of another variant", r"\.as\.(?:Ok|Err)\b(?! =)", swap(".as.Err", ".as.Ok")),
     ("cases exchanged", r"case (?P<a>\w+):(?=\n\s+(?:return|\{))[^:]*?case (?P<b>\w+):", exchanged),
     ("a case dropped", rf"{LINE}case \d+:\n{LINE}return [^;]*\([^;]*;\n", ""),
     ("a list filled one short", r"each < (\d+)", lambda m: f"each < {int(m[1]) - 1}"),
@@ -182,7 +182,7 @@ WRONG_HEADS = [("a const dropped", r"\bconst (?=\w+ \*)", ""), ("another result"
 # The same of the sources.
 WRONG_SOURCES = [
     ("< for <=", r" <= ", " < "), ("+ for -", r" - ", " + "), ("a float's last bit", r"\b\d+\.\d+\b", next_float),
-    ("a whole number", r"(?<=[ (])[1-9]\d*(?=;)", lambda m: str(int(m[0]) ^ 1)), ("a statement dropped", r"^ +\w+ \+= 1;\n", ""),
+    ("a whole number", r"(?<=[ (])[1-9]\d*(?=;)", lambda m: str(int(m[0]) ^ 1)), ("a statement dropped", r"^ +\w+ \+?= [^;{}\n]*;\n", ""),
     ("operands exchanged", r"(?P<a>\b\w+) / (?P<b>\w+\b)", exchanged), ("|| for &&", r" && ", " || "), ("a ! dropped", r"(?<= )!(?=\w)", ""),
     ("true for false", r"\b(?:true|false)\b", swap("true", "false")), ("an early return dropped", r"^ +return [^;{}]*;\n", ""),
 ]

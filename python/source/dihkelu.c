@@ -189,6 +189,36 @@ typedef struct {
     uint64_t place;
 } name_bytes_Part;
 
+typedef struct {
+    enum {
+        refusal_Refusal_InvalidParameter,
+        refusal_Refusal_Name,
+        refusal_Refusal_TooManyLayers,
+        refusal_Refusal_Length,
+        refusal_Refusal_Grammar,
+        refusal_Refusal_Limits,
+        refusal_Refusal_NoSurface,
+        refusal_Refusal_TooShort,
+        refusal_Refusal_Text,
+        refusal_Refusal_TooManyFilms,
+        refusal_Refusal_Wavelength,
+        refusal_Refusal_Tuning,
+        refusal_Refusal_Range,
+        refusal_Refusal_Film,
+        refusal_Refusal_Weight,
+        refusal_Refusal_Line,
+    } tag;
+    union {
+        uint64_t Name;
+        uint64_t Grammar;
+        uint64_t Limits;
+        uint64_t Text;
+        uint64_t Tuning;
+        uint64_t Weight;
+        uint64_t Line;
+    } as;
+} refusal_Refusal;
+
 // One film: letter 0, 1 or 2 is H, L or M. The multiplier is 0 where none is written.
 typedef struct {
     uint8_t letter;
@@ -236,20 +266,23 @@ typedef struct {
     uint64_t depth;
 } thin_film_reader_machine_Machine;
 
-// The refusals of document 01's table 'Turned back': a number, and a place, which is 0 where the
-// table gives none.
+// The films of a text: the first count of the places hold them.
 typedef struct {
-    uint32_t number;
-    uint64_t place;
-} refusal_Refusal;
-
-// The first count of the places hold the films of a text. Where the refusal's number is not 0 there
-// are none.
-typedef struct {
-    refusal_Refusal refusal;
     thin_film_grammar_Film_x64 films;
     uint64_t count;
 } thin_film_reader_Reading;
+
+// What was asked for, or why it is refused.
+typedef struct {
+    enum {
+        result_thin_film_reader_Reading_refusal_Refusal_Ok,
+        result_thin_film_reader_Reading_refusal_Refusal_Err,
+    } tag;
+    union {
+        thin_film_reader_Reading Ok;
+        refusal_Refusal Err;
+    } as;
+} result_thin_film_reader_Reading_refusal_Refusal;
 
 // Both series of one square.
 typedef struct {
@@ -306,17 +339,17 @@ typedef struct {
     } as;
 } sheet_Standing;
 
-// A sheet in grammar with its count of SURFACEs, or the place of the first word out of it.
+// What was asked for, or why it is refused.
 typedef struct {
     enum {
-        sheet_Verdict_Whole,
-        sheet_Verdict_Fault,
+        result_u32_refusal_Refusal_Ok,
+        result_u32_refusal_Refusal_Err,
     } tag;
     union {
-        uint32_t Whole;
-        uint64_t Fault;
+        uint32_t Ok;
+        refusal_Refusal Err;
     } as;
-} sheet_Verdict;
+} result_u32_refusal_Refusal;
 
 // How many layers stand directly after a block, and the place after them.
 typedef struct {
@@ -364,17 +397,17 @@ typedef struct {
     double high;
 } reflectance_range_ReflectanceRange;
 
-// The range, or a refusal.
+// What was asked for, or why it is refused.
 typedef struct {
     enum {
-        reflectance_range_RangeReply_Range,
-        reflectance_range_RangeReply_Refused,
+        result_reflectance_range_ReflectanceRange_refusal_Refusal_Ok,
+        result_reflectance_range_ReflectanceRange_refusal_Refusal_Err,
     } tag;
     union {
-        reflectance_range_ReflectanceRange Range;
-        refusal_Refusal Refused;
+        reflectance_range_ReflectanceRange Ok;
+        refusal_Refusal Err;
     } as;
-} reflectance_range_RangeReply;
+} result_reflectance_range_ReflectanceRange_refusal_Refusal;
 
 typedef struct {
     double re;
@@ -478,12 +511,17 @@ typedef struct {
     polarization_mueller_JonesMatrix transmission;
 } polarization_SurfaceJones;
 
-// The matrices of a bare surface; or a refusal's number, which is 0 where there is none, beside zero
-// matrices.
+// What was asked for, or why it is refused.
 typedef struct {
-    uint32_t refusal;
-    polarization_SurfaceJones matrices;
-} polarization_FresnelJones;
+    enum {
+        result_polarization_SurfaceJones_refusal_Refusal_Ok,
+        result_polarization_SurfaceJones_refusal_Refusal_Err,
+    } tag;
+    union {
+        polarization_SurfaceJones Ok;
+        refusal_Refusal Err;
+    } as;
+} result_polarization_SurfaceJones_refusal_Refusal;
 
 typedef struct {
     thin_film_solver_ThinFilmLayer at[64];
@@ -512,17 +550,17 @@ typedef struct {
     thin_film_coating_Layers layers;
 } thin_film_coating_Built;
 
-// What evaluating a coating gives.
+// What was asked for, or why it is refused.
 typedef struct {
     enum {
-        thin_film_layers_Evaluation_Response,
-        thin_film_layers_Evaluation_Refused,
+        result_thin_film_solver_CoatingResponse_refusal_Refusal_Ok,
+        result_thin_film_solver_CoatingResponse_refusal_Refusal_Err,
     } tag;
     union {
-        thin_film_solver_CoatingResponse Response;
-        refusal_Refusal Refused;
+        thin_film_solver_CoatingResponse Ok;
+        refusal_Refusal Err;
     } as;
-} thin_film_layers_Evaluation;
+} result_thin_film_solver_CoatingResponse_refusal_Refusal;
 
 // An evaluation before any layer is read: it is answered, or the layers beside the coating are all to
 // be read, in their order or reversed.
@@ -532,7 +570,7 @@ typedef struct {
         thin_film_layers_Prepared_Layers,
     } tag;
     union {
-        thin_film_layers_Evaluation Answered;
+        result_thin_film_solver_CoatingResponse_refusal_Refusal Answered;
         struct { bool reversed; thin_film_solver_Incidence light; } Layers;
     } as;
 } thin_film_layers_Prepared;
@@ -590,18 +628,28 @@ typedef struct {
     uint8_t at[3];
 } u8_x3;
 
-// The coating that a name stands for; none; or a refusal.
+// A value, or none.
 typedef struct {
     enum {
-        name_coating_Named_Coating,
-        name_coating_Named_Nothing,
-        name_coating_Named_Refused,
+        option_thin_film_SurfaceCoating_None,
+        option_thin_film_SurfaceCoating_Some,
     } tag;
     union {
-        thin_film_SurfaceCoating Coating;
-        refusal_Refusal Refused;
+        thin_film_SurfaceCoating Some;
     } as;
-} name_coating_Named;
+} option_thin_film_SurfaceCoating;
+
+// What was asked for, or why it is refused.
+typedef struct {
+    enum {
+        result_option_thin_film_SurfaceCoating_refusal_Refusal_Ok,
+        result_option_thin_film_SurfaceCoating_refusal_Refusal_Err,
+    } tag;
+    union {
+        option_thin_film_SurfaceCoating Ok;
+        refusal_Refusal Err;
+    } as;
+} result_option_thin_film_SurfaceCoating_refusal_Refusal;
 
 typedef struct {
     uint8_t at[16];
@@ -612,17 +660,6 @@ typedef struct {
     u8_x16 bytes;
     uint64_t len;
 } thin_film_Text;
-
-// What lies between the two media.
-typedef struct {
-    enum {
-        gate_limits_Interface_Bare,
-        gate_limits_Interface_Coated,
-    } tag;
-    union {
-        thin_film_SurfaceCoating Coated;
-    } as;
-} gate_limits_Interface;
 
 // A SURFACE's words: whether the reflected light is followed, the coating's code (payload / 2), both
 // indices and the angle of incidence.
@@ -646,16 +683,17 @@ typedef struct {
     double remainder_nm;
 } quarter_waves_QuarterWaves;
 
+// What was asked for, or why it is refused.
 typedef struct {
     enum {
-        quarter_waves_QuarterWavesReply_Counted,
-        quarter_waves_QuarterWavesReply_Refused,
+        result_quarter_waves_QuarterWaves_refusal_Refusal_Ok,
+        result_quarter_waves_QuarterWaves_refusal_Refusal_Err,
     } tag;
     union {
-        quarter_waves_QuarterWaves Counted;
-        refusal_Refusal Refused;
+        quarter_waves_QuarterWaves Ok;
+        refusal_Refusal Err;
     } as;
-} quarter_waves_QuarterWavesReply;
+} result_quarter_waves_QuarterWaves_refusal_Refusal;
 
 // The parts of the s and p power that a surface reflects and transmits.
 typedef struct {
@@ -676,11 +714,17 @@ typedef struct {
     polarization_mueller_MuellerMatrix transmission_mueller;
 } surface_Answers;
 
-// The answers of a surface, or a refusal's number, which is 0 where there is none.
+// What was asked for, or why it is refused.
 typedef struct {
-    uint32_t refusal;
-    surface_Answers answers;
-} surface_AnswersReply;
+    enum {
+        result_surface_Answers_refusal_Refusal_Ok,
+        result_surface_Answers_refusal_Refusal_Err,
+    } tag;
+    union {
+        surface_Answers Ok;
+        refusal_Refusal Err;
+    } as;
+} result_surface_Answers_refusal_Refusal;
 
 // [[a, i b], [i c, d]]
 typedef struct {
@@ -754,6 +798,17 @@ typedef struct {
     uint64_t count;
 } slice_f64;
 
+// What was asked for, or why it is refused.
+typedef struct {
+    enum {
+        result_unit_refusal_Refusal_Ok,
+        result_unit_refusal_Refusal_Err,
+    } tag;
+    union {
+        refusal_Refusal Err;
+    } as;
+} result_unit_refusal_Refusal;
+
 // A BEAM: its wavelength, its s and its p power.
 typedef struct {
     double wavelength_nm;
@@ -790,6 +845,23 @@ typedef struct {
     double at[5];
 } f64_x5;
 
+// A case that is refused: its refusal, and its index.
+typedef struct {
+    refusal_Refusal refusal;
+    uint64_t index;
+} c_scan_RefusedCase;
+
+// What was asked for, or why it is refused.
+typedef struct {
+    enum {
+        result_unit_c_scan_RefusedCase_Ok,
+        result_unit_c_scan_RefusedCase_Err,
+    } tag;
+    union {
+        c_scan_RefusedCase Err;
+    } as;
+} result_unit_c_scan_RefusedCase;
+
 typedef struct {
     double at[3];
 } f64_x3;
@@ -809,17 +881,17 @@ typedef struct {
     uint64_t next;
 } sheet_answers_quick_Reached;
 
-// A surface's powers alone, or a refusal.
+// What was asked for, or why it is refused.
 typedef struct {
     enum {
-        sheet_answers_PowersReply_Powers,
-        sheet_answers_PowersReply_Refused,
+        result_surface_Powers_refusal_Refusal_Ok,
+        result_surface_Powers_refusal_Refusal_Err,
     } tag;
     union {
-        surface_Powers Powers;
-        refusal_Refusal Refused;
+        surface_Powers Ok;
+        refusal_Refusal Err;
     } as;
-} sheet_answers_PowersReply;
+} result_surface_Powers_refusal_Refusal;
 
 typedef struct {
     uint64_t at[64];
@@ -828,18 +900,6 @@ typedef struct {
 typedef struct {
     double at[64];
 } f64_x64;
-
-// A sheet that is admitted, with its count of surfaces; or a refusal.
-typedef struct {
-    enum {
-        gate_Gated_Admitted,
-        gate_Gated_Refused,
-    } tag;
-    union {
-        uint32_t Admitted;
-        refusal_Refusal Refused;
-    } as;
-} gate_Gated;
 
 // Whether layers pass; and the place of the first that does not, or else the one after them.
 typedef struct {
@@ -854,23 +914,17 @@ typedef struct {
     uint64_t place;
 } gate_Passage;
 
-// The answers of a surface, and a refusal, whose number is 0 where there is none.
-typedef struct {
-    refusal_Refusal refusal;
-    surface_Answers answers;
-} sheet_surfaces_SurfaceReply;
-
-// The new sheet's length in bytes, or a refusal.
+// What was asked for, or why it is refused.
 typedef struct {
     enum {
-        sheet_edition_1_Rewritten_Length,
-        sheet_edition_1_Rewritten_Refused,
+        result_u64_refusal_Refusal_Ok,
+        result_u64_refusal_Refusal_Err,
     } tag;
     union {
-        uint64_t Length;
-        refusal_Refusal Refused;
+        uint64_t Ok;
+        refusal_Refusal Err;
     } as;
-} sheet_edition_1_Rewritten;
+} result_u64_refusal_Refusal;
 
 // The powers of a surface that s and p are multiplied by.
 typedef struct {
@@ -886,17 +940,17 @@ typedef struct {
     double wavelength_nm;
 } train_steps_State;
 
-// A train's state, or a refusal.
+// What was asked for, or why it is refused.
 typedef struct {
     enum {
-        train_steps_TrainReply_State,
-        train_steps_TrainReply_Refused,
+        result_train_steps_State_refusal_Refusal_Ok,
+        result_train_steps_State_refusal_Refusal_Err,
     } tag;
     union {
-        train_steps_State State;
-        refusal_Refusal Refused;
+        train_steps_State Ok;
+        refusal_Refusal Err;
     } as;
-} train_steps_TrainReply;
+} result_train_steps_State_refusal_Refusal;
 
 typedef struct {
     const uint32_t *at;
@@ -910,17 +964,17 @@ typedef struct {
     double p;
 } band_BandPowers;
 
-// The powers of a band, or a refusal.
+// What was asked for, or why it is refused.
 typedef struct {
     enum {
-        band_BandReply_Powers,
-        band_BandReply_Refused,
+        result_band_BandPowers_refusal_Refusal_Ok,
+        result_band_BandPowers_refusal_Refusal_Err,
     } tag;
     union {
-        band_BandPowers Powers;
-        refusal_Refusal Refused;
+        band_BandPowers Ok;
+        refusal_Refusal Err;
     } as;
-} band_BandReply;
+} result_band_BandPowers_refusal_Refusal;
 
 // ==== std
 
@@ -1037,11 +1091,11 @@ static uint64_t ieee_rem_pack(uint64_t r, uint64_t j) {
     uint64_t m = r;
     uint64_t k = j;
     while (0 < k) {
+        k = k - 1;
         if (0x10000000000000u <= m) {
-            return k * 0x10000000000000u + m;
+            return (k + 1) * 0x10000000000000u + m;
         }
         m = m * 2;
-        k = k - 1;
     }
     return m;
 }
@@ -1094,22 +1148,23 @@ static bool name_bytes_blank(uint8_t b) {
 static uint64_t name_bytes_leading(slice_u8 s) {
     uint64_t i = 0;
     while (i < s.count) {
-        if (!name_bytes_blank(s.at[i])) {
+        uint8_t b = s.at[i];
+        if (!name_bytes_blank(b)) {
             return i;
         }
         i = i + 1;
     }
-    return i;
+    return s.count;
 }
 
 // How many bytes are left without the blank ones at the end.
 static uint64_t name_bytes_kept(slice_u8 s) {
-    uint64_t e = s.count;
-    while (0 < e) {
-        if (!name_bytes_blank(s.at[e - 1])) {
-            return e;
+    uint64_t i = s.count;
+    while (0 < i) {
+        i = i - 1;
+        if (!name_bytes_blank(s.at[i])) {
+            return i + 1;
         }
-        e = e - 1;
     }
     return 0;
 }
@@ -1162,10 +1217,11 @@ static name_bytes_Span name_bytes_trim_numbers(slice_u8 name) {
 static bool name_bytes_begins(slice_u8 s, slice_u8 p) {
     uint64_t i = 0;
     while (i < p.count) {
+        uint8_t b = p.at[i];
         if (s.count <= i) {
             return false;
         }
-        if (s.at[i] != p.at[i]) {
+        if (s.at[i] != b) {
             return false;
         }
         i = i + 1;
@@ -1187,7 +1243,7 @@ static bool name_bytes_contains(slice_u8 s, slice_u8 p) {
         }
         k = k + 1;
     }
-    return name_bytes_begins((slice_u8){k == 0 ? s.at : s.at + k, s.count - k}, p);
+    return name_bytes_begins((slice_u8){s.count == 0 ? s.at : s.at + s.count, s.count - s.count}, p);
 }
 
 // a to z in upper case.
@@ -1205,12 +1261,99 @@ static uint8_t name_bytes_upper_byte(uint8_t b) {
 static uint64_t name_bytes_first_over(slice_u8 s) {
     uint64_t i = 0;
     while (i < s.count) {
-        if (127 < s.at[i]) {
+        uint8_t b = s.at[i];
+        if (127 < b) {
             return i;
         }
         i = i + 1;
     }
-    return i;
+    return s.count;
+}
+
+// ==== refusal
+//
+// What a call is turned back for: document 01's table 'Turned back' and the change requests of document 02. Each case has a
+// number there, and most that can be at several places have a place.
+
+// The number of the table.
+static uint32_t refusal_Refusal_number(refusal_Refusal self) {
+    switch (self.tag) {
+    case refusal_Refusal_InvalidParameter:
+        return 1;
+    case refusal_Refusal_Name:
+        return 2;
+    case refusal_Refusal_TooManyLayers:
+        return 3;
+    case refusal_Refusal_Length:
+        return 4;
+    case refusal_Refusal_Grammar:
+        return 5;
+    case refusal_Refusal_Limits:
+        return 6;
+    case refusal_Refusal_NoSurface:
+        return 7;
+    case refusal_Refusal_TooShort:
+        return 8;
+    case refusal_Refusal_Text:
+        return 9;
+    case refusal_Refusal_TooManyFilms:
+        return 10;
+    case refusal_Refusal_Wavelength:
+        return 11;
+    case refusal_Refusal_Tuning:
+        return 12;
+    case refusal_Refusal_Range:
+        return 13;
+    case refusal_Refusal_Film:
+        return 14;
+    case refusal_Refusal_Weight:
+        return 15;
+    default: // refusal_Refusal_Line
+        return 16;
+    }
+}
+
+// The place, 0 where the table gives none.
+static uint64_t refusal_Refusal_place(refusal_Refusal self) {
+    switch (self.tag) {
+    case refusal_Refusal_Name:
+    {
+        uint64_t place = self.as.Name;
+        return place;
+    }
+    case refusal_Refusal_Grammar:
+    {
+        uint64_t place_2 = self.as.Grammar;
+        return place_2;
+    }
+    case refusal_Refusal_Limits:
+    {
+        uint64_t place_3 = self.as.Limits;
+        return place_3;
+    }
+    case refusal_Refusal_Text:
+    {
+        uint64_t place_4 = self.as.Text;
+        return place_4;
+    }
+    case refusal_Refusal_Tuning:
+    {
+        uint64_t place_5 = self.as.Tuning;
+        return place_5;
+    }
+    case refusal_Refusal_Weight:
+    {
+        uint64_t place_6 = self.as.Weight;
+        return place_6;
+    }
+    case refusal_Refusal_Line:
+    {
+        uint64_t place_7 = self.as.Line;
+        return place_7;
+    }
+    default: // refusal_Refusal_InvalidParameter
+        return 0;
+    }
 }
 
 // ==== thin_film_reader
@@ -1247,8 +1390,8 @@ static thin_film_reader_films_Films thin_film_reader_films_push(thin_film_reader
 // More films, each as the one that is an item's length before it.
 static thin_film_reader_films_Films thin_film_reader_films_repeat(thin_film_reader_films_Films f, uint64_t more) {
     thin_film_reader_films_Films films = f;
-    uint64_t left = more;
-    while (0 < left) {
+    uint64_t round = 0;
+    while (round < more) {
         uint64_t count = films.count;
         if (64 <= count) {
             return thin_film_reader_films_over(films);
@@ -1256,7 +1399,7 @@ static thin_film_reader_films_Films thin_film_reader_films_repeat(thin_film_read
         thin_film_grammar_Film_x64 items = films.items;
         uint64_t from = count - films.unit;
         films = thin_film_reader_films_push(films, items.at[from]);
-        left = left - 1;
+        round = round + 1;
     }
     return films;
 }
@@ -1385,19 +1528,17 @@ static thin_film_reader_films_Films thin_film_reader_films_take(thin_film_reader
     return thin_film_reader_films_digit(f, m, (uint8_t)(b - 48));
 }
 
-static thin_film_reader_Reading thin_film_reader_refused(uint32_t number, uint64_t place) {
-    thin_film_grammar_Film_x64 films = {{{0}}};
-    return (thin_film_reader_Reading){.refusal = {.number = number, .place = place}, .films = films, .count = 0};
-}
-
 // The films, unless there are more than 64.
-static thin_film_reader_Reading thin_film_reader_counted(thin_film_reader_films_Films f) {
+static result_thin_film_reader_Reading_refusal_Refusal thin_film_reader_counted(thin_film_reader_films_Films f) {
     uint64_t count = f.count;
     if (64 < count) {
-        return thin_film_reader_refused(10, 0);
+        return (result_thin_film_reader_Reading_refusal_Refusal){
+                .tag = result_thin_film_reader_Reading_refusal_Refusal_Err,
+                .as.Err = {.tag = refusal_Refusal_TooManyFilms}};
     }
     thin_film_grammar_Film_x64 films = f.items;
-    return (thin_film_reader_Reading){.refusal = {.number = 0, .place = 0}, .films = films, .count = count};
+    return (result_thin_film_reader_Reading_refusal_Refusal){
+            .tag = result_thin_film_reader_Reading_refusal_Refusal_Ok, .as.Ok = {.films = films, .count = count}};
 }
 
 static thin_film_reader_machine_Machine thin_film_reader_machine_begin(void) {
@@ -1673,24 +1814,31 @@ static bool thin_film_reader_machine_whole(thin_film_reader_machine_Machine m) {
 
 // The films of a text. 9 with 255 for a text over 255 bytes, 9 with the first byte that no text of the
 // grammar could have there, 9 with the length where the text stops early, 10 for more than 64 films.
-static thin_film_reader_Reading thin_film_reader_read(slice_u8 text) {
+static result_thin_film_reader_Reading_refusal_Refusal thin_film_reader_read(slice_u8 text) {
     if (255 < text.count) {
-        return thin_film_reader_refused(9, 255);
+        return (result_thin_film_reader_Reading_refusal_Refusal){
+                .tag = result_thin_film_reader_Reading_refusal_Refusal_Err,
+                .as.Err = {.tag = refusal_Refusal_Text, .as.Text = 255}};
     }
     thin_film_reader_machine_Machine m = thin_film_reader_machine_begin();
     thin_film_reader_films_Films f = thin_film_reader_films_no_films();
     uint64_t i = 0;
     while (i < text.count) {
-        thin_film_reader_machine_Machine next = thin_film_reader_machine_step(m, text.at[i]);
+        uint8_t byte = text.at[i];
+        thin_film_reader_machine_Machine next = thin_film_reader_machine_step(m, byte);
         if (thin_film_reader_machine_halted(next)) {
-            return thin_film_reader_refused(9, i);
+            return (result_thin_film_reader_Reading_refusal_Refusal){
+                    .tag = result_thin_film_reader_Reading_refusal_Refusal_Err,
+                    .as.Err = {.tag = refusal_Refusal_Text, .as.Text = i}};
         }
-        f = thin_film_reader_films_take(f, m, text.at[i]);
+        f = thin_film_reader_films_take(f, m, byte);
         m = next;
         i = i + 1;
     }
     if (!thin_film_reader_machine_whole(m)) {
-        return thin_film_reader_refused(9, i);
+        return (result_thin_film_reader_Reading_refusal_Refusal){
+                .tag = result_thin_film_reader_Reading_refusal_Refusal_Err,
+                .as.Err = {.tag = refusal_Refusal_Text, .as.Text = text.count}};
     }
     return thin_film_reader_counted(f);
 }
@@ -2440,7 +2588,7 @@ static uint32_t sheet_run_of(slice_u8 src, uint64_t at, uint32_t w, uint64_t siz
         place = place + size;
         n = n + 1;
     }
-    return n;
+    return most;
 }
 
 // One more where the kind word is a SURFACE's.
@@ -2452,7 +2600,7 @@ static uint32_t sheet_counted(uint32_t w, uint32_t n) {
 }
 
 // The grammar over the whole sheet.
-static sheet_Verdict sheet_grammar(slice_u8 src) {
+static result_u32_refusal_Refusal sheet_grammar(slice_u8 src) {
     uint64_t total = src.count / 4;
     sheet_Standing s = {.tag = sheet_Standing_AtOpen};
     uint64_t at = 0;
@@ -2460,11 +2608,13 @@ static sheet_Verdict sheet_grammar(slice_u8 src) {
     while (at < total) {
         uint32_t w = sheet_word_from(src, at);
         if (!sheet_may(s, w)) {
-            return (sheet_Verdict){.tag = sheet_Verdict_Fault, .as.Fault = at};
+            return (result_u32_refusal_Refusal){.tag = result_u32_refusal_Refusal_Err,
+                    .as.Err = {.tag = refusal_Refusal_Grammar, .as.Grammar = at}};
         }
         uint64_t next = sheet_place_after(at, w / 0x10000000);
         if (total < next) {
-            return (sheet_Verdict){.tag = sheet_Verdict_Fault, .as.Fault = at};
+            return (result_u32_refusal_Refusal){.tag = result_u32_refusal_Refusal_Err,
+                    .as.Err = {.tag = refusal_Refusal_Grammar, .as.Grammar = at}};
         }
         count = sheet_counted(w, count);
         sheet_Standing t = sheet_after(s, w);
@@ -2476,18 +2626,19 @@ static sheet_Verdict sheet_grammar(slice_u8 src) {
         at = place + 9 * (uint64_t)m;
     }
     if (sheet_has_ended(s)) {
-        return (sheet_Verdict){.tag = sheet_Verdict_Whole, .as.Whole = count};
+        return (result_u32_refusal_Refusal){.tag = result_u32_refusal_Refusal_Ok, .as.Ok = count};
     }
-    return (sheet_Verdict){.tag = sheet_Verdict_Fault, .as.Fault = at};
+    return (result_u32_refusal_Refusal){.tag = result_u32_refusal_Refusal_Err,
+            .as.Err = {.tag = refusal_Refusal_Grammar, .as.Grammar = at}};
 }
 
 // The place n blocks on.
 static uint64_t sheet_place_on(slice_u8 src, uint64_t at, uint64_t n) {
     uint64_t place = at;
-    uint64_t i = 0;
-    while (i < n) {
+    uint64_t round = 0;
+    while (round < n) {
         place = sheet_next_place(src, place);
-        i = i + 1;
+        round = round + 1;
     }
     return place;
 }
@@ -2499,11 +2650,11 @@ static bool sheet_layer_follows(slice_u8 src, uint64_t at) {
 
 // Those after the block at a place: 16 at the most.
 static sheet_LayerRun sheet_layers_on(slice_u8 src, uint64_t at) {
-    uint64_t n = 0;
     uint64_t place = sheet_next_place(src, at);
     if (!sheet_layer_follows(src, at)) {
-        return (sheet_LayerRun){.count = n, .next = place};
+        return (sheet_LayerRun){.count = 0, .next = place};
     }
+    uint64_t n = 0;
     while (n < 16) {
         if (!sheet_layer_kind(2, sheet_kind_at(src, place))) {
             return (sheet_LayerRun){.count = n, .next = place};
@@ -2511,7 +2662,7 @@ static sheet_LayerRun sheet_layers_on(slice_u8 src, uint64_t at) {
         place = sheet_next_place(src, place);
         n = n + 1;
     }
-    return (sheet_LayerRun){.count = n, .next = place};
+    return (sheet_LayerRun){.count = 16, .next = place};
 }
 
 // How many layers stand directly after the block at a place: 16 at the most.
@@ -2537,10 +2688,10 @@ static uint64_t sheet_after_layers(slice_u8 src, uint64_t at) {
 // Where the n-th SURFACE of a sheet in grammar begins, counted from 0, with the kind 7 before it.
 static uint64_t sheet_begin_of(slice_u8 src, uint32_t n) {
     uint64_t at = sheet_place_on(src, 0, 2);
-    uint32_t i = 0;
-    while (i < n) {
+    uint32_t round = 0;
+    while (round < n) {
         at = sheet_after_layers(src, sheet_onto(src, at));
-        i = i + 1;
+        round = round + 1;
     }
     return at;
 }
@@ -3233,18 +3384,21 @@ static double reflectance_range_low(double n1_low, double n1_high, double n2_low
 
 // A low and a high reflectance; 13 for a low end above its high end, or an end that is NaN or outside
 // 1 to 4.
-static reflectance_range_RangeReply reflectance_range_reflectance_range(double n1_low, double n1_high, double n2_low,
-        double n2_high) {
+static result_reflectance_range_ReflectanceRange_refusal_Refusal reflectance_range_reflectance_range(double n1_low,
+        double n1_high, double n2_low, double n2_high) {
     if (!reflectance_range_range_valid(n1_low, n1_high)) {
-        return (reflectance_range_RangeReply){.tag = reflectance_range_RangeReply_Refused,
-                .as.Refused = {.number = 13, .place = 0}};
+        return (result_reflectance_range_ReflectanceRange_refusal_Refusal){
+                .tag = result_reflectance_range_ReflectanceRange_refusal_Refusal_Err,
+                .as.Err = {.tag = refusal_Refusal_Range}};
     }
     if (!reflectance_range_range_valid(n2_low, n2_high)) {
-        return (reflectance_range_RangeReply){.tag = reflectance_range_RangeReply_Refused,
-                .as.Refused = {.number = 13, .place = 0}};
+        return (result_reflectance_range_ReflectanceRange_refusal_Refusal){
+                .tag = result_reflectance_range_ReflectanceRange_refusal_Refusal_Err,
+                .as.Err = {.tag = refusal_Refusal_Range}};
     }
-    return (reflectance_range_RangeReply){.tag = reflectance_range_RangeReply_Range,
-            .as.Range = {.low = reflectance_range_low(n1_low, n1_high, n2_low, n2_high),
+    return (result_reflectance_range_ReflectanceRange_refusal_Refusal){
+            .tag = result_reflectance_range_ReflectanceRange_refusal_Refusal_Ok,
+            .as.Ok = {.low = reflectance_range_low(n1_low, n1_high, n2_low, n2_high),
             .high = reflectance_range_high(n1_low, n1_high, n2_low, n2_high)}};
 }
 
@@ -3923,15 +4077,17 @@ static polarization_SurfaceJones polarization_bare(double n1, double n2, double 
 
 // The matrices of a bare dielectric surface. Indices that are not finite and above zero, and an angle
 // that is not finite, are refused with 1.
-static polarization_FresnelJones polarization_surface_fresnel_jones(double n1, double n2, double angle_i_rad) {
+static result_polarization_SurfaceJones_refusal_Refusal polarization_surface_fresnel_jones(double n1, double n2,
+        double angle_i_rad) {
     if (!polarization_indices_valid(n1, n2, angle_i_rad)) {
-        polarization_mueller_JonesMatrix dark = polarization_mueller_JonesMatrix_diattenuator(
-                thin_film_complex_Complex_zero(), thin_film_complex_Complex_zero());
-        return (polarization_FresnelJones){.refusal = 1, .matrices = {.reflection = dark, .transmission = dark}};
+        return (result_polarization_SurfaceJones_refusal_Refusal){
+                .tag = result_polarization_SurfaceJones_refusal_Refusal_Err,
+                .as.Err = {.tag = refusal_Refusal_InvalidParameter}};
     }
     math_trig_SinCos i = math_trig_sin_cos(angle_i_rad);
-    polarization_SurfaceJones matrices = polarization_bare(n1, n2, i.sin, i.cos);
-    return (polarization_FresnelJones){.refusal = 0, .matrices = matrices};
+    return (result_polarization_SurfaceJones_refusal_Refusal){
+            .tag = result_polarization_SurfaceJones_refusal_Refusal_Ok,
+            .as.Ok = polarization_bare(n1, n2, i.sin, i.cos)};
 }
 
 // ==== thin_film_presets
@@ -3997,7 +4153,7 @@ static thin_film_coating_Built thin_film_coating_Coating_quarter_wave_ar(double 
 // An evaluation whose response needs no layer beside the coating.
 static thin_film_layers_Prepared thin_film_coating_answered(thin_film_solver_CoatingResponse response) {
     return (thin_film_layers_Prepared){.tag = thin_film_layers_Prepared_Answered,
-            .as.Answered = {.tag = thin_film_layers_Evaluation_Response, .as.Response = response}};
+            .as.Answered = {.tag = result_thin_film_solver_CoatingResponse_refusal_Refusal_Ok, .as.Ok = response}};
 }
 
 // The one place that says which layers an evaluation reads, from which end, and what is refused:
@@ -4006,7 +4162,8 @@ static thin_film_layers_Prepared thin_film_coating_prepare(thin_film_coating_Coa
         uint64_t count, double n_incident, double n_substrate, double angle_incident_rad, double wavelength_nm) {
     if (!thin_film_valid_valid(n_incident, n_substrate, angle_incident_rad, wavelength_nm)) {
         return (thin_film_layers_Prepared){.tag = thin_film_layers_Prepared_Answered,
-                .as.Answered = {.tag = thin_film_layers_Evaluation_Refused, .as.Refused = {.number = 1, .place = 0}}};
+                .as.Answered = {.tag = result_thin_film_solver_CoatingResponse_refusal_Refusal_Err,
+                .as.Err = {.tag = refusal_Refusal_InvalidParameter}}};
     }
     switch (coating) {
     case thin_film_coating_Coating_IdealAr:
@@ -4019,8 +4176,8 @@ static thin_film_layers_Prepared thin_film_coating_prepare(thin_film_coating_Coa
     {
         if (64 < count) {
             return (thin_film_layers_Prepared){.tag = thin_film_layers_Prepared_Answered,
-                    .as.Answered = {.tag = thin_film_layers_Evaluation_Refused,
-                    .as.Refused = {.number = 3, .place = 0}}};
+                    .as.Answered = {.tag = result_thin_film_solver_CoatingResponse_refusal_Refusal_Err,
+                    .as.Err = {.tag = refusal_Refusal_TooManyLayers}}};
         }
         thin_film_solver_Incidence light = thin_film_solver_Incidence_new(n_incident, n_substrate, angle_incident_rad,
                 wavelength_nm);
@@ -4186,10 +4343,11 @@ static name_coating_Clean name_coating_upper(slice_u8 s) {
     u8_x32 bytes = {{0}};
     uint64_t i = 0;
     while (i < s.count) {
-        bytes.at[i] = name_bytes_upper_byte(s.at[i]);
+        uint8_t b = s.at[i];
+        bytes.at[i] = name_bytes_upper_byte(b);
         i = i + 1;
     }
-    return (name_coating_Clean){.bytes = bytes, .len = i};
+    return (name_coating_Clean){.bytes = bytes, .len = s.count};
 }
 
 static bool name_coating_names_none(slice_u8 clean) {
@@ -4254,32 +4412,32 @@ static bool name_coating_names_ar(slice_u8 clean) {
 }
 
 // The coating of a trimmed upper-case name; an unknown one is the ideal AR coating.
-static name_coating_Named name_coating_coating_of(slice_u8 clean) {
+static option_thin_film_SurfaceCoating name_coating_coating_of(slice_u8 clean) {
     if (name_coating_names_none(clean)) {
-        return (name_coating_Named){.tag = name_coating_Named_Nothing};
+        return (option_thin_film_SurfaceCoating){.tag = option_thin_film_SurfaceCoating_None};
     }
     if (name_coating_names_mgf2(clean)) {
-        return (name_coating_Named){.tag = name_coating_Named_Coating,
-                .as.Coating = thin_film_SurfaceCoating_mgf2_default()};
+        return (option_thin_film_SurfaceCoating){.tag = option_thin_film_SurfaceCoating_Some,
+                .as.Some = thin_film_SurfaceCoating_mgf2_default()};
     }
     if (name_coating_names_bbar(clean)) {
-        return (name_coating_Named){.tag = name_coating_Named_Coating,
-                .as.Coating = {.tag = thin_film_SurfaceCoating_BroadbandAr}};
+        return (option_thin_film_SurfaceCoating){.tag = option_thin_film_SurfaceCoating_Some,
+                .as.Some = {.tag = thin_film_SurfaceCoating_BroadbandAr}};
     }
     if (name_coating_names_mirror(clean)) {
-        return (name_coating_Named){.tag = name_coating_Named_Coating,
-                .as.Coating = {.tag = thin_film_SurfaceCoating_HighReflectanceMirror}};
+        return (option_thin_film_SurfaceCoating){.tag = option_thin_film_SurfaceCoating_Some,
+                .as.Some = {.tag = thin_film_SurfaceCoating_HighReflectanceMirror}};
     }
     if (name_coating_names_ar(clean)) {
-        return (name_coating_Named){.tag = name_coating_Named_Coating,
-                .as.Coating = {.tag = thin_film_SurfaceCoating_IdealAr}};
+        return (option_thin_film_SurfaceCoating){.tag = option_thin_film_SurfaceCoating_Some,
+                .as.Some = {.tag = thin_film_SurfaceCoating_IdealAr}};
     }
-    return (name_coating_Named){.tag = name_coating_Named_Coating,
-            .as.Coating = {.tag = thin_film_SurfaceCoating_IdealAr}};
+    return (option_thin_film_SurfaceCoating){.tag = option_thin_film_SurfaceCoating_Some,
+            .as.Some = {.tag = thin_film_SurfaceCoating_IdealAr}};
 }
 
 // The coating of a trimmed name.
-static name_coating_Named name_coating_coating_in(slice_u8 part) {
+static option_thin_film_SurfaceCoating name_coating_coating_in(slice_u8 part) {
     name_coating_Clean u = name_coating_upper(part);
     u8_x32 bytes = u.bytes;
     uint64_t len = u.len;
@@ -4288,15 +4446,21 @@ static name_coating_Named name_coating_coating_in(slice_u8 part) {
 
 // The coating that a name stands for. Over 32 bytes are refused with 2 at 32, a byte over 127 with 2 at
 // its place.
-static name_coating_Named name_coating_from_format_name(slice_u8 name) {
+static result_option_thin_film_SurfaceCoating_refusal_Refusal name_coating_from_format_name(slice_u8 name) {
     if (32 < name.count) {
-        return (name_coating_Named){.tag = name_coating_Named_Refused, .as.Refused = {.number = 2, .place = 32}};
+        return (result_option_thin_film_SurfaceCoating_refusal_Refusal){
+                .tag = result_option_thin_film_SurfaceCoating_refusal_Refusal_Err,
+                .as.Err = {.tag = refusal_Refusal_Name, .as.Name = 32}};
     }
     uint64_t over = name_bytes_first_over(name);
     if (over < name.count) {
-        return (name_coating_Named){.tag = name_coating_Named_Refused, .as.Refused = {.number = 2, .place = over}};
+        return (result_option_thin_film_SurfaceCoating_refusal_Refusal){
+                .tag = result_option_thin_film_SurfaceCoating_refusal_Refusal_Err,
+                .as.Err = {.tag = refusal_Refusal_Name, .as.Name = over}};
     }
-    return name_coating_coating_in(name_bytes_trimmed(name));
+    return (result_option_thin_film_SurfaceCoating_refusal_Refusal){
+            .tag = result_option_thin_film_SurfaceCoating_refusal_Refusal_Ok,
+            .as.Ok = name_coating_coating_in(name_bytes_trimmed(name))};
 }
 
 static thin_film_Text name_coating_to_format_name(thin_film_SurfaceCoating coating) {
@@ -4324,43 +4488,43 @@ static thin_film_Text name_coating_to_format_name(thin_film_SurfaceCoating coati
 // One surface of a train: its coating by code, and the limits of document 01's section 3 and of document 02's slip 12.
 
 // From a code to a coating. Code 5 is made of layers of its own.
-static gate_limits_Interface gate_limits_coded(uint32_t code, double design_wavelength_nm) {
+static option_thin_film_SurfaceCoating gate_limits_coded(uint32_t code, double design_wavelength_nm) {
     if (code == 1) {
-        return (gate_limits_Interface){.tag = gate_limits_Interface_Coated,
-                .as.Coated = {.tag = thin_film_SurfaceCoating_IdealAr}};
+        return (option_thin_film_SurfaceCoating){.tag = option_thin_film_SurfaceCoating_Some,
+                .as.Some = {.tag = thin_film_SurfaceCoating_IdealAr}};
     }
     if (code == 2) {
-        return (gate_limits_Interface){.tag = gate_limits_Interface_Coated,
-                .as.Coated = {.tag = thin_film_SurfaceCoating_MgF2, .as.MgF2 = design_wavelength_nm}};
+        return (option_thin_film_SurfaceCoating){.tag = option_thin_film_SurfaceCoating_Some,
+                .as.Some = {.tag = thin_film_SurfaceCoating_MgF2, .as.MgF2 = design_wavelength_nm}};
     }
     if (code == 3) {
-        return (gate_limits_Interface){.tag = gate_limits_Interface_Coated,
-                .as.Coated = {.tag = thin_film_SurfaceCoating_BroadbandAr}};
+        return (option_thin_film_SurfaceCoating){.tag = option_thin_film_SurfaceCoating_Some,
+                .as.Some = {.tag = thin_film_SurfaceCoating_BroadbandAr}};
     }
     if (code == 4) {
-        return (gate_limits_Interface){.tag = gate_limits_Interface_Coated,
-                .as.Coated = {.tag = thin_film_SurfaceCoating_HighReflectanceMirror}};
+        return (option_thin_film_SurfaceCoating){.tag = option_thin_film_SurfaceCoating_Some,
+                .as.Some = {.tag = thin_film_SurfaceCoating_HighReflectanceMirror}};
     }
     if (code == 5) {
-        return (gate_limits_Interface){.tag = gate_limits_Interface_Coated,
-                .as.Coated = {.tag = thin_film_SurfaceCoating_Custom,
+        return (option_thin_film_SurfaceCoating){.tag = option_thin_film_SurfaceCoating_Some,
+                .as.Some = {.tag = thin_film_SurfaceCoating_Custom,
                 .as.Custom = thin_film_coating_Coating_Multilayer}};
     }
     if (code == 6) {
-        return (gate_limits_Interface){.tag = gate_limits_Interface_Coated,
-                .as.Coated = {.tag = thin_film_SurfaceCoating_Custom,
+        return (option_thin_film_SurfaceCoating){.tag = option_thin_film_SurfaceCoating_Some,
+                .as.Some = {.tag = thin_film_SurfaceCoating_Custom,
                 .as.Custom = thin_film_coating_Coating_IdealBeamsplitter}};
     }
     if (code == 7) {
-        return (gate_limits_Interface){.tag = gate_limits_Interface_Coated,
-                .as.Coated = {.tag = thin_film_SurfaceCoating_Custom,
+        return (option_thin_film_SurfaceCoating){.tag = option_thin_film_SurfaceCoating_Some,
+                .as.Some = {.tag = thin_film_SurfaceCoating_Custom,
                 .as.Custom = thin_film_coating_Coating_IdealMirror}};
     }
-    return (gate_limits_Interface){.tag = gate_limits_Interface_Bare};
+    return (option_thin_film_SurfaceCoating){.tag = option_thin_film_SurfaceCoating_None};
 }
 
 // Of a sheet, whose MgF2 is at 550 nm.
-static gate_limits_Interface gate_limits_interface_of(uint32_t code) {
+static option_thin_film_SurfaceCoating gate_limits_interface_of(uint32_t code) {
     return gate_limits_coded(code, 550.0);
 }
 
@@ -4464,15 +4628,16 @@ static quarter_waves_QuarterWaves quarter_waves_divided(double p, double q) {
 }
 
 // n * thickness in quarters of the wavelength; 14 where one of the three is outside its limits.
-static quarter_waves_QuarterWavesReply quarter_waves_quarter_waves(double n, double thickness_nm,
+static result_quarter_waves_QuarterWaves_refusal_Refusal quarter_waves_quarter_waves(double n, double thickness_nm,
         double wavelength_nm) {
     if (quarter_waves_admitted(n, thickness_nm, wavelength_nm)) {
         double p = ieee_abs(n * thickness_nm);
-        return (quarter_waves_QuarterWavesReply){.tag = quarter_waves_QuarterWavesReply_Counted,
-                .as.Counted = quarter_waves_divided(p, wavelength_nm / 4.0)};
+        return (result_quarter_waves_QuarterWaves_refusal_Refusal){
+                .tag = result_quarter_waves_QuarterWaves_refusal_Refusal_Ok,
+                .as.Ok = quarter_waves_divided(p, wavelength_nm / 4.0)};
     }
-    return (quarter_waves_QuarterWavesReply){.tag = quarter_waves_QuarterWavesReply_Refused,
-            .as.Refused = {.number = 14, .place = 0}};
+    return (result_quarter_waves_QuarterWaves_refusal_Refusal){
+            .tag = result_quarter_waves_QuarterWaves_refusal_Refusal_Err, .as.Err = {.tag = refusal_Refusal_Film}};
 }
 
 // ==== surface
@@ -4514,33 +4679,18 @@ static surface_Powers surface_bare_powers(gate_limits_Surface surface) {
     return surface_bare_powers_with(surface, math_trig_cos(surface.angle_rad));
 }
 
-// Zero throughout, beside a refusal.
-static surface_Answers surface_no_answers(void) {
-    polarization_mueller_JonesMatrix dark = polarization_mueller_JonesMatrix_diattenuator(
-            thin_film_complex_Complex_zero(), thin_film_complex_Complex_zero());
-    surface_Powers powers = {.reflectance_s = 0.0, .reflectance_p = 0.0, .transmittance_s = 0.0,
-            .transmittance_p = 0.0};
-    polarization_SurfaceJones jones = {.reflection = dark, .transmission = dark};
-    return surface_assembled(false, powers, thin_film_solver_no_response(), jones);
-}
-
-// A refusal's number, with no answers.
-static surface_AnswersReply surface_refused(uint32_t number) {
-    surface_Answers answers = surface_no_answers();
-    return (surface_AnswersReply){.refusal = number, .answers = answers};
-}
-
 // The answers of a bare surface, whatever its code.
-static surface_AnswersReply surface_bare_answers(gate_limits_Surface surface) {
-    polarization_FresnelJones jones = polarization_surface_fresnel_jones(surface.n_incident, surface.n_substrate,
-            surface.angle_rad);
-    if (jones.refusal == 0) {
-        polarization_SurfaceJones matrices = jones.matrices;
-        surface_Answers answers = surface_assembled(false, surface_bare_powers(surface),
-                thin_film_solver_no_response(), matrices);
-        return (surface_AnswersReply){.refusal = 0, .answers = answers};
+static result_surface_Answers_refusal_Refusal surface_bare_answers(gate_limits_Surface surface) {
+    result_polarization_SurfaceJones_refusal_Refusal value = polarization_surface_fresnel_jones(surface.n_incident,
+            surface.n_substrate, surface.angle_rad);
+    if (value.tag == result_polarization_SurfaceJones_refusal_Refusal_Err) {
+        return (result_surface_Answers_refusal_Refusal){.tag = result_surface_Answers_refusal_Refusal_Err,
+                .as.Err = value.as.Err};
     }
-    return surface_refused(jones.refusal);
+    polarization_SurfaceJones jones = value.as.Ok;
+    surface_Powers powers = surface_bare_powers(surface);
+    return (result_surface_Answers_refusal_Refusal){.tag = result_surface_Answers_refusal_Refusal_Ok,
+            .as.Ok = surface_assembled(false, powers, thin_film_solver_no_response(), jones)};
 }
 
 // ==== surface_real
@@ -5139,97 +5289,105 @@ static thin_film_solver_CoatingResponse c_layers_solve(thin_film_SurfaceCoating 
 }
 
 // A coating beside its layers.
-static thin_film_layers_Evaluation c_layers_evaluate_known(thin_film_SurfaceCoating coating, slice_f64 flat,
-        double n_incident, double n_substrate, double angle_incident_rad, double wavelength_nm) {
+static result_thin_film_solver_CoatingResponse_refusal_Refusal c_layers_evaluate_known(
+        thin_film_SurfaceCoating coating, slice_f64 flat, double n_incident, double n_substrate,
+        double angle_incident_rad, double wavelength_nm) {
     thin_film_layers_Prepared value = thin_film_reading_prepare(coating, flat.count / 3, n_incident, n_substrate,
             angle_incident_rad, wavelength_nm);
     if (value.tag == thin_film_layers_Prepared_Answered) {
-        thin_film_layers_Evaluation answer = value.as.Answered;
+        result_thin_film_solver_CoatingResponse_refusal_Refusal answer = value.as.Answered;
         return answer;
     }
     bool reversed = value.as.Layers.reversed;
     thin_film_solver_Incidence light = value.as.Layers.light;
-    return (thin_film_layers_Evaluation){.tag = thin_film_layers_Evaluation_Response,
-            .as.Response = c_layers_solve(coating, flat, reversed, light)};
+    return (result_thin_film_solver_CoatingResponse_refusal_Refusal){
+            .tag = result_thin_film_solver_CoatingResponse_refusal_Refusal_Ok,
+            .as.Ok = c_layers_solve(coating, flat, reversed, light)};
 }
 
 // From a code to a coating: a sheet's codes, and 8 for Custom(IdealAr).
-static gate_limits_Interface c_layers_coating_of(uint32_t code, double design_wavelength_nm) {
+static option_thin_film_SurfaceCoating c_layers_coating_of(uint32_t code, double design_wavelength_nm) {
     if (code == 8) {
-        return (gate_limits_Interface){.tag = gate_limits_Interface_Coated,
-                .as.Coated = {.tag = thin_film_SurfaceCoating_Custom,
-                .as.Custom = thin_film_coating_Coating_IdealAr}};
+        return (option_thin_film_SurfaceCoating){.tag = option_thin_film_SurfaceCoating_Some,
+                .as.Some = {.tag = thin_film_SurfaceCoating_Custom, .as.Custom = thin_film_coating_Coating_IdealAr}};
     }
     return gate_limits_coded(code, design_wavelength_nm);
 }
 
 // The coating by its code, the layers in a flat list; 1 for a code that has no coating, and for a
 // list that is no multiple of 3.
-static thin_film_layers_Evaluation c_layers_evaluate(uint32_t code, double design_wavelength_nm, double n_incident,
-        double n_substrate, double angle_incident_rad, double wavelength_nm, slice_f64 flat) {
+static result_thin_film_solver_CoatingResponse_refusal_Refusal c_layers_evaluate(uint32_t code,
+        double design_wavelength_nm, double n_incident, double n_substrate, double angle_incident_rad,
+        double wavelength_nm, slice_f64 flat) {
     if (flat.count % 3 != 0) {
-        return (thin_film_layers_Evaluation){.tag = thin_film_layers_Evaluation_Refused,
-                .as.Refused = {.number = 1, .place = 0}};
+        return (result_thin_film_solver_CoatingResponse_refusal_Refusal){
+                .tag = result_thin_film_solver_CoatingResponse_refusal_Refusal_Err,
+                .as.Err = {.tag = refusal_Refusal_InvalidParameter}};
     }
-    gate_limits_Interface value = c_layers_coating_of(code, design_wavelength_nm);
-    if (value.tag == gate_limits_Interface_Coated) {
-        thin_film_SurfaceCoating coating = value.as.Coated;
+    option_thin_film_SurfaceCoating value = c_layers_coating_of(code, design_wavelength_nm);
+    if (value.tag == option_thin_film_SurfaceCoating_Some) {
+        thin_film_SurfaceCoating coating = value.as.Some;
         return c_layers_evaluate_known(coating, flat, n_incident, n_substrate, angle_incident_rad, wavelength_nm);
     }
-    return (thin_film_layers_Evaluation){.tag = thin_film_layers_Evaluation_Refused,
-            .as.Refused = {.number = 1, .place = 0}};
+    return (result_thin_film_solver_CoatingResponse_refusal_Refusal){
+            .tag = result_thin_film_solver_CoatingResponse_refusal_Refusal_Err,
+            .as.Err = {.tag = refusal_Refusal_InvalidParameter}};
 }
 
 // More than 64 explicit layers are refused with 3; any other coating of a user's ignores them.
-static uint32_t c_layers_number_custom(thin_film_coating_Coating coating, uint64_t count) {
+static result_unit_refusal_Refusal c_layers_check_custom(thin_film_coating_Coating coating, uint64_t count) {
     switch (coating) {
     case thin_film_coating_Coating_Multilayer:
         if (64 < count) {
-            return 3;
+            return (result_unit_refusal_Refusal){.tag = result_unit_refusal_Refusal_Err,
+                    .as.Err = {.tag = refusal_Refusal_TooManyLayers}};
         }
-        return 0;
+        return (result_unit_refusal_Refusal){.tag = result_unit_refusal_Refusal_Ok};
     case thin_film_coating_Coating_IdealAr:
     case thin_film_coating_Coating_IdealMirror:
-        return 0;
+        return (result_unit_refusal_Refusal){.tag = result_unit_refusal_Refusal_Ok};
     default: // thin_film_coating_Coating_IdealBeamsplitter
-        return 0;
+        return (result_unit_refusal_Refusal){.tag = result_unit_refusal_Refusal_Ok};
     }
 }
 
-// How a coating beside so many layers is refused: 1, then 3; 0 where it is answered.
-static uint32_t c_layers_number_known(thin_film_SurfaceCoating coating, uint64_t count, double n_incident,
-        double n_substrate, double angle_incident_rad, double wavelength_nm) {
+// How a coating beside so many layers is refused: 1, then 3.
+static result_unit_refusal_Refusal c_layers_check_known(thin_film_SurfaceCoating coating, uint64_t count,
+        double n_incident, double n_substrate, double angle_incident_rad, double wavelength_nm) {
     if (!thin_film_valid_valid(n_incident, n_substrate, angle_incident_rad, wavelength_nm)) {
-        return 1;
+        return (result_unit_refusal_Refusal){.tag = result_unit_refusal_Refusal_Err,
+                .as.Err = {.tag = refusal_Refusal_InvalidParameter}};
     }
     switch (coating.tag) {
     case thin_film_SurfaceCoating_Custom:
     {
         thin_film_coating_Coating custom = coating.as.Custom;
-        return c_layers_number_custom(custom, count);
+        return c_layers_check_custom(custom, count);
     }
     case thin_film_SurfaceCoating_IdealAr:
     case thin_film_SurfaceCoating_MgF2:
     case thin_film_SurfaceCoating_BroadbandAr:
-        return 0;
+        return (result_unit_refusal_Refusal){.tag = result_unit_refusal_Refusal_Ok};
     default: // thin_film_SurfaceCoating_HighReflectanceMirror
-        return 0;
+        return (result_unit_refusal_Refusal){.tag = result_unit_refusal_Refusal_Ok};
     }
 }
 
-// The number that evaluate refuses with, and 0 where it answers; no layer is read for it.
-static uint32_t c_layers_refusal_number(uint32_t code, double design_wavelength_nm, double n_incident,
+// What evaluate refuses with, or nothing where it answers; no layer is read for it.
+static result_unit_refusal_Refusal c_layers_check(uint32_t code, double design_wavelength_nm, double n_incident,
         double n_substrate, double angle_incident_rad, double wavelength_nm, slice_f64 flat) {
     if (flat.count % 3 != 0) {
-        return 1;
+        return (result_unit_refusal_Refusal){.tag = result_unit_refusal_Refusal_Err,
+                .as.Err = {.tag = refusal_Refusal_InvalidParameter}};
     }
-    gate_limits_Interface value = c_layers_coating_of(code, design_wavelength_nm);
-    if (value.tag == gate_limits_Interface_Coated) {
-        thin_film_SurfaceCoating coating = value.as.Coated;
-        return c_layers_number_known(coating, flat.count / 3, n_incident, n_substrate, angle_incident_rad,
+    option_thin_film_SurfaceCoating value = c_layers_coating_of(code, design_wavelength_nm);
+    if (value.tag == option_thin_film_SurfaceCoating_Some) {
+        thin_film_SurfaceCoating coating = value.as.Some;
+        return c_layers_check_known(coating, flat.count / 3, n_incident, n_substrate, angle_incident_rad,
                 wavelength_nm);
     }
-    return 1;
+    return (result_unit_refusal_Refusal){.tag = result_unit_refusal_Refusal_Err,
+            .as.Err = {.tag = refusal_Refusal_InvalidParameter}};
 }
 
 // ==== sheet_values
@@ -5307,11 +5465,11 @@ static double sheet_values_wavelength_of(slice_u8 src, uint32_t n) {
     sheet_values_Beam beam = sheet_values_beam_of(src);
     uint64_t at = sheet_begin_of(src, 0);
     double held_nm = sheet_values_met_with(src, at, beam.wavelength_nm);
-    uint32_t i = 0;
-    while (i < n) {
+    uint32_t round = 0;
+    while (round < n) {
         at = sheet_after_layers(src, sheet_onto(src, at));
         held_nm = sheet_values_met_with(src, at, held_nm);
-        i = i + 1;
+        round = round + 1;
     }
     return held_nm;
 }
@@ -5321,16 +5479,22 @@ static double sheet_values_wavelength_of(slice_u8 src, uint32_t n) {
 // What an exported call returns, and what it leaves in the list that it was lent: refusals as one
 // number, and answers by their numbers.
 
+// The same at a place of the caller's.
+static uint64_t c_call_packed_at(refusal_Refusal r, uint64_t place) {
+    return (uint64_t)refusal_Refusal_number(r) * 0x100000000u + place % 0x100000000u;
+}
+
 // A refusal as one number, for a place below 2^32.
 static uint64_t c_call_packed(refusal_Refusal r) {
-    return (uint64_t)r.number * 0x100000000u + r.place % 0x100000000u;
+    return c_call_packed_at(r, refusal_Refusal_place(r));
 }
 
 // Numbers at a place of a list that has room for them.
 static void c_call_place(uint64_t at, slice_f64 numbers, slice_mut_f64 list) {
     uint64_t i = 0;
     while (i < numbers.count) {
-        list.at[at + i] = numbers.at[i];
+        double number = numbers.at[i];
+        list.at[at + i] = number;
         i = i + 1;
     }
 }
@@ -5492,16 +5656,16 @@ static uint64_t c_stack_put(thin_film_grammar_Film_x64 films, uint64_t count, do
 static uint64_t c_stack_stack(slice_u8 text, double n_h, double n_l, double n_m, double design_wavelength_nm,
         slice_mut_f64 list) {
     if (!thin_film_shorthand_valid(n_h, n_l, n_m, design_wavelength_nm)) {
-        return c_call_packed((refusal_Refusal){.number = 1, .place = 0});
+        return c_call_packed((refusal_Refusal){.tag = refusal_Refusal_InvalidParameter});
     }
-    thin_film_reader_Reading reading = thin_film_reader_read(text);
-    refusal_Refusal refusal = reading.refusal;
-    if (refusal.number != 0) {
-        return c_call_packed(refusal);
+    result_thin_film_reader_Reading_refusal_Refusal value = thin_film_reader_read(text);
+    if (value.tag == result_thin_film_reader_Reading_refusal_Refusal_Ok) {
+        thin_film_reader_Reading reading = value.as.Ok;
+        thin_film_grammar_Film_x64 films = reading.films;
+        return c_stack_put(films, reading.count, n_h, n_l, n_m, design_wavelength_nm, list);
     }
-    thin_film_grammar_Film_x64 films = reading.films;
-    uint64_t count = reading.count;
-    return c_stack_put(films, count, n_h, n_l, n_m, design_wavelength_nm, list);
+    refusal_Refusal r = value.as.Err;
+    return c_call_packed(r);
 }
 
 // ==== c_scan
@@ -5509,30 +5673,31 @@ static uint64_t c_stack_stack(slice_u8 text, double n_h, double n_l, double n_m,
 // dihkelu_evaluate_list: one coated surface at many angles and wavelengths, its responses in a list that was
 // lent. dihkelu_invalid_argument: which argument an evaluation is refused for.
 
-// The first case that is refused, at its index; the number is 0 where none is. No layer is read.
-static refusal_Refusal c_scan_first_refused(uint32_t code, double design_wavelength_nm, double n_incident,
-        double n_substrate, slice_f64 angles_rad, slice_f64 wavelengths_nm, slice_f64 layers) {
+// The first case that is refused. No layer is read.
+static result_unit_c_scan_RefusedCase c_scan_first_refused(uint32_t code, double design_wavelength_nm,
+        double n_incident, double n_substrate, slice_f64 angles_rad, slice_f64 wavelengths_nm, slice_f64 layers) {
     uint64_t i = 0;
     while (i < angles_rad.count) {
-        uint32_t number = c_layers_refusal_number(code, design_wavelength_nm, n_incident, n_substrate,
+        result_unit_refusal_Refusal value = c_layers_check(code, design_wavelength_nm, n_incident, n_substrate,
                 angles_rad.at[i], wavelengths_nm.at[i], layers);
-        if (number != 0) {
-            return (refusal_Refusal){.number = number, .place = i};
+        if (value.tag == result_unit_refusal_Refusal_Err) {
+            refusal_Refusal refusal = value.as.Err;
+            return (result_unit_c_scan_RefusedCase){.tag = result_unit_c_scan_RefusedCase_Err,
+                    .as.Err = {.refusal = refusal, .index = i}};
         }
         i = i + 1;
     }
-    return (refusal_Refusal){.number = 0, .place = 0};
+    return (result_unit_c_scan_RefusedCase){.tag = result_unit_c_scan_RefusedCase_Ok};
 }
 
 // The numbers of one case at a place of a list that has room for them; nothing where it is refused.
 static void c_scan_place_case(uint64_t at, uint32_t code, double design_wavelength_nm, double n_incident,
         double n_substrate, double angle_incident_rad, double wavelength_nm, slice_f64 layers, slice_mut_f64 list) {
-    thin_film_layers_Evaluation value = c_layers_evaluate(code, design_wavelength_nm, n_incident, n_substrate,
-            angle_incident_rad, wavelength_nm, layers);
-    if (value.tag == thin_film_layers_Evaluation_Response) {
-        thin_film_solver_CoatingResponse r = value.as.Response;
+    result_thin_film_solver_CoatingResponse_refusal_Refusal value = c_layers_evaluate(code, design_wavelength_nm,
+            n_incident, n_substrate, angle_incident_rad, wavelength_nm, layers);
+    if (value.tag == result_thin_film_solver_CoatingResponse_refusal_Refusal_Ok) {
+        thin_film_solver_CoatingResponse r = value.as.Ok;
         c_call_put_response(r, (slice_mut_f64){at == 0 ? list.at : list.at + at, list.count - at});
-    } else { // thin_film_layers_Evaluation_Refused
     }
 }
 
@@ -5550,10 +5715,11 @@ static void c_scan_place(uint32_t code, double design_wavelength_nm, double n_in
 // The cases of lists of equal length: refused, or written.
 static uint64_t c_scan_paired(uint32_t code, double design_wavelength_nm, double n_incident, double n_substrate,
         slice_f64 angles_rad, slice_f64 wavelengths_nm, slice_f64 layers, slice_mut_f64 list) {
-    refusal_Refusal first = c_scan_first_refused(code, design_wavelength_nm, n_incident, n_substrate, angles_rad,
-            wavelengths_nm, layers);
-    if (first.number != 0) {
-        return c_call_packed(first);
+    result_unit_c_scan_RefusedCase value = c_scan_first_refused(code, design_wavelength_nm, n_incident, n_substrate,
+            angles_rad, wavelengths_nm, layers);
+    if (value.tag == result_unit_c_scan_RefusedCase_Err) {
+        c_scan_RefusedCase first = value.as.Err;
+        return c_call_packed_at(first.refusal, first.index);
     }
     uint64_t count = 16 * angles_rad.count;
     if (list.count < count) {
@@ -5569,10 +5735,10 @@ static uint64_t c_scan_paired(uint32_t code, double design_wavelength_nm, double
 static uint64_t c_scan_evaluate_list(uint32_t code, double design_wavelength_nm, double n_incident,
         double n_substrate, slice_f64 angles_rad, slice_f64 wavelengths_nm, slice_f64 layers, slice_mut_f64 list) {
     if (angles_rad.count != wavelengths_nm.count) {
-        return c_call_packed((refusal_Refusal){.number = 1, .place = 0x10000000});
+        return c_call_packed_at((refusal_Refusal){.tag = refusal_Refusal_InvalidParameter}, 0x10000000);
     }
     if (0x10000000 <= angles_rad.count) {
-        return c_call_packed((refusal_Refusal){.number = 1, .place = 0x10000000});
+        return c_call_packed_at((refusal_Refusal){.tag = refusal_Refusal_InvalidParameter}, 0x10000000);
     }
     return c_scan_paired(code, design_wavelength_nm, n_incident, n_substrate, angles_rad, wavelengths_nm, layers,
             list);
@@ -5613,7 +5779,7 @@ static polarization_mueller_JonesMatrix c_mueller_jones(slice_f64 numbers) {
 // there are not 8 numbers, then 8 for a list that is too short.
 static uint64_t c_mueller_to_mueller(slice_f64 numbers, slice_mut_f64 list) {
     if (numbers.count != 8) {
-        return c_call_packed((refusal_Refusal){.number = 1, .place = 0});
+        return c_call_packed((refusal_Refusal){.tag = refusal_Refusal_InvalidParameter});
     }
     return c_call_put_mueller(polarization_mueller_JonesMatrix_to_mueller(c_mueller_jones(numbers)), list);
 }
@@ -5621,7 +5787,7 @@ static uint64_t c_mueller_to_mueller(slice_f64 numbers, slice_mut_f64 list) {
 // The same of to_mueller_born_wolf.
 static uint64_t c_mueller_mueller_born_wolf(slice_f64 numbers, slice_mut_f64 list) {
     if (numbers.count != 8) {
-        return c_call_packed((refusal_Refusal){.number = 1, .place = 0});
+        return c_call_packed((refusal_Refusal){.tag = refusal_Refusal_InvalidParameter});
     }
     return c_call_put_mueller(polarization_born_wolf_to_mueller_born_wolf(c_mueller_jones(numbers)), list);
 }
@@ -5634,12 +5800,13 @@ static uint64_t c_mueller_mueller_born_wolf(slice_f64 numbers, slice_mut_f64 lis
 // that is too short.
 static uint64_t c_range_reflectance_range(double n1_low, double n1_high, double n2_low, double n2_high,
         slice_mut_f64 list) {
-    reflectance_range_RangeReply reply = reflectance_range_reflectance_range(n1_low, n1_high, n2_low, n2_high);
-    if (reply.tag == reflectance_range_RangeReply_Range) {
-        reflectance_range_ReflectanceRange r = reply.as.Range;
+    result_reflectance_range_ReflectanceRange_refusal_Refusal reply = reflectance_range_reflectance_range(n1_low,
+            n1_high, n2_low, n2_high);
+    if (reply.tag == result_reflectance_range_ReflectanceRange_refusal_Refusal_Ok) {
+        reflectance_range_ReflectanceRange r = reply.as.Ok;
         return c_call_put_both(2, r.low, r.high, list);
     }
-    refusal_Refusal r_2 = reply.as.Refused;
+    refusal_Refusal r_2 = reply.as.Err;
     return c_call_packed(r_2);
 }
 
@@ -5650,13 +5817,14 @@ static uint64_t c_range_reflectance_range(double n1_low, double n1_high, double 
 // The whole quarter waves of n * thickness; or a refusal: 14. One number that is lent is a list of one.
 static uint64_t c_quarter_waves_quarter_waves(double n, double thickness_nm, double wavelength_nm,
         double *remainder_nm) {
-    quarter_waves_QuarterWavesReply value = quarter_waves_quarter_waves(n, thickness_nm, wavelength_nm);
-    if (value.tag == quarter_waves_QuarterWavesReply_Counted) {
-        quarter_waves_QuarterWaves waves = value.as.Counted;
+    result_quarter_waves_QuarterWaves_refusal_Refusal value = quarter_waves_quarter_waves(n, thickness_nm,
+            wavelength_nm);
+    if (value.tag == result_quarter_waves_QuarterWaves_refusal_Refusal_Ok) {
+        quarter_waves_QuarterWaves waves = value.as.Ok;
         *remainder_nm = waves.remainder_nm;
         return (uint64_t)waves.count;
     }
-    refusal_Refusal r = value.as.Refused;
+    refusal_Refusal r = value.as.Err;
     return c_call_packed(r);
 }
 
@@ -5684,14 +5852,15 @@ static uint64_t c_fresnel_schlick_approx(double cos_theta_i, double n1, double n
 // The Jones matrices of a bare surface, of the reflected light and of the transmitted. Returns 16, or a refusal: 1,
 // then 8.
 static uint64_t c_fresnel_surface_fresnel_jones(double n1, double n2, double angle_i_rad, slice_mut_f64 list) {
-    polarization_FresnelJones surface = polarization_surface_fresnel_jones(n1, n2, angle_i_rad);
-    if (surface.refusal != 0) {
-        return c_call_packed((refusal_Refusal){.number = 1, .place = 0});
+    result_polarization_SurfaceJones_refusal_Refusal value = polarization_surface_fresnel_jones(n1, n2, angle_i_rad);
+    if (value.tag == result_polarization_SurfaceJones_refusal_Refusal_Ok) {
+        polarization_SurfaceJones surface = value.as.Ok;
+        polarization_mueller_JonesMatrix reflection = surface.reflection;
+        polarization_mueller_JonesMatrix transmission = surface.transmission;
+        return c_call_put_two_jones(reflection, transmission, list);
     }
-    polarization_SurfaceJones m = surface.matrices;
-    polarization_mueller_JonesMatrix reflection = m.reflection;
-    polarization_mueller_JonesMatrix transmission = m.transmission;
-    return c_call_put_two_jones(reflection, transmission, list);
+    refusal_Refusal r = value.as.Err;
+    return c_call_packed(r);
 }
 
 // ==== c_presets
@@ -5715,7 +5884,8 @@ static uint64_t c_presets_quarter_wave_ar(double n_ambient, double n_substrate, 
 static void c_presets_place(double n_high, double n_low, uint64_t pairs, double design_wavelength_nm,
         slice_mut_f64 list) {
     uint64_t i = 0;
-    while (i < pairs * 2 + 1) {
+    uint64_t value = pairs * 2 + 1;
+    while (i < value) {
         thin_film_solver_ThinFilmLayer layer = thin_film_presets_bragg(n_high, n_low, design_wavelength_nm, i);
         list.at[3 * i] = layer.n;
         list.at[3 * i + 1] = layer.k;
@@ -5729,7 +5899,7 @@ static void c_presets_place(double n_high, double n_low, uint64_t pairs, double 
 static uint64_t c_presets_bragg_mirror(double n_high, double n_low, uint32_t pairs, double design_wavelength_nm,
         slice_mut_f64 list) {
     if (31 < pairs) {
-        return c_call_packed((refusal_Refusal){.number = 3, .place = 0});
+        return c_call_packed((refusal_Refusal){.tag = refusal_Refusal_TooManyLayers});
     }
     uint64_t count = (uint64_t)pairs;
     uint64_t numbers = 3 * (count * 2 + 1);
@@ -5780,40 +5950,33 @@ static uint32_t c_names_code_of(thin_film_SurfaceCoating coating) {
 
 // SurfaceCoating::from_format_name: the coating's code, 0 for none; or a refusal: 2.
 static uint64_t c_names_coating_from_name(slice_u8 name) {
-    name_coating_Named value = name_coating_from_format_name(name);
-    switch (value.tag) {
-    case name_coating_Named_Coating:
-    {
-        thin_film_SurfaceCoating coating = value.as.Coating;
-        return (uint64_t)c_names_code_of(coating);
-    }
-    case name_coating_Named_Nothing:
+    result_option_thin_film_SurfaceCoating_refusal_Refusal value = name_coating_from_format_name(name);
+    if (value.tag == result_option_thin_film_SurfaceCoating_refusal_Refusal_Ok) {
+        if (value.as.Ok.tag == option_thin_film_SurfaceCoating_Some) {
+            thin_film_SurfaceCoating coating = value.as.Ok.as.Some;
+            return (uint64_t)c_names_code_of(coating);
+        }
         return 0;
-    default: // name_coating_Named_Refused
-    {
-        refusal_Refusal r = value.as.Refused;
-        return c_call_packed(r);
     }
-    }
+    refusal_Refusal r = value.as.Err;
+    return c_call_packed(r);
 }
 
 // The coating that dihkelu_evaluate has by a code; an MgF2 at 550 nm.
-static gate_limits_Interface c_names_coating_of(uint32_t code) {
+static option_thin_film_SurfaceCoating c_names_coating_of(uint32_t code) {
     if (code == 8) {
-        return (gate_limits_Interface){.tag = gate_limits_Interface_Coated,
-                .as.Coated = {.tag = thin_film_SurfaceCoating_Custom,
-                .as.Custom = thin_film_coating_Coating_IdealAr}};
+        return (option_thin_film_SurfaceCoating){.tag = option_thin_film_SurfaceCoating_Some,
+                .as.Some = {.tag = thin_film_SurfaceCoating_Custom, .as.Custom = thin_film_coating_Coating_IdealAr}};
     }
     return gate_limits_coded(code, 550.0);
 }
 
-// A name of at most 16 bytes at the front of an output that has room for it.
+// A name at the front of an output that has room for it.
 static void c_names_copy(slice_u8 name, slice_mut_u8 output) {
     uint64_t i = 0;
-    while (i < 16) {
-        if (i < name.count) {
-            output.at[i] = name.at[i];
-        }
+    while (i < name.count) {
+        uint8_t byte = name.at[i];
+        output.at[i] = byte;
         i = i + 1;
     }
 }
@@ -5838,9 +6001,9 @@ static uint64_t c_names_put_name(thin_film_SurfaceCoating coating, slice_mut_u8 
 // SurfaceCoating::to_format_name of the coating that a code stands for: writes the name to the front of the
 // output and returns its length; or a refusal: 2 for a code that has none, then 8.
 static uint64_t c_names_coating_name(uint32_t code, slice_mut_u8 output) {
-    gate_limits_Interface value = c_names_coating_of(code);
-    if (value.tag == gate_limits_Interface_Coated) {
-        thin_film_SurfaceCoating coating = value.as.Coated;
+    option_thin_film_SurfaceCoating value = c_names_coating_of(code);
+    if (value.tag == option_thin_film_SurfaceCoating_Some) {
+        thin_film_SurfaceCoating coating = value.as.Some;
         return c_names_put_name(coating, output);
     }
     return 0x200000000u;
@@ -5914,7 +6077,7 @@ static uint64_t c_polarization_diattenuating(polarization_stokes_JonesVector v, 
 // JonesVector::to_stokes: S0 to S3. Returns 4.
 static uint64_t c_polarization_to_stokes(slice_f64 numbers, slice_mut_f64 list) {
     if (numbers.count != 4) {
-        return c_call_packed((refusal_Refusal){.number = 1, .place = 0});
+        return c_call_packed((refusal_Refusal){.tag = refusal_Refusal_InvalidParameter});
     }
     return c_polarization_put_stokes(polarization_stokes_JonesVector_to_stokes(c_polarization_vector(numbers)), list);
 }
@@ -5922,7 +6085,7 @@ static uint64_t c_polarization_to_stokes(slice_f64 numbers, slice_mut_f64 list) 
 // JonesVector::normalize. Returns 4.
 static uint64_t c_polarization_jones_normalize(slice_f64 numbers, slice_mut_f64 list) {
     if (numbers.count != 4) {
-        return c_call_packed((refusal_Refusal){.number = 1, .place = 0});
+        return c_call_packed((refusal_Refusal){.tag = refusal_Refusal_InvalidParameter});
     }
     return c_polarization_put_vector(polarization_stokes_JonesVector_normalize(c_polarization_vector(numbers)), list);
 }
@@ -5930,7 +6093,7 @@ static uint64_t c_polarization_jones_normalize(slice_f64 numbers, slice_mut_f64 
 // JonesVector::intensity. Returns 1.
 static uint64_t c_polarization_jones_intensity(slice_f64 numbers, slice_mut_f64 list) {
     if (numbers.count != 4) {
-        return c_call_packed((refusal_Refusal){.number = 1, .place = 0});
+        return c_call_packed((refusal_Refusal){.tag = refusal_Refusal_InvalidParameter});
     }
     return c_call_put_one(polarization_stokes_JonesVector_intensity(c_polarization_vector(numbers)), list);
 }
@@ -5938,7 +6101,7 @@ static uint64_t c_polarization_jones_intensity(slice_f64 numbers, slice_mut_f64 
 // JonesMatrix::diattenuator of two amplitudes. Returns 8.
 static uint64_t c_polarization_diattenuator(slice_f64 numbers, slice_mut_f64 list) {
     if (numbers.count != 4) {
-        return c_call_packed((refusal_Refusal){.number = 1, .place = 0});
+        return c_call_packed((refusal_Refusal){.tag = refusal_Refusal_InvalidParameter});
     }
     return c_polarization_diattenuating(c_polarization_vector(numbers), list);
 }
@@ -5946,7 +6109,7 @@ static uint64_t c_polarization_diattenuator(slice_f64 numbers, slice_mut_f64 lis
 // Its degrees of polarization, linear and circular too, its orientation and its ellipticity. Returns 5.
 static uint64_t c_polarization_stokes_figures(slice_f64 numbers, slice_mut_f64 list) {
     if (numbers.count != 4) {
-        return c_call_packed((refusal_Refusal){.number = 1, .place = 0});
+        return c_call_packed((refusal_Refusal){.tag = refusal_Refusal_InvalidParameter});
     }
     return c_polarization_put_figures(c_polarization_stokes(numbers), list);
 }
@@ -5954,10 +6117,10 @@ static uint64_t c_polarization_stokes_figures(slice_f64 numbers, slice_mut_f64 l
 // JonesMatrix::apply. Returns 4.
 static uint64_t c_polarization_jones_apply(slice_f64 matrix, slice_f64 numbers, slice_mut_f64 list) {
     if (matrix.count != 8) {
-        return c_call_packed((refusal_Refusal){.number = 1, .place = 0});
+        return c_call_packed((refusal_Refusal){.tag = refusal_Refusal_InvalidParameter});
     }
     if (numbers.count != 4) {
-        return c_call_packed((refusal_Refusal){.number = 1, .place = 0});
+        return c_call_packed((refusal_Refusal){.tag = refusal_Refusal_InvalidParameter});
     }
     return c_polarization_put_vector(polarization_mueller_JonesMatrix_apply(c_polarization_jones(matrix),
             c_polarization_vector(numbers)), list);
@@ -5966,10 +6129,10 @@ static uint64_t c_polarization_jones_apply(slice_f64 matrix, slice_f64 numbers, 
 // JonesMatrix::mul: the first times the second. Returns 8.
 static uint64_t c_polarization_jones_mul(slice_f64 matrix, slice_f64 numbers, slice_mut_f64 list) {
     if (matrix.count != 8) {
-        return c_call_packed((refusal_Refusal){.number = 1, .place = 0});
+        return c_call_packed((refusal_Refusal){.tag = refusal_Refusal_InvalidParameter});
     }
     if (numbers.count != 8) {
-        return c_call_packed((refusal_Refusal){.number = 1, .place = 0});
+        return c_call_packed((refusal_Refusal){.tag = refusal_Refusal_InvalidParameter});
     }
     return c_call_put_jones(polarization_mueller_JonesMatrix_mul(c_polarization_jones(matrix),
             c_polarization_jones(numbers)), list);
@@ -5978,10 +6141,10 @@ static uint64_t c_polarization_jones_mul(slice_f64 matrix, slice_f64 numbers, sl
 // MuellerMatrix::apply. Returns 4.
 static uint64_t c_polarization_mueller_apply(slice_f64 matrix, slice_f64 numbers, slice_mut_f64 list) {
     if (matrix.count != 16) {
-        return c_call_packed((refusal_Refusal){.number = 1, .place = 0});
+        return c_call_packed((refusal_Refusal){.tag = refusal_Refusal_InvalidParameter});
     }
     if (numbers.count != 4) {
-        return c_call_packed((refusal_Refusal){.number = 1, .place = 0});
+        return c_call_packed((refusal_Refusal){.tag = refusal_Refusal_InvalidParameter});
     }
     return c_polarization_put_stokes(polarization_mueller_MuellerMatrix_apply(c_polarization_mueller(matrix),
             c_polarization_stokes(numbers)), list);
@@ -6113,18 +6276,19 @@ static thin_film_solver_CoatingResponse sheet_answers_quick_response_with(slice_
 }
 
 // A coated surface. A preset coating has layers of its own, and Custom(Multilayer) those after the block.
-static thin_film_layers_Evaluation sheet_answers_evaluate_at(slice_u8 src, uint64_t at, uint64_t n,
-        gate_limits_Surface surface, thin_film_SurfaceCoating coating, double wavelength_nm) {
+static result_thin_film_solver_CoatingResponse_refusal_Refusal sheet_answers_evaluate_at(slice_u8 src, uint64_t at,
+        uint64_t n, gate_limits_Surface surface, thin_film_SurfaceCoating coating, double wavelength_nm) {
     thin_film_layers_Prepared value = thin_film_reading_prepare(coating, n, surface.n_incident, surface.n_substrate,
             surface.angle_rad, wavelength_nm);
     if (value.tag == thin_film_layers_Prepared_Answered) {
-        thin_film_layers_Evaluation answer = value.as.Answered;
+        result_thin_film_solver_CoatingResponse_refusal_Refusal answer = value.as.Answered;
         return answer;
     }
     bool reversed = value.as.Layers.reversed;
     thin_film_solver_Incidence light = value.as.Layers.light;
-    return (thin_film_layers_Evaluation){.tag = thin_film_layers_Evaluation_Response,
-            .as.Response = sheet_answers_quick_response_with(src, at, n, coating, reversed, wavelength_nm, light)};
+    return (result_thin_film_solver_CoatingResponse_refusal_Refusal){
+            .tag = result_thin_film_solver_CoatingResponse_refusal_Refusal_Ok,
+            .as.Ok = sheet_answers_quick_response_with(src, at, n, coating, reversed, wavelength_nm, light)};
 }
 
 // The powers with the n layers after the block at a place: over real numbers where they are known so, or else from the whole
@@ -6152,40 +6316,41 @@ static surface_Powers sheet_answers_quick_powers_with(slice_u8 src, uint64_t at,
 }
 
 // The powers of an evaluation that needs no layer after the block.
-static sheet_answers_PowersReply sheet_answers_quick_answered(thin_film_layers_Evaluation answer) {
-    if (answer.tag == thin_film_layers_Evaluation_Response) {
-        thin_film_solver_CoatingResponse r = answer.as.Response;
-        return (sheet_answers_PowersReply){.tag = sheet_answers_PowersReply_Powers,
-                .as.Powers = surface_coated_powers(r)};
+static result_surface_Powers_refusal_Refusal sheet_answers_quick_answered(
+        result_thin_film_solver_CoatingResponse_refusal_Refusal answer) {
+    if (answer.tag == result_thin_film_solver_CoatingResponse_refusal_Refusal_Ok) {
+        thin_film_solver_CoatingResponse r = answer.as.Ok;
+        return (result_surface_Powers_refusal_Refusal){.tag = result_surface_Powers_refusal_Refusal_Ok,
+                .as.Ok = surface_coated_powers(r)};
     }
-    refusal_Refusal r_2 = answer.as.Refused;
-    return (sheet_answers_PowersReply){.tag = sheet_answers_PowersReply_Refused, .as.Refused = r_2};
+    refusal_Refusal r_2 = answer.as.Err;
+    return (result_surface_Powers_refusal_Refusal){.tag = result_surface_Powers_refusal_Refusal_Err, .as.Err = r_2};
 }
 
 // The powers of a coated surface at a place with the n layers after it.
-static sheet_answers_PowersReply sheet_answers_quick_coated_powers(slice_u8 src, uint64_t at, uint64_t n,
+static result_surface_Powers_refusal_Refusal sheet_answers_quick_coated_powers(slice_u8 src, uint64_t at, uint64_t n,
         gate_limits_Surface surface, thin_film_SurfaceCoating coating, double wavelength_nm) {
     thin_film_layers_Prepared value = thin_film_reading_prepare(coating, n, surface.n_incident, surface.n_substrate,
             surface.angle_rad, wavelength_nm);
     if (value.tag == thin_film_layers_Prepared_Answered) {
-        thin_film_layers_Evaluation answer = value.as.Answered;
+        result_thin_film_solver_CoatingResponse_refusal_Refusal answer = value.as.Answered;
         return sheet_answers_quick_answered(answer);
     }
     bool reversed = value.as.Layers.reversed;
     thin_film_solver_Incidence light = value.as.Layers.light;
-    return (sheet_answers_PowersReply){.tag = sheet_answers_PowersReply_Powers,
-            .as.Powers = sheet_answers_quick_powers_with(src, at, n, coating, reversed, wavelength_nm, light)};
+    return (result_surface_Powers_refusal_Refusal){.tag = result_surface_Powers_refusal_Refusal_Ok,
+            .as.Ok = sheet_answers_quick_powers_with(src, at, n, coating, reversed, wavelength_nm, light)};
 }
 
 // The powers of the surface at a place with the n layers after it.
-static sheet_answers_PowersReply sheet_answers_powers_at(slice_u8 src, uint64_t at, uint64_t n,
+static result_surface_Powers_refusal_Refusal sheet_answers_powers_at(slice_u8 src, uint64_t at, uint64_t n,
         gate_limits_Surface surface, double wavelength_nm) {
-    gate_limits_Interface value = gate_limits_interface_of(surface.coating);
-    if (value.tag == gate_limits_Interface_Bare) {
-        return (sheet_answers_PowersReply){.tag = sheet_answers_PowersReply_Powers,
-                .as.Powers = surface_bare_powers(surface)};
+    option_thin_film_SurfaceCoating value = gate_limits_interface_of(surface.coating);
+    if (value.tag == option_thin_film_SurfaceCoating_None) {
+        return (result_surface_Powers_refusal_Refusal){.tag = result_surface_Powers_refusal_Refusal_Ok,
+                .as.Ok = surface_bare_powers(surface)};
     }
-    thin_film_SurfaceCoating coating = value.as.Coated;
+    thin_film_SurfaceCoating coating = value.as.Some;
     return sheet_answers_quick_coated_powers(src, at, n, surface, coating, wavelength_nm);
 }
 
@@ -6197,14 +6362,14 @@ static thin_film_solver_Incidence sheet_answers_quick_light_with(gate_limits_Sur
 }
 
 // The powers of a surface with layers of its own, from the sine and the cosine of its angle.
-static sheet_answers_PowersReply sheet_answers_quick_custom_powers(slice_u8 src, uint64_t at, uint64_t n,
+static result_surface_Powers_refusal_Refusal sheet_answers_quick_custom_powers(slice_u8 src, uint64_t at, uint64_t n,
         gate_limits_Surface surface, math_trig_SinCos theta, double wavelength_nm) {
     if (n <= 64) {
         if (thin_film_valid_valid(surface.n_incident, surface.n_substrate, surface.angle_rad, wavelength_nm)) {
             bool reversed = surface.n_substrate < surface.n_incident;
             thin_film_solver_Incidence light = sheet_answers_quick_light_with(surface, theta, wavelength_nm);
-            return (sheet_answers_PowersReply){.tag = sheet_answers_PowersReply_Powers,
-                    .as.Powers = sheet_answers_quick_layers_powers(src, at, n, reversed, wavelength_nm, light)};
+            return (result_surface_Powers_refusal_Refusal){.tag = result_surface_Powers_refusal_Refusal_Ok,
+                    .as.Ok = sheet_answers_quick_layers_powers(src, at, n, reversed, wavelength_nm, light)};
         }
     }
     thin_film_SurfaceCoating coating = {.tag = thin_film_SurfaceCoating_Custom,
@@ -6213,11 +6378,11 @@ static sheet_answers_PowersReply sheet_answers_quick_custom_powers(slice_u8 src,
 }
 
 // The same from the sine and the cosine of its angle.
-static sheet_answers_PowersReply sheet_answers_powers_with_angle(slice_u8 src, uint64_t at, uint64_t n,
+static result_surface_Powers_refusal_Refusal sheet_answers_powers_with_angle(slice_u8 src, uint64_t at, uint64_t n,
         gate_limits_Surface surface, math_trig_SinCos theta, double wavelength_nm) {
     if (surface.coating == 0) {
-        return (sheet_answers_PowersReply){.tag = sheet_answers_PowersReply_Powers,
-                .as.Powers = surface_bare_powers_with(surface, theta.cos)};
+        return (result_surface_Powers_refusal_Refusal){.tag = result_surface_Powers_refusal_Refusal_Ok,
+                .as.Ok = surface_bare_powers_with(surface, theta.cos)};
     }
     if (surface.coating == 5) {
         return sheet_answers_quick_custom_powers(src, at, n, surface, theta, wavelength_nm);
@@ -6226,21 +6391,22 @@ static sheet_answers_PowersReply sheet_answers_powers_with_angle(slice_u8 src, u
 }
 
 // The answers of the surface at a place with the n layers after it.
-static surface_AnswersReply sheet_answers_answers_at(slice_u8 src, uint64_t at, uint64_t n,
+static result_surface_Answers_refusal_Refusal sheet_answers_answers_at(slice_u8 src, uint64_t at, uint64_t n,
         gate_limits_Surface surface, double wavelength_nm) {
-    gate_limits_Interface value = gate_limits_interface_of(surface.coating);
-    if (value.tag == gate_limits_Interface_Bare) {
+    option_thin_film_SurfaceCoating value = gate_limits_interface_of(surface.coating);
+    if (value.tag == option_thin_film_SurfaceCoating_None) {
         return surface_bare_answers(surface);
     }
-    thin_film_SurfaceCoating coating = value.as.Coated;
-    thin_film_layers_Evaluation value_2 = sheet_answers_evaluate_at(src, at, n, surface, coating, wavelength_nm);
-    if (value_2.tag == thin_film_layers_Evaluation_Response) {
-        thin_film_solver_CoatingResponse r = value_2.as.Response;
-        surface_Answers answers = surface_coated_answers(r);
-        return (surface_AnswersReply){.refusal = 0, .answers = answers};
+    thin_film_SurfaceCoating coating = value.as.Some;
+    result_thin_film_solver_CoatingResponse_refusal_Refusal value_2 = sheet_answers_evaluate_at(src, at, n, surface,
+            coating, wavelength_nm);
+    if (value_2.tag == result_thin_film_solver_CoatingResponse_refusal_Refusal_Err) {
+        return (result_surface_Answers_refusal_Refusal){.tag = result_surface_Answers_refusal_Refusal_Err,
+                .as.Err = value_2.as.Err};
     }
-    refusal_Refusal r_2 = value_2.as.Refused;
-    return surface_refused(r_2.number);
+    thin_film_solver_CoatingResponse response = value_2.as.Ok;
+    return (result_surface_Answers_refusal_Refusal){.tag = result_surface_Answers_refusal_Refusal_Ok,
+            .as.Ok = surface_coated_answers(response)};
 }
 
 // ==== sheet_index
@@ -6344,8 +6510,9 @@ static bool gate_length_fits(slice_u8 src) {
 }
 
 // The first block outside the limits, at its place.
-static gate_Gated gate_outside(uint64_t place) {
-    return (gate_Gated){.tag = gate_Gated_Refused, .as.Refused = {.number = 6, .place = place}};
+static result_u32_refusal_Refusal gate_outside(uint64_t place) {
+    return (result_u32_refusal_Refusal){.tag = result_u32_refusal_Refusal_Err,
+            .as.Err = {.tag = refusal_Refusal_Limits, .as.Limits = place}};
 }
 
 // The coefficients of a kind 6 are finite.
@@ -6379,15 +6546,15 @@ static bool gate_metal_layer(slice_u8 src, uint64_t at, double wavelength_nm) {
 static bool gate_metal_layers(slice_u8 src, uint64_t at, uint64_t n, double wavelength_nm) {
     uint64_t place = at;
     double sum = 0.0;
-    uint64_t i = 0;
-    while (i < n) {
+    uint64_t round = 0;
+    while (round < n) {
         if (!gate_metal_layer(src, place, wavelength_nm)) {
             return false;
         }
         thin_film_solver_ThinFilmLayer layer = sheet_values_layer_at(src, place, wavelength_nm);
         sum = sum + gate_limits_absorption(wavelength_nm, layer);
         place = sheet_next_place(src, place);
-        i = i + 1;
+        round = round + 1;
     }
     return sum <= 16.0;
 }
@@ -6411,13 +6578,13 @@ static bool gate_layer_passes(slice_u8 src, uint64_t at, double wavelength_nm, d
 // The n layers from a place on.
 static gate_Fit gate_layers_fit(slice_u8 src, uint64_t at, uint64_t n, double wavelength_nm, double snell) {
     uint64_t place = at;
-    uint64_t i = 0;
-    while (i < n) {
+    uint64_t round = 0;
+    while (round < n) {
         if (!gate_layer_passes(src, place, wavelength_nm, snell)) {
             return (gate_Fit){.all = false, .place = place};
         }
         place = sheet_next_place(src, place);
-        i = i + 1;
+        round = round + 1;
     }
     return (gate_Fit){.all = true, .place = place};
 }
@@ -6456,8 +6623,8 @@ static gate_Passage gate_judge(slice_u8 src, uint64_t begin, uint64_t n, double 
 }
 
 // The limits of a sheet that is in grammar, by its index: the BEAM, then SURFACE after SURFACE.
-static gate_Gated gate_limits(slice_u8 src, uint32_t count, const u64_x64 *begins, const u64_x64 *counts,
-        const f64_x64 *sines, const f64_x64 *cosines) {
+static result_u32_refusal_Refusal gate_limits(slice_u8 src, uint32_t count, const u64_x64 *begins,
+        const u64_x64 *counts, const f64_x64 *sines, const f64_x64 *cosines) {
     sheet_values_Beam beam = sheet_values_beam_of(src);
     if (!gate_limits_beam_passes(beam.wavelength_nm, beam.s, beam.p)) {
         return gate_outside(sheet_next_place(src, 0));
@@ -6474,11 +6641,12 @@ static gate_Gated gate_limits(slice_u8 src, uint32_t count, const u64_x64 *begin
         wavelength_nm = passage.wavelength_nm;
         i = i + 1;
     }
-    return (gate_Gated){.tag = gate_Gated_Admitted, .as.Admitted = count};
+    return (result_u32_refusal_Refusal){.tag = result_u32_refusal_Refusal_Ok, .as.Ok = count};
 }
 
 // The gate: the length, then the grammar, then the limits. It leaves the index of the sheet in four arrays.
-static gate_Gated gate_gate_index(slice_u8 src, u64_x64 *begins, u64_x64 *counts, f64_x64 *sines, f64_x64 *cosines) {
+static result_u32_refusal_Refusal gate_gate_index(slice_u8 src, u64_x64 *begins, u64_x64 *counts, f64_x64 *sines,
+        f64_x64 *cosines) {
     for (size_t each = 0; each < 64; each++) {
         (*begins).at[each] = 1;
     }
@@ -6492,20 +6660,20 @@ static gate_Gated gate_gate_index(slice_u8 src, u64_x64 *begins, u64_x64 *counts
         (*cosines).at[each] = 1.0;
     }
     if (!gate_length_fits(src)) {
-        return (gate_Gated){.tag = gate_Gated_Refused, .as.Refused = {.number = 4, .place = 0}};
+        return (result_u32_refusal_Refusal){.tag = result_u32_refusal_Refusal_Err,
+                .as.Err = {.tag = refusal_Refusal_Length}};
     }
-    sheet_Verdict value = sheet_grammar(src);
-    if (value.tag == sheet_Verdict_Whole) {
-        uint32_t count = value.as.Whole;
-        sheet_index_index(src, (uint64_t)count, begins, counts, sines, cosines);
-        return gate_limits(src, count, begins, counts, sines, cosines);
+    result_u32_refusal_Refusal value = sheet_grammar(src);
+    if (value.tag == result_u32_refusal_Refusal_Err) {
+        return (result_u32_refusal_Refusal){.tag = result_u32_refusal_Refusal_Err, .as.Err = value.as.Err};
     }
-    uint64_t place = value.as.Fault;
-    return (gate_Gated){.tag = gate_Gated_Refused, .as.Refused = {.number = 5, .place = place}};
+    uint32_t count = value.as.Ok;
+    sheet_index_index(src, (uint64_t)count, begins, counts, sines, cosines);
+    return gate_limits(src, count, begins, counts, sines, cosines);
 }
 
 // The gate alone.
-static gate_Gated gate_gate(slice_u8 src) {
+static result_u32_refusal_Refusal gate_gate(slice_u8 src) {
     u64_x64 begins;
     for (size_t each = 0; each < 64; each++) {
         begins.at[each] = 1;
@@ -6540,8 +6708,8 @@ static bool gate_surface_holds(slice_u8 src, uint64_t at, double wavelength_nm) 
 // The layers of n SURFACEs, the first of which begins at a place, up to the next kind 7.
 static bool gate_layers_hold(slice_u8 src, uint64_t at, uint32_t n, double wavelength_nm) {
     uint64_t place = at;
-    uint32_t i = 0;
-    while (i < n) {
+    uint32_t round = 0;
+    while (round < n) {
         if (sheet_kind_at(src, place) == 7) {
             return true;
         }
@@ -6549,7 +6717,7 @@ static bool gate_layers_hold(slice_u8 src, uint64_t at, uint32_t n, double wavel
             return false;
         }
         place = sheet_after_layers(src, place);
-        i = i + 1;
+        round = round + 1;
     }
     return true;
 }
@@ -6575,35 +6743,28 @@ static bool gate_holds(slice_u8 src, uint32_t done, uint32_t count, double wavel
 // The surfaces of a sheet by their numbers, counted from 0: document 01, section 7. Each call is handed
 // the sheet's bytes and gates them anew.
 
-// A refusal, beside which every number is zero.
-static sheet_surfaces_SurfaceReply sheet_surfaces_refused(refusal_Refusal refusal) {
-    surface_AnswersReply reply = surface_refused(refusal.number);
-    surface_Answers answers = reply.answers;
-    return (sheet_surfaces_SurfaceReply){.refusal = refusal, .answers = answers};
-}
-
 // Of the SURFACE at a place, with the layers after it, met with a wavelength.
-static sheet_surfaces_SurfaceReply sheet_surfaces_answers_met(slice_u8 src, uint64_t at, double wavelength_nm) {
+static result_surface_Answers_refusal_Refusal sheet_surfaces_answers_met(slice_u8 src, uint64_t at,
+        double wavelength_nm) {
     uint64_t n = sheet_layer_run(src, at);
     gate_limits_Surface surface = sheet_values_surface_at(src, at);
-    surface_AnswersReply reply = sheet_answers_answers_at(src, at, n, surface, wavelength_nm);
-    surface_Answers answers = reply.answers;
-    return (sheet_surfaces_SurfaceReply){.refusal = {.number = reply.refusal, .place = 0}, .answers = answers};
+    return sheet_answers_answers_at(src, at, n, surface, wavelength_nm);
 }
 
 // Of the i-th surface, counted from 0, at the wavelength that a list of steps alone meets it with.
-static sheet_surfaces_SurfaceReply sheet_surfaces_surface_answers(slice_u8 src, uint32_t i) {
-    gate_Gated value = gate_gate(src);
-    if (value.tag == gate_Gated_Admitted) {
-        uint32_t count = value.as.Admitted;
-        if (count <= i) {
-            return sheet_surfaces_refused((refusal_Refusal){.number = 7, .place = 0});
-        }
-        double wavelength_nm = sheet_values_wavelength_of(src, i);
-        return sheet_surfaces_answers_met(src, sheet_place_of(src, i), wavelength_nm);
+static result_surface_Answers_refusal_Refusal sheet_surfaces_surface_answers(slice_u8 src, uint32_t i) {
+    result_u32_refusal_Refusal value = gate_gate(src);
+    if (value.tag == result_u32_refusal_Refusal_Err) {
+        return (result_surface_Answers_refusal_Refusal){.tag = result_surface_Answers_refusal_Refusal_Err,
+                .as.Err = value.as.Err};
     }
-    refusal_Refusal r = value.as.Refused;
-    return sheet_surfaces_refused(r);
+    uint32_t count = value.as.Ok;
+    if (count <= i) {
+        return (result_surface_Answers_refusal_Refusal){.tag = result_surface_Answers_refusal_Refusal_Err,
+                .as.Err = {.tag = refusal_Refusal_NoSurface}};
+    }
+    double wavelength_nm = sheet_values_wavelength_of(src, i);
+    return sheet_surfaces_answers_met(src, sheet_place_of(src, i), wavelength_nm);
 }
 
 // ==== sheet_untuned
@@ -6624,18 +6785,18 @@ static uint64_t sheet_untuned_first_tuning(slice_u8 src) {
 }
 
 // The count of surfaces of a sheet that is admitted and has no kind 7; or a refusal: 4, 5, 6, then 12.
-static gate_Gated sheet_untuned_without_tuning(slice_u8 src) {
-    gate_Gated value = gate_gate(src);
-    if (value.tag == gate_Gated_Admitted) {
-        uint32_t count = value.as.Admitted;
-        uint64_t place = sheet_untuned_first_tuning(src);
-        if (place < src.count / 4) {
-            return (gate_Gated){.tag = gate_Gated_Refused, .as.Refused = {.number = 12, .place = place}};
-        }
-        return (gate_Gated){.tag = gate_Gated_Admitted, .as.Admitted = count};
+static result_u32_refusal_Refusal sheet_untuned_without_tuning(slice_u8 src) {
+    result_u32_refusal_Refusal value = gate_gate(src);
+    if (value.tag == result_u32_refusal_Refusal_Err) {
+        return (result_u32_refusal_Refusal){.tag = result_u32_refusal_Refusal_Err, .as.Err = value.as.Err};
     }
-    refusal_Refusal r = value.as.Refused;
-    return (gate_Gated){.tag = gate_Gated_Refused, .as.Refused = r};
+    uint32_t count = value.as.Ok;
+    uint64_t place = sheet_untuned_first_tuning(src);
+    if (place < src.count / 4) {
+        return (result_u32_refusal_Refusal){.tag = result_u32_refusal_Refusal_Err,
+                .as.Err = {.tag = refusal_Refusal_Tuning, .as.Tuning = place}};
+    }
+    return (result_u32_refusal_Refusal){.tag = result_u32_refusal_Refusal_Ok, .as.Ok = count};
 }
 
 // ==== sheet_edition_1
@@ -6752,19 +6913,18 @@ static void sheet_edition_1_write(slice_u8 src, slice_mut_u8 output) {
 // the BEAM's wavelength and k +0, OPEN's payload is 1, all else is unchanged. It is written to the front of
 // output, whose bytes past it keep what they held. Refusals: 4, 5, 6, 12 with the word of the first kind 7,
 // then 8 for an output that is too short; each leaves the output untouched.
-static sheet_edition_1_Rewritten sheet_edition_1_to_edition_1(slice_u8 src, slice_mut_u8 output) {
-    gate_Gated value = sheet_untuned_without_tuning(src);
-    if (value.tag == gate_Gated_Admitted) {
-        uint64_t length = sheet_edition_1_new_length(src);
-        if (output.count < length) {
-            return (sheet_edition_1_Rewritten){.tag = sheet_edition_1_Rewritten_Refused,
-                    .as.Refused = {.number = 8, .place = 0}};
-        }
-        sheet_edition_1_write(src, output);
-        return (sheet_edition_1_Rewritten){.tag = sheet_edition_1_Rewritten_Length, .as.Length = length};
+static result_u64_refusal_Refusal sheet_edition_1_to_edition_1(slice_u8 src, slice_mut_u8 output) {
+    result_u32_refusal_Refusal value = sheet_untuned_without_tuning(src);
+    if (value.tag == result_u32_refusal_Refusal_Err) {
+        return (result_u64_refusal_Refusal){.tag = result_u64_refusal_Refusal_Err, .as.Err = value.as.Err};
     }
-    refusal_Refusal r = value.as.Refused;
-    return (sheet_edition_1_Rewritten){.tag = sheet_edition_1_Rewritten_Refused, .as.Refused = r};
+    uint64_t length = sheet_edition_1_new_length(src);
+    if (output.count < length) {
+        return (result_u64_refusal_Refusal){.tag = result_u64_refusal_Refusal_Err,
+                .as.Err = {.tag = refusal_Refusal_TooShort}};
+    }
+    sheet_edition_1_write(src, output);
+    return (result_u64_refusal_Refusal){.tag = result_u64_refusal_Refusal_Ok, .as.Ok = length};
 }
 
 // ==== train_steps
@@ -6781,9 +6941,9 @@ static train_steps_Chosen train_steps_choose(bool reflected, surface_Powers r) {
 }
 
 // No surface within the limits is refused.
-static train_steps_Chosen train_steps_chosen_of(bool reflected, sheet_answers_PowersReply reply) {
-    if (reply.tag == sheet_answers_PowersReply_Powers) {
-        surface_Powers r = reply.as.Powers;
+static train_steps_Chosen train_steps_chosen_of(bool reflected, result_surface_Powers_refusal_Refusal reply) {
+    if (reply.tag == result_surface_Powers_refusal_Refusal_Ok) {
+        surface_Powers r = reply.as.Ok;
         return train_steps_choose(reflected, r);
     }
     return (train_steps_Chosen){.s = 0.0 / 0.0, .p = 0.0 / 0.0};
@@ -6792,7 +6952,7 @@ static train_steps_Chosen train_steps_chosen_of(bool reflected, sheet_answers_Po
 // Of the surface at a place with the n layers after it.
 static train_steps_Chosen train_steps_chosen_at(slice_u8 src, uint64_t at, uint64_t n, double wavelength_nm) {
     gate_limits_Surface surface = sheet_values_surface_at(src, at);
-    sheet_answers_PowersReply reply = sheet_answers_powers_at(src, at, n, surface, wavelength_nm);
+    result_surface_Powers_refusal_Refusal reply = sheet_answers_powers_at(src, at, n, surface, wavelength_nm);
     return train_steps_chosen_of(surface.reflected, reply);
 }
 
@@ -6800,7 +6960,8 @@ static train_steps_Chosen train_steps_chosen_at(slice_u8 src, uint64_t at, uint6
 static train_steps_Chosen train_steps_chosen_with(slice_u8 src, uint64_t at, uint64_t n, double wavelength_nm,
         math_trig_SinCos theta) {
     gate_limits_Surface surface = sheet_values_surface_at(src, at);
-    sheet_answers_PowersReply reply = sheet_answers_powers_with_angle(src, at, n, surface, theta, wavelength_nm);
+    result_surface_Powers_refusal_Refusal reply = sheet_answers_powers_with_angle(src, at, n, surface, theta,
+            wavelength_nm);
     return train_steps_chosen_of(surface.reflected, reply);
 }
 
@@ -6825,7 +6986,7 @@ static train_steps_State train_steps_moved_at(slice_u8 src, uint64_t begin, uint
 }
 
 // One surface on from any state; a refusal leaves the state as it was.
-static train_steps_TrainReply train_steps_step(slice_u8 src, train_steps_State state) {
+static result_train_steps_State_refusal_Refusal train_steps_step(slice_u8 src, train_steps_State state) {
     u64_x64 begins;
     for (size_t each = 0; each < 64; each++) {
         begins.at[each] = 1;
@@ -6842,41 +7003,42 @@ static train_steps_TrainReply train_steps_step(slice_u8 src, train_steps_State s
     for (size_t each = 0; each < 64; each++) {
         cosines.at[each] = 1.0;
     }
-    gate_Gated value = gate_gate_index(src, &begins, &counts, &sines, &cosines);
-    if (value.tag == gate_Gated_Admitted) {
-        uint32_t count = value.as.Admitted;
-        if (count <= state.done) {
-            return (train_steps_TrainReply){.tag = train_steps_TrainReply_Refused,
-                    .as.Refused = {.number = 7, .place = 0}};
-        }
-        uint64_t i = (uint64_t)state.done;
-        uint64_t begin = begins.at[i];
-        if (!gate_holds_from(src, begin, count - state.done, state.wavelength_nm)) {
-            return (train_steps_TrainReply){.tag = train_steps_TrainReply_Refused,
-                    .as.Refused = {.number = 11, .place = 0}};
-        }
-        math_trig_SinCos theta = {.sin = sines.at[i], .cos = cosines.at[i]};
-        return (train_steps_TrainReply){.tag = train_steps_TrainReply_State,
-                .as.State = train_steps_moved_at(src, begin, counts.at[i], theta, state)};
+    result_u32_refusal_Refusal value = gate_gate_index(src, &begins, &counts, &sines, &cosines);
+    if (value.tag == result_u32_refusal_Refusal_Err) {
+        return (result_train_steps_State_refusal_Refusal){.tag = result_train_steps_State_refusal_Refusal_Err,
+                .as.Err = value.as.Err};
     }
-    refusal_Refusal r = value.as.Refused;
-    return (train_steps_TrainReply){.tag = train_steps_TrainReply_Refused, .as.Refused = r};
+    uint32_t count = value.as.Ok;
+    if (count <= state.done) {
+        return (result_train_steps_State_refusal_Refusal){.tag = result_train_steps_State_refusal_Refusal_Err,
+                .as.Err = {.tag = refusal_Refusal_NoSurface}};
+    }
+    uint64_t i = (uint64_t)state.done;
+    uint64_t begin = begins.at[i];
+    if (!gate_holds_from(src, begin, count - state.done, state.wavelength_nm)) {
+        return (result_train_steps_State_refusal_Refusal){.tag = result_train_steps_State_refusal_Refusal_Err,
+                .as.Err = {.tag = refusal_Refusal_Wavelength}};
+    }
+    math_trig_SinCos theta = {.sin = sines.at[i], .cos = cosines.at[i]};
+    return (result_train_steps_State_refusal_Refusal){.tag = result_train_steps_State_refusal_Refusal_Ok,
+            .as.Ok = train_steps_moved_at(src, begin, counts.at[i], theta, state)};
 }
 
 // A new wavelength for the surfaces not yet done, from any state; a refusal leaves the state as it was.
-static train_steps_TrainReply train_steps_retune(slice_u8 src, train_steps_State state, double wavelength_nm) {
-    gate_Gated value = gate_gate(src);
-    if (value.tag == gate_Gated_Admitted) {
-        uint32_t count = value.as.Admitted;
-        if (!gate_holds(src, state.done, count, wavelength_nm)) {
-            return (train_steps_TrainReply){.tag = train_steps_TrainReply_Refused,
-                    .as.Refused = {.number = 11, .place = 0}};
-        }
-        return (train_steps_TrainReply){.tag = train_steps_TrainReply_State,
-                .as.State = {.done = state.done, .s = state.s, .p = state.p, .wavelength_nm = wavelength_nm}};
+static result_train_steps_State_refusal_Refusal train_steps_retune(slice_u8 src, train_steps_State state,
+        double wavelength_nm) {
+    result_u32_refusal_Refusal value = gate_gate(src);
+    if (value.tag == result_u32_refusal_Refusal_Err) {
+        return (result_train_steps_State_refusal_Refusal){.tag = result_train_steps_State_refusal_Refusal_Err,
+                .as.Err = value.as.Err};
     }
-    refusal_Refusal r = value.as.Refused;
-    return (train_steps_TrainReply){.tag = train_steps_TrainReply_Refused, .as.Refused = r};
+    uint32_t count = value.as.Ok;
+    if (!gate_holds(src, state.done, count, wavelength_nm)) {
+        return (result_train_steps_State_refusal_Refusal){.tag = result_train_steps_State_refusal_Refusal_Err,
+                .as.Err = {.tag = refusal_Refusal_Wavelength}};
+    }
+    return (result_train_steps_State_refusal_Refusal){.tag = result_train_steps_State_refusal_Refusal_Ok,
+            .as.Ok = {.done = state.done, .s = state.s, .p = state.p, .wavelength_nm = wavelength_nm}};
 }
 
 // The powers after each of count surfaces, written to a list that has room for them.
@@ -6906,20 +7068,20 @@ static train_steps_State train_steps_run_at(slice_u8 src, uint32_t count, double
     sheet_values_Beam beam = sheet_values_beam_of(src);
     train_steps_State state = {.done = 0, .s = beam.s, .p = beam.p, .wavelength_nm = wavelength_nm};
     uint64_t begin = sheet_begin_of(src, 0);
-    uint32_t i = 0;
-    while (i < count) {
+    uint32_t round = 0;
+    while (round < count) {
         double met_nm = sheet_values_met_with(src, begin, state.wavelength_nm);
         uint64_t at = sheet_onto(src, begin);
         sheet_LayerRun run = sheet_layers_on(src, at);
         state = train_steps_moved_from(src, at, run.count, met_nm, state);
         begin = run.next;
-        i = i + 1;
+        round = round + 1;
     }
     return state;
 }
 
 // A run over the whole sheet from its start: s, p after each surface go to the lent list.
-static gate_Gated train_steps_run(slice_u8 src, slice_mut_f64 list) {
+static result_u32_refusal_Refusal train_steps_run(slice_u8 src, slice_mut_f64 list) {
     u64_x64 begins;
     for (size_t each = 0; each < 64; each++) {
         begins.at[each] = 1;
@@ -6936,18 +7098,18 @@ static gate_Gated train_steps_run(slice_u8 src, slice_mut_f64 list) {
     for (size_t each = 0; each < 64; each++) {
         cosines.at[each] = 1.0;
     }
-    gate_Gated value = gate_gate_index(src, &begins, &counts, &sines, &cosines);
-    if (value.tag == gate_Gated_Admitted) {
-        uint32_t count = value.as.Admitted;
-        uint64_t n = (uint64_t)count;
-        if (list.count < 2 * n) {
-            return (gate_Gated){.tag = gate_Gated_Refused, .as.Refused = {.number = 8, .place = 0}};
-        }
-        train_steps_write_each(src, n, &begins, &counts, &sines, &cosines, list);
-        return (gate_Gated){.tag = gate_Gated_Admitted, .as.Admitted = count};
+    result_u32_refusal_Refusal value = gate_gate_index(src, &begins, &counts, &sines, &cosines);
+    if (value.tag == result_u32_refusal_Refusal_Err) {
+        return (result_u32_refusal_Refusal){.tag = result_u32_refusal_Refusal_Err, .as.Err = value.as.Err};
     }
-    refusal_Refusal r = value.as.Refused;
-    return (gate_Gated){.tag = gate_Gated_Refused, .as.Refused = r};
+    uint32_t count = value.as.Ok;
+    uint64_t n = (uint64_t)count;
+    if (list.count < 2 * n) {
+        return (result_u32_refusal_Refusal){.tag = result_u32_refusal_Refusal_Err,
+                .as.Err = {.tag = refusal_Refusal_TooShort}};
+    }
+    train_steps_write_each(src, n, &begins, &counts, &sines, &cosines, list);
+    return (result_u32_refusal_Refusal){.tag = result_u32_refusal_Refusal_Ok, .as.Ok = count};
 }
 
 // ==== sheet_retuned
@@ -6956,22 +7118,25 @@ static gate_Gated train_steps_run(slice_u8 src, slice_mut_f64 list) {
 // handed the sheet's bytes and gates them anew.
 
 // Of the i-th surface, counted from 0: at the wavelength of the retune, or at that of a kind 7 before the surface.
-static sheet_surfaces_SurfaceReply sheet_retuned_answers_at(slice_u8 src, uint32_t i, double wavelength_nm) {
-    gate_Gated value = gate_gate(src);
-    if (value.tag == gate_Gated_Admitted) {
-        uint32_t count = value.as.Admitted;
-        if (count <= i) {
-            return sheet_surfaces_refused((refusal_Refusal){.number = 7, .place = 0});
-        }
-        if (!gate_holds(src, i, count, wavelength_nm)) {
-            return sheet_surfaces_refused((refusal_Refusal){.number = 11, .place = 0});
-        }
-        uint64_t begin = sheet_begin_of(src, i);
-        double met_nm = sheet_values_met_with(src, begin, wavelength_nm);
-        return sheet_surfaces_answers_met(src, sheet_onto(src, begin), met_nm);
+static result_surface_Answers_refusal_Refusal sheet_retuned_answers_at(slice_u8 src, uint32_t i,
+        double wavelength_nm) {
+    result_u32_refusal_Refusal value = gate_gate(src);
+    if (value.tag == result_u32_refusal_Refusal_Err) {
+        return (result_surface_Answers_refusal_Refusal){.tag = result_surface_Answers_refusal_Refusal_Err,
+                .as.Err = value.as.Err};
     }
-    refusal_Refusal r = value.as.Refused;
-    return sheet_surfaces_refused(r);
+    uint32_t count = value.as.Ok;
+    if (count <= i) {
+        return (result_surface_Answers_refusal_Refusal){.tag = result_surface_Answers_refusal_Refusal_Err,
+                .as.Err = {.tag = refusal_Refusal_NoSurface}};
+    }
+    if (!gate_holds(src, i, count, wavelength_nm)) {
+        return (result_surface_Answers_refusal_Refusal){.tag = result_surface_Answers_refusal_Refusal_Err,
+                .as.Err = {.tag = refusal_Refusal_Wavelength}};
+    }
+    uint64_t begin = sheet_begin_of(src, i);
+    double met_nm = sheet_values_met_with(src, begin, wavelength_nm);
+    return sheet_surfaces_answers_met(src, sheet_onto(src, begin), met_nm);
 }
 
 // ==== band
@@ -6999,7 +7164,7 @@ static uint64_t band_first_weight_outside(slice_u32 weights) {
         }
         i = i + 1;
     }
-    return i;
+    return weights.count;
 }
 
 // Whether the gate takes a line's wavelength, where it is known or not whether all layers always pass.
@@ -7013,8 +7178,8 @@ static bool band_line_passes(slice_u8 src, uint32_t count, bool always, double w
 // The n layers from a place on.
 static bool band_steady_layers_steady(slice_u8 src, uint64_t at, uint64_t n, double snell) {
     uint64_t place = at;
-    uint64_t i = 0;
-    while (i < n) {
+    uint64_t round = 0;
+    while (round < n) {
         if (sheet_kind_at(src, place) == 6) {
             return false;
         }
@@ -7022,7 +7187,7 @@ static bool band_steady_layers_steady(slice_u8 src, uint64_t at, uint64_t n, dou
             return false;
         }
         place = sheet_next_place(src, place);
-        i = i + 1;
+        round = round + 1;
     }
     return true;
 }
@@ -7037,13 +7202,13 @@ static bool band_steady_surface_steady(slice_u8 src, uint64_t at) {
 // Those of all of count SURFACEs.
 static bool band_steady_steady(slice_u8 src, uint32_t count) {
     uint64_t place = sheet_begin_of(src, 0);
-    uint32_t i = 0;
-    while (i < count) {
+    uint32_t round = 0;
+    while (round < count) {
         if (!band_steady_surface_steady(src, place)) {
             return false;
         }
         place = sheet_after_layers(src, place);
-        i = i + 1;
+        round = round + 1;
     }
     return true;
 }
@@ -7058,7 +7223,7 @@ static uint64_t band_first_wavelength_outside(slice_u8 src, uint32_t count, slic
         }
         i = i + 1;
     }
-    return i;
+    return wavelengths.count;
 }
 
 // The train at a line, from its start to its last surface.
@@ -7088,26 +7253,29 @@ static band_BandPowers band_weighed(slice_u8 src, uint32_t count, slice_f64 wave
 // The means of s and of p over the lines of a band, each a wavelength and a weight. Refusals: 4, 5, 6, 12
 // with the word of the first kind 7; 15 with 64 for no lines, more than 64 or lists of unequal length, else
 // with the first line whose weight is outside; 16 with the first line whose wavelength the gate refuses.
-static band_BandReply band_band(slice_u8 src, slice_f64 wavelengths, slice_u32 weights) {
-    gate_Gated value = sheet_untuned_without_tuning(src);
-    if (value.tag == gate_Gated_Admitted) {
-        uint32_t count = value.as.Admitted;
-        if (!band_lines_fit(wavelengths, weights)) {
-            return (band_BandReply){.tag = band_BandReply_Refused, .as.Refused = {.number = 15, .place = 64}};
-        }
-        uint64_t weight = band_first_weight_outside(weights);
-        if (weight < weights.count) {
-            return (band_BandReply){.tag = band_BandReply_Refused, .as.Refused = {.number = 15, .place = weight}};
-        }
-        uint64_t wavelength = band_first_wavelength_outside(src, count, wavelengths);
-        if (wavelength < wavelengths.count) {
-            return (band_BandReply){.tag = band_BandReply_Refused, .as.Refused = {.number = 16, .place = wavelength}};
-        }
-        return (band_BandReply){.tag = band_BandReply_Powers,
-                .as.Powers = band_weighed(src, count, wavelengths, weights)};
+static result_band_BandPowers_refusal_Refusal band_band(slice_u8 src, slice_f64 wavelengths, slice_u32 weights) {
+    result_u32_refusal_Refusal value = sheet_untuned_without_tuning(src);
+    if (value.tag == result_u32_refusal_Refusal_Err) {
+        return (result_band_BandPowers_refusal_Refusal){.tag = result_band_BandPowers_refusal_Refusal_Err,
+                .as.Err = value.as.Err};
     }
-    refusal_Refusal r = value.as.Refused;
-    return (band_BandReply){.tag = band_BandReply_Refused, .as.Refused = r};
+    uint32_t count = value.as.Ok;
+    if (!band_lines_fit(wavelengths, weights)) {
+        return (result_band_BandPowers_refusal_Refusal){.tag = result_band_BandPowers_refusal_Refusal_Err,
+                .as.Err = {.tag = refusal_Refusal_Weight, .as.Weight = 64}};
+    }
+    uint64_t weight = band_first_weight_outside(weights);
+    if (weight < weights.count) {
+        return (result_band_BandPowers_refusal_Refusal){.tag = result_band_BandPowers_refusal_Refusal_Err,
+                .as.Err = {.tag = refusal_Refusal_Weight, .as.Weight = weight}};
+    }
+    uint64_t wavelength = band_first_wavelength_outside(src, count, wavelengths);
+    if (wavelength < wavelengths.count) {
+        return (result_band_BandPowers_refusal_Refusal){.tag = result_band_BandPowers_refusal_Refusal_Err,
+                .as.Err = {.tag = refusal_Refusal_Line, .as.Line = wavelength}};
+    }
+    return (result_band_BandPowers_refusal_Refusal){.tag = result_band_BandPowers_refusal_Refusal_Ok,
+            .as.Ok = band_weighed(src, count, wavelengths, weights)};
 }
 
 // ==== dihkelu
@@ -7129,13 +7297,13 @@ static uint64_t dihkelu_evaluate_body(uint32_t code, double design_wavelength_nm
         size_t layers_count, double *list_at, size_t list_count) {
     slice_f64 layers = {layers_at, layers_count};
     slice_mut_f64 list = {list_at, list_count};
-    thin_film_layers_Evaluation evaluation = c_layers_evaluate(code, design_wavelength_nm, n_incident, n_substrate,
-            angle_incident_rad, wavelength_nm, layers);
-    if (evaluation.tag == thin_film_layers_Evaluation_Response) {
-        thin_film_solver_CoatingResponse r = evaluation.as.Response;
+    result_thin_film_solver_CoatingResponse_refusal_Refusal evaluation = c_layers_evaluate(code, design_wavelength_nm,
+            n_incident, n_substrate, angle_incident_rad, wavelength_nm, layers);
+    if (evaluation.tag == result_thin_film_solver_CoatingResponse_refusal_Refusal_Ok) {
+        thin_film_solver_CoatingResponse r = evaluation.as.Ok;
         return c_call_put_response(r, list);
     }
-    refusal_Refusal r_2 = evaluation.as.Refused;
+    refusal_Refusal r_2 = evaluation.as.Err;
     return c_call_packed(r_2);
 }
 
@@ -7585,12 +7753,12 @@ uint64_t dihkelu_half_wave_plate(double fast_axis_rad, double *list_at, size_t l
 }
 
 // An answer of the gate as one number.
-static uint64_t dihkelu_number_of(gate_Gated g) {
-    if (g.tag == gate_Gated_Admitted) {
-        uint32_t count = g.as.Admitted;
+static uint64_t dihkelu_number_of(result_u32_refusal_Refusal g) {
+    if (g.tag == result_u32_refusal_Refusal_Ok) {
+        uint32_t count = g.as.Ok;
         return (uint64_t)count;
     }
-    refusal_Refusal r = g.as.Refused;
+    refusal_Refusal r = g.as.Err;
     return c_call_packed(r);
 }
 
@@ -7613,9 +7781,9 @@ uint64_t dihkelu_gate(const uint8_t *sheet_at, size_t sheet_count) {
 static uint64_t dihkelu_start_body(const uint8_t *sheet_at, size_t sheet_count, uint32_t *surfaces_done, double *s,
         double *p, double *wavelength_nm) {
     slice_u8 sheet = {sheet_at, sheet_count};
-    gate_Gated value = gate_gate(sheet);
-    if (value.tag == gate_Gated_Admitted) {
-        uint32_t count = value.as.Admitted;
+    result_u32_refusal_Refusal value = gate_gate(sheet);
+    if (value.tag == result_u32_refusal_Refusal_Ok) {
+        uint32_t count = value.as.Ok;
         sheet_values_Beam beam = sheet_values_beam_of(sheet);
         *surfaces_done = 0;
         *s = beam.s;
@@ -7623,7 +7791,7 @@ static uint64_t dihkelu_start_body(const uint8_t *sheet_at, size_t sheet_count, 
         *wavelength_nm = beam.wavelength_nm;
         return (uint64_t)count;
     }
-    refusal_Refusal r = value.as.Refused;
+    refusal_Refusal r = value.as.Err;
     return c_call_packed(r);
 }
 
@@ -7643,16 +7811,16 @@ static uint64_t dihkelu_step_body(const uint8_t *sheet_at, size_t sheet_count, u
         double *p, double *wavelength_nm) {
     slice_u8 sheet = {sheet_at, sheet_count};
     train_steps_State state = {.done = *surfaces_done, .s = *s, .p = *p, .wavelength_nm = *wavelength_nm};
-    train_steps_TrainReply value = train_steps_step(sheet, state);
-    if (value.tag == train_steps_TrainReply_State) {
-        train_steps_State next = value.as.State;
+    result_train_steps_State_refusal_Refusal value = train_steps_step(sheet, state);
+    if (value.tag == result_train_steps_State_refusal_Refusal_Ok) {
+        train_steps_State next = value.as.Ok;
         *surfaces_done = next.done;
         *s = next.s;
         *p = next.p;
         *wavelength_nm = next.wavelength_nm;
         return (uint64_t)next.done;
     }
-    refusal_Refusal r = value.as.Refused;
+    refusal_Refusal r = value.as.Err;
     return c_call_packed(r);
 }
 
@@ -7671,13 +7839,13 @@ static uint64_t dihkelu_retune_body(const uint8_t *sheet_at, size_t sheet_count,
         double *wavelength_nm, double new_wavelength_nm) {
     slice_u8 sheet = {sheet_at, sheet_count};
     train_steps_State state = {.done = surfaces_done, .s = 0.0, .p = 0.0, .wavelength_nm = *wavelength_nm};
-    train_steps_TrainReply value = train_steps_retune(sheet, state, new_wavelength_nm);
-    if (value.tag == train_steps_TrainReply_State) {
-        train_steps_State next = value.as.State;
+    result_train_steps_State_refusal_Refusal value = train_steps_retune(sheet, state, new_wavelength_nm);
+    if (value.tag == result_train_steps_State_refusal_Refusal_Ok) {
+        train_steps_State next = value.as.Ok;
         *wavelength_nm = next.wavelength_nm;
         return (uint64_t)next.done;
     }
-    refusal_Refusal r = value.as.Refused;
+    refusal_Refusal r = value.as.Err;
     return c_call_packed(r);
 }
 
@@ -7695,7 +7863,7 @@ uint64_t dihkelu_retune(const uint8_t *sheet_at, size_t sheet_count, uint32_t su
 static uint64_t dihkelu_run_body(const uint8_t *sheet_at, size_t sheet_count, double *list_at, size_t list_count) {
     slice_u8 sheet = {sheet_at, sheet_count};
     slice_mut_f64 list = {list_at, list_count};
-    gate_Gated value = train_steps_run(sheet, list);
+    result_u32_refusal_Refusal value = train_steps_run(sheet, list);
     return dihkelu_number_of(value);
 }
 
@@ -7714,12 +7882,12 @@ static uint64_t dihkelu_edition_1_body(const uint8_t *sheet_at, size_t sheet_cou
         size_t output_count) {
     slice_u8 sheet = {sheet_at, sheet_count};
     slice_mut_u8 output = {output_at, output_count};
-    sheet_edition_1_Rewritten value = sheet_edition_1_to_edition_1(sheet, output);
-    if (value.tag == sheet_edition_1_Rewritten_Length) {
-        uint64_t n = value.as.Length;
+    result_u64_refusal_Refusal value = sheet_edition_1_to_edition_1(sheet, output);
+    if (value.tag == result_u64_refusal_Refusal_Ok) {
+        uint64_t n = value.as.Ok;
         return n;
     }
-    refusal_Refusal r = value.as.Refused;
+    refusal_Refusal r = value.as.Err;
     return c_call_packed(r);
 }
 
@@ -7740,12 +7908,12 @@ static uint64_t dihkelu_band_body(const uint8_t *sheet_at, size_t sheet_count, c
     slice_f64 wavelengths_nm = {wavelengths_nm_at, wavelengths_nm_count};
     slice_u32 weights = {weights_at, weights_count};
     slice_mut_f64 list = {list_at, list_count};
-    band_BandReply value = band_band(sheet, wavelengths_nm, weights);
-    if (value.tag == band_BandReply_Powers) {
-        band_BandPowers b = value.as.Powers;
+    result_band_BandPowers_refusal_Refusal value = band_band(sheet, wavelengths_nm, weights);
+    if (value.tag == result_band_BandPowers_refusal_Refusal_Ok) {
+        band_BandPowers b = value.as.Ok;
         return c_call_put_both((uint64_t)b.lines, b.s, b.p, list);
     }
-    refusal_Refusal r = value.as.Refused;
+    refusal_Refusal r = value.as.Err;
     return c_call_packed(r);
 }
 
@@ -7762,13 +7930,13 @@ uint64_t dihkelu_band(const uint8_t *sheet_at, size_t sheet_count, const double 
 }
 
 // Answers, or the refusal that stands beside them.
-static uint64_t dihkelu_put_surface(sheet_surfaces_SurfaceReply reply, slice_mut_f64 list) {
-    refusal_Refusal refusal = reply.refusal;
-    if (refusal.number != 0) {
-        return c_call_packed(refusal);
+static uint64_t dihkelu_put_surface(result_surface_Answers_refusal_Refusal reply, slice_mut_f64 list) {
+    if (reply.tag == result_surface_Answers_refusal_Refusal_Ok) {
+        surface_Answers answers = reply.as.Ok;
+        return c_call_put_answers(answers, list);
     }
-    surface_Answers answers = reply.answers;
-    return c_call_put_answers(answers, list);
+    refusal_Refusal r = reply.as.Err;
+    return c_call_packed(r);
 }
 
 // Of a sheet's surface, counted from 0: writes its answers and returns the count of their numbers; or

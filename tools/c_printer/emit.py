@@ -70,6 +70,9 @@ class Types:
         kind, types = self.named[name]
         if item is None or len(item.names) != len(types):
             raise Unknown(f"the sources do not have the type {name} with {len(types)} parts")
+        words = [word for n in item.names for word in ([n] if isinstance(n, str) else [n[0], *n[1]])]
+        if KEYWORDS.intersection(words):
+            raise Unknown(f"a part of {name} has a name that is a word of C: give it another")
         return item.names
 
     def tag(self, name, variant):
