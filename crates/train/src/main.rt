@@ -2,14 +2,13 @@
 // sum, on standard output. What is printed is the text of the crate `train_text`.
 #![tactic(auto)]
 
-use train_text::Printed;
 
 // No text is longer than 4096 bytes, so that none is refused.
 fn print(src: &[u8]) {
     let mut text = [0u8; 4096];
     match train_text::train_text(src, &mut text) {
-        Printed::Written(n) => io::write_all(1, &text[..n]),
-        Printed::Refused(_) => true,
+        Ok(n) => io::write_all(1, &text[..n]),
+        Err(_) => true,
     };
 }
 
