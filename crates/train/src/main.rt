@@ -2,7 +2,6 @@
 // sum, on standard output. What is printed is the text of the crate `train_text`.
 #![tactic(auto)]
 
-
 // No text is longer than 4096 bytes, so that none is refused.
 fn print(src: &[u8]) {
     let mut text = [0u8; 4096];
