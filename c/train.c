@@ -28,8 +28,8 @@ int main(int count, char **words) {
     }
     // No text is longer than 4096 bytes, so that none is refused.
     u8_x4096 page;
-    train_text_Printed printed = train_text_train_text((slice_u8){sheet, size}, (slice_mut_u8){page.at, 4096});
-    if (printed.tag != train_text_Printed_Written || fwrite(page.at, 1, printed.as.Written, stdout) != printed.as.Written ||
+    result_u64_refusal_Refusal printed = train_text_train_text((slice_u8){sheet, size}, (slice_mut_u8){page.at, 4096});
+    if (printed.tag != result_u64_refusal_Refusal_Ok || fwrite(page.at, 1, printed.as.Ok, stdout) != printed.as.Ok ||
         fflush(stdout) != 0) {
         return failed("the answer cannot be written to standard output");
     }
