@@ -64,18 +64,22 @@ fn coating_of(code: u32) -> Option<SurfaceCoating>
     gate_limits::coded(code, 550.0)
 }
 
-// A name at the front of an output that has room for it.
+// A name of at most 16 bytes at the front of an output that has room for it. Its length is tested at each place: of a loop over
+// the name alone the compiler makes a call of C's memcpy.
 fn copy(name: &[u8], output: &mut [u8])
-    requires { length name.now ≤ length output.old }
+    requires { (length name.now ≤ 16) × (length name.now ≤ length output.old) }
     ensures { output.new ≡ name.now ++ drop (length name.now) output.old }
 {
-    for (i, byte) in name.iter().enumerate() {
-        output[i] = *byte;
+    for i in 0..16 {
+        if i < name.len() {
+            output[i] = name[i];
+        }
     }
 }
 
 // The same, and its length; 8 for an output that is too short.
 fn put(name: &[u8], output: &mut [u8]) -> u64
+    requires { length name.now ≤ 16 }
     ensures { left result output.new ≡ laid name.now output.old }
 {
     if output.len() < name.len() {

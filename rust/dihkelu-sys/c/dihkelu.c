@@ -5971,12 +5971,14 @@ static option_thin_film_SurfaceCoating c_names_coating_of(uint32_t code) {
     return gate_limits_coded(code, 550.0);
 }
 
-// A name at the front of an output that has room for it.
+// A name of at most 16 bytes at the front of an output that has room for it. Its length is tested at each place: of a loop over
+// the name alone the compiler makes a call of C's memcpy.
 static void c_names_copy(slice_u8 name, slice_mut_u8 output) {
     uint64_t i = 0;
-    while (i < name.count) {
-        uint8_t byte = name.at[i];
-        output.at[i] = byte;
+    while (i < 16) {
+        if (i < name.count) {
+            output.at[i] = name.at[i];
+        }
         i = i + 1;
     }
 }

@@ -5,6 +5,7 @@ use Prim.Native.Nat.{ℕ, ◌≤◌}
 use lib.ListN.{length, drop}
 use borrow.Author.Tests.{le-leb, lt-leb}
 use Rattle.c_names.specs.Names.{left, laid}
+use borrow.Author.Rules.{rules}
 use Rattle.c_names.proofs.put.Goals as goal
 
 whole : (name output₀ output : List ℕ) → length name ≤ length output₀ → output ≡ name ++ drop (length name) output₀ → left (length name) output ≡ laid name output₀

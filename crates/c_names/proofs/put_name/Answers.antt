@@ -1,14 +1,16 @@
 -- `c_names::put_name` meets its contract. Assumes nothing.
 use mathlib.Core.Path.{◌≡◌, refl, sym, ap, ◌∙◌}
-use mathlib.Core.List.{List}
+use mathlib.Core.List.{List, ◌++◌}
 use Prim.Native.Nat.{ℕ, ◌-◌, ◌≤◌}
 use native.Mathlib.Omega.{arith}
 use lib.ListN.{length, take, replicate, length-append}
 use lib.Seq.{take_at, length-take-le}
+use borrow.Author.Rules.{rules}
 use Rattle.thin_film.specs.declared.Text.{Text}
 use Rattle.thin_film.specs.Coating.{text}
 use Rattle.name_coating.specs.Name.{format_name}
 use Rattle.c_names.specs.Names.{laid}
+use Rattle.c_names.proofs.Short.{Short, short}
 use Rattle.c_names.proofs.put_name.Goals as goal
 
 -- the name, which the text's first bytes are
@@ -19,6 +21,9 @@ module _ (name : List ℕ) (t : Text) (is : t ≡ text name) where
   fits : t.len ≤ length t.bytes
   fits = simp is (simp length-append (omega arith))
 
+  few : Short name → length (take t.len t.bytes) ≤ 16
+  few h = rw name_is h
+
   size : t.len ≡ length (take t.len t.bytes)
   size = sym (length-take-le t.len t.bytes fits)
 
@@ -27,6 +32,9 @@ slice_bounds-bytes-end c = fits (format_name c.args.coating) _ c.to_format_name-
 
 pub slice_bounds-put-end : goal.slice_bounds-put-end
 slice_bounds-put-end c = size (format_name c.args.coating) _ c.to_format_name-text.ensures
+
+pub put-requires : goal.put-requires
+put-requires c = few (format_name c.args.coating) _ c.to_format_name-text.ensures (short c.args.coating)
 
 pub returns : goal.returns
 returns c =
