@@ -5,6 +5,14 @@
 
 mod calls;
 
+struct Functions;
+
+impl test_tally::Functions for Functions {
+    fn answer(&self, f: usize, a: &[u8], out: &mut [u64; 256]) -> usize {
+        calls::call(f, a, out)
+    }
+}
+
 fn main() {
-    test_tally::replay(&mut [0u8; 2560], calls::call);
+    test_tally::replay(&mut [0u8; 2560], &Functions).print();
 }

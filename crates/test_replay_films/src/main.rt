@@ -15,6 +15,14 @@ fn call(f: usize, a: &[u8], out: &mut [u64; 256]) -> usize {
     }
 }
 
+struct Functions;
+
+impl test_tally::Functions for Functions {
+    fn answer(&self, f: usize, a: &[u8], out: &mut [u64; 256]) -> usize {
+        call(f, a, out)
+    }
+}
+
 fn main() {
-    test_tally::replay(&mut [0u8; 6144], call);
+    test_tally::replay(&mut [0u8; 6144], &Functions).print();
 }

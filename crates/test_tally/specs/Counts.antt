@@ -1,5 +1,5 @@
 -- The records of a replay, and its counts, one for each of 256 functions. Definitions only.
-use Rattle.std.specs.Prelude.{ℕ, zero, suc, ◌+◌, ◌-◌, ◌/◌, ◌%◌, ◌^◌, Bool, true, false, cond, ◌&&◌, List, Option, Some, None, ◌==◌, nat_le, nat_lt, slice_index, slice_set}
+use Rattle.std.specs.Prelude.{ℕ, zero, suc, ◌+◌, ◌-◌, ◌/◌, ◌%◌, ◌^◌, ◌<◌, ◌≡◌, Bool, true, false, cond, ◌&&◌, List, [], ◌∷◌, length, replicate, Option, Some, None, ◌==◌, nat_le, nat_lt, slice_index, slice_set}
 use Rattle.test_records.specs.declared.Header.{Header}
 
 -- a record's words fit into so many bytes
@@ -27,3 +27,14 @@ one_more f counts = cond (nat_lt f 256) (slice_set counts f ((slice_index counts
 -- all answers and those that agreed, with one more of a function
 abbrev pub tallied : ℕ → Bool → List ℕ → List ℕ → (List ℕ × List ℕ)
 tallied f agrees all agreed = (one_more f all, cond agrees (one_more f agreed) agreed)
+
+-- all answers and those that agreed, after records that each call a function, the last one first
+unfoldable pub after : List (ℕ × Bool) → (List ℕ × List ℕ)
+after [] = (replicate 256 0, replicate 256 0)
+after (r ∷ before) = tallied r.0 r.1 (after before).0 (after before).1
+
+-- counts of some records, fewer than a count holds
+pub record Counted (all agreed : List ℕ) : Type 0 where
+  pub records : List (ℕ × Bool)
+  pub few : length records < 2 ^ 32
+  pub counts : (all, agreed) ≡ after records

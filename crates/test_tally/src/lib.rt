@@ -4,7 +4,7 @@
 
 ghost use Rattle.std.specs.Prelude.{◌≡◌, true, ◌&&◌, length, replicate};
 ghost use Rattle.test_records.specs.Words.{arguments, results, recorded};
-ghost use Rattle.test_tally.specs.Counts.{fits, stands, clean, all_clean, one_more, tallied};
+ghost use Rattle.test_tally.specs.Counts.{fits, stands, clean, all_clean, one_more, tallied, Counted};
 
 use test_records::Header;
 
@@ -164,19 +164,24 @@ impl Tally {
 
 // ---- a whole replay
 
-// Answers the records on standard input, whose words fit into body, and prints how many answers agree. An answer writes its words and
-// says how many there are.
-pub fn replay<F: Fn(usize, &[u8], &mut [u64; 256]) -> usize>(body: &mut [u8], answer: F)
-    requires { F.IsAlwaysCallable answer }
+// What a replaying program answers with: words of an answer are written, and how many they are is returned.
+pub trait Functions {
+    fn answer(&self, f: usize, a: &[u8], out: &mut [u64; 256]) -> usize;
+}
+
+// Answers the records on standard input, whose words fit into body; how many answers agree.
+pub fn replay<F: Functions>(body: &mut [u8], functions: &F) -> Tally
+    ensures counted { Counted result.all result.agreed }
+    ensures kept { length body.new ≡ length body.old }
 {
     let mut tally = Tally::new();
-    for _ in 0..0xffff_ffffu32 {
+    for _done in 0..0xffff_ffffu32 {
         let Some(h) = next_record(body) else {
             break;
         };
         let mut got = [0u64; 256];
-        let n = answer(h.function, test_records::arguments(h, body), &mut got);
+        let n = functions.answer(h.function, test_records::arguments(h, body), &mut got);
         tally.add(h, body, &got, n);
     }
-    tally.print();
+    tally
 }
