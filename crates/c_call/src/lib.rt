@@ -23,7 +23,14 @@ pub fn packed(r: Refusal) -> u64
 pub fn packed_at(r: Refusal, place: usize) -> u64
     ensures { result ≡ packed (number_of r) (place % 2 ^ 32) }
 {
-    r.number() as u64 * 0x1_0000_0000 + place as u64 % 0x1_0000_0000
+    packed_number(r.number(), place)
+}
+
+// The same of any number.
+pub fn packed_number(number: u32, place: usize) -> u64
+    ensures { result ≡ packed number (place % 2 ^ 32) }
+{
+    number as u64 * 0x1_0000_0000 + place as u64 % 0x1_0000_0000
 }
 
 // Numbers at a place of a list that has room for them.
