@@ -55,7 +55,7 @@ pub record FurtherAnswers : Type 0 where
       (record { s0 = of_bits binary64 0x3CD2_03AF_9EE7_5617; s1 = of_bits binary64 0x3CD2_03AF_9EE7_5617; s2 = zero_f; s3 = zero_f }) ≡ one
   -- what stands beside a refusal of surface_fresnel_jones, as for an index of zero: nothing
   pub no_index : surface_fresnel_jones zero_f one zero_f ≡ refusal 1 0
-  pub beside_a_refusal : (r : Result SurfaceJones Refusal) → outcome r ≡ surface_fresnel_jones zero_f one zero_f → r ≡ Err InvalidParameter
+  pub beside_a_refusal : (r : Result SurfaceJones Refusal) → outcome r ≡ refusal 1 0 → r ≡ Err InvalidParameter
   -- upper case: a to z alone, so neither the byte before nor the one behind
   pub before_a : upper_byte 96 ≡ 96
   pub upper_a : upper_byte 97 ≡ 65

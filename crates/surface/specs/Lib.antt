@@ -1,4 +1,4 @@
--- A surface: its answers, what is claimed of them, and what stands beside a refusal.
+-- A surface: its answers, what is claimed of them, and what stands where there are none.
 pub mod Answers
 pub mod Known
 pub mod Finite

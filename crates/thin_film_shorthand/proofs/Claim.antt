@@ -15,7 +15,7 @@ use Rattle.thin_film_solver.specs.declared.ThinFilmLayer.{ThinFilmLayer}
 use Rattle.thin_film_coating.specs.Coating.{listed, layers_in}
 use Rattle.thin_film_shorthand.specs.Stack.{valid, layer, stack}
 use Rattle.thin_film_shorthand.specs.Claim.{Right, bad_number, given, Some, Answered, answered, Refused, refused, Shorthand}
-use Rattle.thin_film_shorthand.proofs.Given.{all_fine, bad, good, read_out}
+use Rattle.thin_film_shorthand.proofs.Given.{all_fine, apart, bad, good, read_out}
 
 module _ (text : List ℕ) (n_h n_l n_m design : Float) where
   right : Right text n_h n_l n_m design (stack text n_h n_l n_m design)
@@ -31,6 +31,16 @@ module _ (text : List ℕ) (n_h n_l n_m design : Float) where
 
   told : Outcome.map listed (Outcome.map layers_in (stack text n_h n_l n_m design)) ≡ stack text n_h n_l n_m design
   told = read_out (stack text n_h n_l n_m design)
+
+  told_apart : (place : ℕ) → stack text n_h n_l n_m design ≡ refusal 0 place → ⊥
+  told_apart place e = go (valid n_h n_l n_m design) refl
+    where
+      one_is_none : ◌≡◌ {A = Outcome (List ThinFilmLayer)} (refusal 1 0) (refusal 0 place) → ⊥
+      one_is_none z = cc
+
+      go : (z : Bool) → valid n_h n_l n_m design ≡ z → ⊥
+      go true v = apart (layer n_h n_l n_m design) (reading text) place (all_fine text) (good text n_h n_l n_m design v ∙ e)
+      go false v = one_is_none (bad text n_h n_l n_m design v ∙ e)
 
 -- ---- each happens: H, an index of zero, the empty text, H^31 three times
 ones : valid one one one one ≡ true
@@ -65,6 +75,7 @@ shorthand = record {
   only = only;
   only_tree = (Grammar.grammar).only_tree;
   told = told;
+  told_apart = told_apart;
   an_answer = record { text = 0x48 ∷ []; n_h = one; n_l = one; n_m = one; design = one; gives = subst Answered (from_reading (0x48 ∷ []) (answer (film 0 0 ∷ [])) one_letter) answered };
   a_1 = record { text = []; n_h = zero_f; n_l = one; n_m = one; design = one; gives = subst (Refused 1) (bad [] zero_f one one one zeros) refused };
   a_9 = record { text = []; n_h = one; n_l = one; n_m = one; design = one; gives = subst (Refused 9) (from_reading [] (refusal 9 0) empty) refused };

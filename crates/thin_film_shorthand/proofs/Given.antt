@@ -37,6 +37,14 @@ fine text o (read h k l) = l
 pub all_fine : (text : List ℕ) → Fine (reading text)
 all_fine text = fine text (reading text) (Grammar.gives text)
 
+-- no refusal with the number 0, as layers either
+pub apart : (f : Film → ThinFilmLayer) (o : Outcome (List Film)) (place : ℕ) → Fine o → Outcome.map (map f) o ≡ refusal 0 place → ⊥
+apart f (answer l) place h e = cc
+apart f (refusal number p) place h e = h (its_number number p place e)
+  where
+    its_number : (n p place : ℕ) → ◌≡◌ {A = Outcome (List ThinFilmLayer)} (refusal n p) (refusal 0 place) → n ≡ 0
+    its_number n p place e = cc
+
 -- ---- what the reader hands over
 same : {A : Type 0} (x y : A) → answer x ≡ answer y → x ≡ y
 same x y e = cc

@@ -40,9 +40,10 @@ pub record Shorthand : Type 0 where
       o ≡ stack text n_h n_l n_m design
   -- 'the reading of every accepted text is the only one that the grammar gives'
   pub only_tree : (text : List ℕ) (tree tree' : Stack) → Text text tree → Text text tree' → tree ≡ tree'
-  -- what is handed over by value says the same
+  -- what is handed over by value says the same; no refusal can be taken for an answer, which has no number
   pub told : (text : List ℕ) (n_h n_l n_m design : Float) →
       Outcome.map listed (Outcome.map layers_in (stack text n_h n_l n_m design)) ≡ stack text n_h n_l n_m design
+  pub told_apart : (text : List ℕ) (n_h n_l n_m design : Float) (place : ℕ) → stack text n_h n_l n_m design ≡ refusal 0 place → ⊥
   -- each happens
   pub an_answer : Some Answered
   pub a_1 : Some (Refused 1)
