@@ -32,8 +32,8 @@ fn blank(b: u8) -> bool
 fn leading(s: &[u8]) -> usize
     ensures { result ≡ prefix blank s.now }
 {
-    for (i, b) in s.iter().enumerate() {
-        if !blank(*b) {
+    for i in 0..s.len() {
+        if !blank(s[i]) {
             return i;
         }
     }
@@ -130,11 +130,11 @@ pub fn trim_numbers(name: &[u8]) -> Span
 fn begins(s: &[u8], p: &[u8]) -> bool
     ensures { result ≡ begins s.now p.now }
 {
-    for (i, b) in p.iter().enumerate() {
+    for i in 0..p.len() {
         if i >= s.len() {
             return false;
         }
-        if s[i] != *b {
+        if s[i] != p[i] {
             return false;
         }
     }
@@ -183,8 +183,8 @@ pub fn upper_byte(b: u8) -> u8
 pub fn first_over(s: &[u8]) -> usize
     ensures { result ≡ first_over s.now }
 {
-    for (i, b) in s.iter().enumerate() {
-        if *b > 127 {
+    for i in 0..s.len() {
+        if s[i] > 127 {
             return i;
         }
     }
