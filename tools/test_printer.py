@@ -366,6 +366,13 @@ class Made(unittest.TestCase):
             self.assertIn(f"pub fn {name}(", raw)
         self.assertLessEqual(max(map(len, fortran.split("\n"))), 132)
 
+    def test_a_small_variant_of_a_large_type(self):
+        """A refusal beside a surface's answers is returned field by field: what stands in braces is filled up with zeros, by memset with clang."""
+        text = (ROOT / "c" / "dihkelu.c").read_text()
+        refused = "result_surface_Answers_refusal_Refusal_Err"
+        self.assertNotRegex(text, r"\{\.tag = " + refused)
+        self.assertIn(f"    reply.tag = {refused};\n", text)
+
     def test_names_and_comments_are_the_sources(self):
         items, _ = source.sources(ROOT)
         c = (ROOT / "c" / "dihkelu.c").read_text()

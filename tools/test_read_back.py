@@ -496,6 +496,17 @@ class Today(unittest.TestCase):
             with self.assertRaises(rattle.Unread):
                 lower.Sources([(("dihkelu",), f"pub fn dihkelu_f(a: u32) {question}{RUST_E}"), *lower.library()]).reached()
 
+    def test_result_by_fields(self):
+        """A variant that is returned field by field, as where another one is much larger."""
+        self.both("(n: u64) -> u64 { match g(n) { Ok(x) => x, Err(e) => e as u64 } }\nfn g(n: u64) -> Result<u64, u32> { if n < 7 { return Err(3); } Ok(n) }",
+                  "typedef struct { enum { result_u64_u32_Ok, result_u64_u32_Err, } tag; union { uint64_t Ok; uint32_t Err; } as; } result_u64_u32;\n"
+                  "static result_u64_u32 dihkelu_g(uint64_t n) { if (n < 7) { result_u64_u32 reply; reply.tag = result_u64_u32_Err; reply.as.Err = 3; return reply; }"
+                  "return (result_u64_u32){.tag = result_u64_u32_Ok, .as.Ok = n}; }\n"
+                  "uint64_t dihkelu_f(uint64_t n) { result_u64_u32 r = dihkelu_g(n); if (r.tag == result_u64_u32_Ok) { return r.as.Ok; } return (uint64_t)r.as.Err; }",
+                  ("reply.tag = result_u64_u32_Err;", "reply.tag = result_u64_u32_Ok;"), ("reply.as.Err = 3;", "reply.as.Err = 4;"), ("reply.as.Err = 3;", "reply.as.Ok = 3;"),
+                  ("reply.as.Err = 3;", ""), ("reply.tag = result_u64_u32_Err;", ""), ("reply.as.Err = 3;", "reply.as.Err = 3; reply.as.Err = 3;"),
+                  ("reply.as.Err = 3;", "reply.as.Err = reply.as.Err;"), ("reply.tag = result_u64_u32_Err; reply.as.Err = 3;", "reply.as.Err = 3; reply.tag = result_u64_u32_Err;"))
+
     def test_option(self):
         find = "\nfn find(a: u64) -> Option<u64> { if a < 5 { return None; } Some(a) }\n"
         c_find = OPTION + ("static option_u64 dihkelu_find(uint64_t a) { if (a < 5) { return (option_u64){.tag = option_u64_None}; }"
@@ -560,7 +571,8 @@ class Today(unittest.TestCase):
         for text in ["(a: &mut Option<u64>) { if let Some(x) = a { *x = 3; } }", "(a: u64) -> u64 { let f = |x| x + 1; f(a) }", "(a: &[u64]) -> u64 { a.iter().sum() }",
                      "(a: &[u64]) -> bool { a.iter().any(|x| *x == 3) }", "(a: u64) -> Option<u64> { Some(a).map(|x| x) }", "(a: &[u64]) -> u64 { for x in a.chunks(2) { } 0 }",
                      "(a: u64) -> u64 { let x: Option<u64> = None; x.unwrap() }", "(a: u64) -> bool { P { n: a } == P { n: 3 } }\nstruct P { n: u64 }\n"
-                     "impl PartialEq for P { fn eq(&self, other: &P) -> bool { true } }", "(n: u64) -> u64 { for i in 0..=n { } n }"]:
+                     "impl PartialEq for P { fn eq(&self, other: &P) -> bool { true } }", "(n: u64) -> u64 { for i in 0..=n { } n }",
+                     "(n: u64) -> u64 { for i in 0..=255u8 { } n }", "(n: u64) -> u64 { for i in 0..=18446744073709551615 { } n }"]:
             with self.subTest(text=text), self.assertRaises(rattle.Unread):
                 lower.Sources([(("dihkelu",), self.HEAD + text), *lower.library()]).reached()
 

@@ -20,6 +20,8 @@ INFIX = {  # operator, binding strength
 ARITHMETIC = {"mul", "div", "rem", "add", "sub", "shl", "shr", "and", "xor", "or"}
 BITWISE = {"shl", "shr", "and", "xor", "or"}
 UNARY, AND, OR = 14, 4, 3
+# So many bytes beside a variant that is returned are too many to be filled with zeros.
+MUCH = 256
 
 
 LIBRARY = {"std::option::Option": "option", "std::result::Result": "result", "(,)": "pair"}
@@ -77,6 +79,15 @@ class Types:
 
     def tag(self, name, variant):
         return f"{identifier(name)}_{self.fields(name)[variant][0]}"
+
+    def size(self, t):
+        """How many bytes a value of a type has at least."""
+        if t[0] == "array":
+            return self.size(t[1]) * t[2]
+        if t[0] != "named":
+            return t[1] // 8 if t[0] == "int" else {"float": 8, "slice": 16, "ref": 8, "bool": 1, "unit": 0}[t[0]]
+        kind, types = self.named[t[1]]
+        return sum(map(self.size, types)) if kind == "fields" else 4 + max(sum(map(self.size, parts)) for parts in types)
 
     def payload(self, name, variant, i):
         """Where a variant's i-th part stands."""
@@ -547,7 +558,7 @@ class Printer:
         if kind == "return":
             if s[1] is None:
                 return [f"{pad}return;"]
-            return wrapped(f"{pad}return {self.text(s[1])};")
+            return self.by_fields(s[1], pad) or wrapped(f"{pad}return {self.text(s[1])};")
         if kind in ("break", "continue"):
             return [f"{pad}{kind};"]
         if kind == "while":
@@ -559,6 +570,23 @@ class Printer:
         if kind == "switch":
             return self.switch(s, depth, declare)
         raise Unknown(s)
+
+    def by_fields(self, e, pad):
+        """A variant that is returned, field by field, where another one is much larger: what stands in braces is filled up with zeros,
+        for which clang calls memset."""
+        if e[0] != "aggregate" or e[1][0] != "named" or self.types.named[e[1][1]][0] != "variants" or self.plain(e):
+            return None
+        t, variant, parts = e[1], e[2][0][2], e[2][1:]
+        if self.types.size(t) - sum(map(self.types.size, self.types.named[t[1]][1][variant])) < MUCH:
+            return None
+        name = "reply"
+        while name in self.names.values():
+            name += "_"
+        out = [f"{pad}{self.types.declared(t, name)};", f"{pad}{name}.tag = {self.types.tag(t[1], variant)};"]
+        for i, x in enumerate(parts):
+            if x != ("unit",):
+                out += wrapped(f"{pad}{name}.{self.types.payload(t[1], variant, i)} = {self.text(x)};")
+        return out + [f"{pad}return {name};"]
 
     def element(self, s):
         """The address of an element that a variable keeps, or None."""

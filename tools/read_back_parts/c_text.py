@@ -327,7 +327,11 @@ class Reading:
 
     def block(self, statements):
         self.scopes.append({})
-        out = [self.statement(s) for s in statements or []]
+        out, left = [], list(statements or [])
+        while left:
+            returned = self.by_fields(left)
+            out.append(returned or self.statement(left[0]))
+            left = left[len(left) if returned else 1:]
         self.scopes.pop()
         return ("block", out, None)
 
@@ -336,6 +340,25 @@ class Reading:
         if found is None:
             self.fail(s, f"a statement {type(s).__name__} that is not known")
         return found(s)
+
+    def by_fields(self, statements):
+        """Rule 'fields': a variable of an enumeration that is declared, given its tag and then each part of that variant, and returned, all of
+        it one after the other to the end of the block, is the variant with these parts returned."""
+        first, fields, last = statements[0], statements[1:-1], statements[-1]
+        if not isinstance(first, c_ast.Decl) or first.init is not None or first.storage or not isinstance(last, c_ast.Return):
+            return None
+        kind = self.program.kind(first.type)
+        if kind[0] != "enum" or kind != self.function.result or getattr(last.expr, "name", None) != first.name:
+            return None
+        generator, values = c_generator.CGenerator(), {}
+        for s in fields:
+            place = generator.visit(s.lvalue) if isinstance(s, c_ast.Assignment) and s.op == "=" else ""
+            if not place.startswith(first.name + ".") or place in values or first.name in names_in(s.rvalue):
+                return None
+            values[place[len(first.name) + 1:]] = s.rvalue
+        if len(values) != len(fields) or list(values)[:1] != ["tag"]:
+            return None
+        return ("return", self.kept(first, self.ordered(first, self.made_variant(first, kind, values)), kind))
 
     def do_Compound(self, s):
         return self.block(s.block_items)

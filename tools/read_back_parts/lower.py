@@ -901,7 +901,8 @@ class Lowering:
 
     def over_numbers(self, pattern, span, back, body):
         _, low, high, whole = span
-        if pattern[0] not in ("bind", "any") or whole and (back or high[0] != "int"):
+        # 'at <= end' never ends where the end is its type's largest number: 255 is the first that is one
+        if pattern[0] not in ("bind", "any") or whole and (back or high[0] != "int" or high[1] >= 255):
             self.fail("a range that is not known")
         first, kind = self.expression(low)
         last, other = self.expression(high)

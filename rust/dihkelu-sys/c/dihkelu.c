@@ -1148,8 +1148,7 @@ static bool name_bytes_blank(uint8_t b) {
 static uint64_t name_bytes_leading(slice_u8 s) {
     uint64_t i = 0;
     while (i < s.count) {
-        uint8_t b = s.at[i];
-        if (!name_bytes_blank(b)) {
+        if (!name_bytes_blank(s.at[i])) {
             return i;
         }
         i = i + 1;
@@ -1217,11 +1216,10 @@ static name_bytes_Span name_bytes_trim_numbers(slice_u8 name) {
 static bool name_bytes_begins(slice_u8 s, slice_u8 p) {
     uint64_t i = 0;
     while (i < p.count) {
-        uint8_t b = p.at[i];
         if (s.count <= i) {
             return false;
         }
-        if (s.at[i] != b) {
+        if (s.at[i] != p.at[i]) {
             return false;
         }
         i = i + 1;
@@ -1261,8 +1259,7 @@ static uint8_t name_bytes_upper_byte(uint8_t b) {
 static uint64_t name_bytes_first_over(slice_u8 s) {
     uint64_t i = 0;
     while (i < s.count) {
-        uint8_t b = s.at[i];
-        if (127 < b) {
+        if (127 < s.at[i]) {
             return i;
         }
         i = i + 1;
@@ -4684,8 +4681,10 @@ static result_surface_Answers_refusal_Refusal surface_bare_answers(gate_limits_S
     result_polarization_SurfaceJones_refusal_Refusal value = polarization_surface_fresnel_jones(surface.n_incident,
             surface.n_substrate, surface.angle_rad);
     if (value.tag == result_polarization_SurfaceJones_refusal_Refusal_Err) {
-        return (result_surface_Answers_refusal_Refusal){.tag = result_surface_Answers_refusal_Refusal_Err,
-                .as.Err = value.as.Err};
+        result_surface_Answers_refusal_Refusal reply;
+        reply.tag = result_surface_Answers_refusal_Refusal_Err;
+        reply.as.Err = value.as.Err;
+        return reply;
     }
     polarization_SurfaceJones jones = value.as.Ok;
     surface_Powers powers = surface_bare_powers(surface);
@@ -5479,9 +5478,14 @@ static double sheet_values_wavelength_of(slice_u8 src, uint32_t n) {
 // What an exported call returns, and what it leaves in the list that it was lent: refusals as one
 // number, and answers by their numbers.
 
+// The same of any number.
+static uint64_t c_call_packed_number(uint32_t number, uint64_t place) {
+    return (uint64_t)number * 0x100000000u + place % 0x100000000u;
+}
+
 // The same at a place of the caller's.
 static uint64_t c_call_packed_at(refusal_Refusal r, uint64_t place) {
-    return (uint64_t)refusal_Refusal_number(r) * 0x100000000u + place % 0x100000000u;
+    return c_call_packed_number(refusal_Refusal_number(r), place);
 }
 
 // A refusal as one number, for a place below 2^32.
@@ -6403,8 +6407,10 @@ static result_surface_Answers_refusal_Refusal sheet_answers_answers_at(slice_u8 
     result_thin_film_solver_CoatingResponse_refusal_Refusal value_2 = sheet_answers_evaluate_at(src, at, n, surface,
             coating, wavelength_nm);
     if (value_2.tag == result_thin_film_solver_CoatingResponse_refusal_Refusal_Err) {
-        return (result_surface_Answers_refusal_Refusal){.tag = result_surface_Answers_refusal_Refusal_Err,
-                .as.Err = value_2.as.Err};
+        result_surface_Answers_refusal_Refusal reply;
+        reply.tag = result_surface_Answers_refusal_Refusal_Err;
+        reply.as.Err = value_2.as.Err;
+        return reply;
     }
     thin_film_solver_CoatingResponse response = value_2.as.Ok;
     return (result_surface_Answers_refusal_Refusal){.tag = result_surface_Answers_refusal_Refusal_Ok,
@@ -6757,13 +6763,17 @@ static result_surface_Answers_refusal_Refusal sheet_surfaces_answers_met(slice_u
 static result_surface_Answers_refusal_Refusal sheet_surfaces_surface_answers(slice_u8 src, uint32_t i) {
     result_u32_refusal_Refusal value = gate_gate(src);
     if (value.tag == result_u32_refusal_Refusal_Err) {
-        return (result_surface_Answers_refusal_Refusal){.tag = result_surface_Answers_refusal_Refusal_Err,
-                .as.Err = value.as.Err};
+        result_surface_Answers_refusal_Refusal reply;
+        reply.tag = result_surface_Answers_refusal_Refusal_Err;
+        reply.as.Err = value.as.Err;
+        return reply;
     }
     uint32_t count = value.as.Ok;
     if (count <= i) {
-        return (result_surface_Answers_refusal_Refusal){.tag = result_surface_Answers_refusal_Refusal_Err,
-                .as.Err = {.tag = refusal_Refusal_NoSurface}};
+        result_surface_Answers_refusal_Refusal reply;
+        reply.tag = result_surface_Answers_refusal_Refusal_Err;
+        reply.as.Err = (refusal_Refusal){.tag = refusal_Refusal_NoSurface};
+        return reply;
     }
     double wavelength_nm = sheet_values_wavelength_of(src, i);
     return sheet_surfaces_answers_met(src, sheet_place_of(src, i), wavelength_nm);
@@ -7124,17 +7134,23 @@ static result_surface_Answers_refusal_Refusal sheet_retuned_answers_at(slice_u8 
         double wavelength_nm) {
     result_u32_refusal_Refusal value = gate_gate(src);
     if (value.tag == result_u32_refusal_Refusal_Err) {
-        return (result_surface_Answers_refusal_Refusal){.tag = result_surface_Answers_refusal_Refusal_Err,
-                .as.Err = value.as.Err};
+        result_surface_Answers_refusal_Refusal reply;
+        reply.tag = result_surface_Answers_refusal_Refusal_Err;
+        reply.as.Err = value.as.Err;
+        return reply;
     }
     uint32_t count = value.as.Ok;
     if (count <= i) {
-        return (result_surface_Answers_refusal_Refusal){.tag = result_surface_Answers_refusal_Refusal_Err,
-                .as.Err = {.tag = refusal_Refusal_NoSurface}};
+        result_surface_Answers_refusal_Refusal reply;
+        reply.tag = result_surface_Answers_refusal_Refusal_Err;
+        reply.as.Err = (refusal_Refusal){.tag = refusal_Refusal_NoSurface};
+        return reply;
     }
     if (!gate_holds(src, i, count, wavelength_nm)) {
-        return (result_surface_Answers_refusal_Refusal){.tag = result_surface_Answers_refusal_Refusal_Err,
-                .as.Err = {.tag = refusal_Refusal_Wavelength}};
+        result_surface_Answers_refusal_Refusal reply;
+        reply.tag = result_surface_Answers_refusal_Refusal_Err;
+        reply.as.Err = (refusal_Refusal){.tag = refusal_Refusal_Wavelength};
+        return reply;
     }
     uint64_t begin = sheet_begin_of(src, i);
     double met_nm = sheet_values_met_with(src, begin, wavelength_nm);
