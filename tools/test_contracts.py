@@ -77,6 +77,22 @@ class Contracts(unittest.TestCase):
     def test_lent_memory_unsaid(self):
         self.refused("dihkelu_run", lambda head: head.replace("list.new", "list.old"), "lent memory")
 
+    def test_a_method_and_a_bound(self):
+        """What is lent as `&mut self`, or behind the brackets of a bound."""
+        source = "crates/tally/src/lib.rt"
+        path = self.folder / source
+        path.parent.mkdir(parents=True)
+        says = "    // A function.\n    pub fn {} {{\n    }}\n"
+        for head, ensures, words in [("add(&mut self, n: u64)\n        ensures", "{ n ≡ n }", "lent memory"), ("add(&mut self, n: u64)\n        ensures", "{ self.new ≡ n }", None),
+                                     ("each<F: Fn(&[u64]) -> u64>(f: F, list: &mut [u64])\n        ensures", "{ f ≡ f }", "lent memory"),
+                                     ("each<F: Fn(&[u64]) -> u64>(f: F, list: &mut [u64])\n        ensures", "{ list.new ≡ list.old }", None)]:
+            with self.subTest(head=head, ensures=ensures):
+                path.write_text(says.format(f"{head} {ensures}\n   "))
+                said = self.said()
+                self.assertEqual(len(said), 0 if words is None else 1, said)
+                if words is not None:
+                    self.assertIn(words, said[0])
+
     def test_a_named_clause_and_a_starred_one(self):
         self.change("dihkelu_run", lambda head: head.replace("ensures {", "ensures written {"))
         self.assertEqual(self.said(), [])
